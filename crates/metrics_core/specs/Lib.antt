@@ -1,0 +1,9 @@
+pub mod Characters
+pub mod Numbers
+pub mod Keys
+pub mod Units
+pub mod Kinds
+pub mod Calls
+pub mod Series
+pub mod Outside
+pub mod Vectors

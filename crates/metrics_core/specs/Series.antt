@@ -1,0 +1,8 @@
+-- How the types of the program that name series and calls are seen by definitions.
+use Rattle.metrics_core.specs.Calls as calls
+use Rattle.metrics_core.specs.declared.calls.SeriesCall.{SeriesCall}
+use Rattle.metrics_core.specs.declared.calls.SeriesCall.TheVariants.{Increment}
+
+-- the call that a value of the program stands for
+abbrev pub call_of : SeriesCall → calls.Call
+call_of (Increment n) = calls.Increment n

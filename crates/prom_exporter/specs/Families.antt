@@ -1,0 +1,156 @@
+-- The families that a state shows at a moment (Prometheus text exposition format: counters, gauges, histograms, summaries).
+use Rattle.std.specs.Prelude.{ℕ, Bool, not, List, [], ◌∷◌, ◌++◌, map, ℤ, pos, Option, Some, None, filter, filter_map, flat_map, option_map, option_and_then, bytes_eq, codes, if◌then◌else◌, ◌*◌}
+use Rattle.metrics_core.specs.declared.kinds.MetricKind.{MetricKind}
+use Rattle.metrics_core.specs.declared.kinds.MetricKind.TheVariants as kinds
+use Rattle.metrics_core.specs.declared.units.Unit.{Unit as UnitOf}
+use Rattle.metrics_core.specs.Numbers.{page_number, whole}
+use Rattle.metrics_core.specs.Kinds.{kind_eq}
+use Rattle.metrics_core.specs.Keys.{LabelText}
+use Rattle.metrics_core.specs.Calls.{calls_of, counter_value, gauge_value, samples}
+use Rattle.prom_format.specs.Names.{sanitized_metric_name, full_name}
+use Rattle.prom_format.specs.Printed.{canonical_description}
+use Rattle.prom_format.specs.Lines.{shown_label_set}
+use Rattle.prom_format.specs.Pages.{Row, Family}
+use Rattle.prom_format.specs.Matchers.{MatcherText, rule_for}
+use Rattle.prom_format.specs.declared.FamilyType.{FamilyType}
+use Rattle.prom_format.specs.declared.FamilyType.TheVariants as types
+use Rattle.prom_exporter.specs.State.{Series, PrometheusState, Idle, description_of}
+use Rattle.prom_exporter.specs.Window.{timed_samples, window, clamped, quantile_of, bucket_count, sample_count, sample_sum}
+use Rattle.prom_exporter.specs.Native.{NativeText}
+
+-- what the exporter was built with
+pub record ExporterSettings : Type 0 where
+  pub quantiles : List ℤ
+  pub buckets : Option (List ℤ)
+  pub buckets_for : List (MatcherText × List ℤ)
+  pub native_for : List (MatcherText × NativeText)
+  pub bucket_count : ℕ
+  pub bucket_duration : ℕ
+  pub idle : Option Idle
+  pub units : Bool
+  pub total_suffix : Bool
+  pub globals : List LabelText
+
+-- ---- the parts of a row
+
+-- the unit that stands in names: that of the published description, where units are on
+abbrev pub shown_unit : ExporterSettings → PrometheusState → List ℕ → Option UnitOf
+shown_unit settings s name = if settings.units then option_and_then (λ d. d.unit) (description_of s.published name) else None
+
+abbrev pub shown_help : PrometheusState → List ℕ → Option (List ℕ)
+shown_help s name = option_map (λ d. canonical_description d.text) (description_of s.published name)
+
+-- a row of a series: its full name with a suffix, its labels and one more, and a value
+abbrev pub row_of : ExporterSettings → PrometheusState → Series → Option (List ℕ) → List LabelText → ℤ → Row
+row_of settings s series suffix more value = record {
+  name = full_name (sanitized_metric_name series.key.name) (shown_unit settings s (sanitized_metric_name series.key.name)) suffix;
+  labels = shown_label_set settings.globals series.key.labels ++ more;
+  value = value;
+}
+
+abbrev pub one_label : List ℕ → List ℕ → List LabelText
+one_label key value = record { key = key; value = value } ∷ []
+
+-- ---- the rows of a series
+
+-- the suffix of counters
+abbrev pub counter_suffix : ExporterSettings → Option (List ℕ)
+counter_suffix settings = if settings.total_suffix then Some (codes "total") else None
+
+abbrev pub counter_rows : ExporterSettings → PrometheusState → Series → List Row
+counter_rows settings s series =
+    row_of settings s series (counter_suffix settings) [] (whole (counter_value (calls_of series.calls))) ∷ []
+
+abbrev pub gauge_rows : ExporterSettings → PrometheusState → Series → List Row
+gauge_rows settings s series = row_of settings s series None [] (gauge_value (calls_of series.calls)) ∷ []
+
+-- the sum and the count of all samples
+abbrev pub sum_and_count_rows : ExporterSettings → PrometheusState → Series → List ℤ → List Row
+sum_and_count_rows settings s series values =
+    row_of settings s series (Some (codes "sum")) [] (sample_sum values)
+    ∷ row_of settings s series (Some (codes "count")) [] (whole (sample_count values))
+    ∷ []
+
+-- histogram: a row for each bound, one for all samples, sum and count
+abbrev pub histogram_rows : ExporterSettings → PrometheusState → List ℤ → Series → List Row
+histogram_rows settings s bounds series =
+    map (λ bound. row_of settings s series (Some (codes "bucket")) (one_label (codes "le") (page_number bound)) (whole (bucket_count bound (samples (calls_of series.calls))))) bounds
+    ++ row_of settings s series (Some (codes "bucket")) (one_label (codes "le") (codes "+Inf")) (whole (sample_count (samples (calls_of series.calls))))
+    ∷ sum_and_count_rows settings s series (samples (calls_of series.calls))
+
+-- the values of a series' window at a moment
+abbrev pub window_of : ExporterSettings → ℕ → Series → List ℤ
+window_of settings t series =
+    window settings.bucket_duration (settings.bucket_count * settings.bucket_duration) t (timed_samples series.calls)
+
+-- summary: a row for each quantile of the window at a moment, sum and count
+abbrev pub summary_rows : ExporterSettings → PrometheusState → ℕ → Series → List Row
+summary_rows settings s t series =
+    map (λ q. row_of settings s series None (one_label (codes "quantile") (page_number (pos (clamped q)))) (quantile_of q (window_of settings t series))) settings.quantiles
+    ++ sum_and_count_rows settings s series (samples (calls_of series.calls))
+
+-- ---- what kind of distribution a name has
+
+pub data Distribution : Type 0 where
+  NativeHistogram : NativeText → Distribution
+  Histogram : List ℤ → Distribution
+  Summary : Distribution
+
+abbrev pub general_distribution : Option (List ℤ) → Distribution
+general_distribution (Some bounds) = Histogram bounds
+general_distribution None = Summary
+
+abbrev pub bucket_distribution : Option (MatcherText × List ℤ) → Option (List ℤ) → Distribution
+bucket_distribution (Some (matcher, bounds)) general = Histogram bounds
+bucket_distribution None general = general_distribution general
+
+abbrev pub native_or : Option (MatcherText × NativeText) → Distribution → Distribution
+native_or (Some (matcher, config)) other = NativeHistogram config
+native_or None other = other
+
+-- the first native matcher that fits the metric name, else the first bucket matcher, else the general buckets, else a summary
+abbrev pub distribution_of : ExporterSettings → List ℕ → Distribution
+distribution_of settings name =
+    native_or (rule_for settings.native_for name) (bucket_distribution (rule_for settings.buckets_for name) settings.buckets)
+
+-- ---- families
+
+-- a list without repetitions, each element in its first place
+abbrev pub distinct : List (List ℕ) → List (List ℕ)
+distinct [] = []
+distinct (x ∷ xs) = x ∷ filter (λ y. not (bytes_eq x y)) (distinct xs)
+
+abbrev pub series_of_kind : MetricKind → PrometheusState → List Series
+series_of_kind kind s = filter (λ series. kind_eq series.kind kind) s.live
+
+-- the metric names of a kind, in the order of their first live series
+abbrev pub names_of_kind : MetricKind → PrometheusState → List (List ℕ)
+names_of_kind kind s = distinct (map (λ series. sanitized_metric_name series.key.name) (series_of_kind kind s))
+
+-- the live series of a kind under a metric name, in order
+abbrev pub series_named : MetricKind → PrometheusState → List ℕ → List Series
+series_named kind s name = filter (λ series. bytes_eq (sanitized_metric_name series.key.name) name) (series_of_kind kind s)
+
+-- the family of a kind under a metric name, where each series has these rows
+abbrev pub family_of : ExporterSettings → PrometheusState → MetricKind → List ℕ → Option (List ℕ) → FamilyType → (Series → List Row) → Family
+family_of settings s kind name suffix type rows = record {
+  help = shown_help s name;
+  name = full_name name (shown_unit settings s name) suffix;
+  type = type;
+  rows = flat_map rows (series_named kind s name);
+}
+
+-- a distribution's family; a native histogram has none
+abbrev pub distribution_family : ExporterSettings → PrometheusState → ℕ → List ℕ → Distribution → Option Family
+distribution_family settings s t name (NativeHistogram config) = None
+distribution_family settings s t name (Histogram bounds) =
+    Some (family_of settings s kinds.Histogram name None types.Histogram (histogram_rows settings s bounds))
+distribution_family settings s t name Summary =
+    Some (family_of settings s kinds.Histogram name None types.Summary (summary_rows settings s t))
+
+-- counters, then gauges, then distributions, each by metric name
+abbrev pub families_at : ExporterSettings → ℕ → PrometheusState → List Family
+families_at settings t s =
+    map (λ name. family_of settings s kinds.Counter name (counter_suffix settings) types.Counter (counter_rows settings s)) (names_of_kind kinds.Counter s)
+    ++ map (λ name. family_of settings s kinds.Gauge name None types.Gauge (gauge_rows settings s)) (names_of_kind kinds.Gauge s)
+    ++ filter_map (λ name. distribution_family settings s t name (distribution_of settings name)) (names_of_kind kinds.Histogram s)

@@ -1,0 +1,105 @@
+-- The state of the Prometheus exporter, and the steps of registering, describing, calling and rendering.
+use Rattle.std.specs.Prelude.{ℕ, ◌+◌, ◌-◌, ◌^◌, ◌&&◌, not, ◌==◌, nat_lt, List, [], ◌∷◌, ◌++◌, map, Option, Some, None, find, filter_map, is_some, option_map, unwrap_or, bytes_eq, if◌then◌else◌}
+use Rattle.metrics_core.specs.declared.kinds.MetricKind.{MetricKind}
+use Rattle.metrics_core.specs.declared.units.Unit.{Unit as UnitOf}
+use Rattle.metrics_core.specs.Numbers.{in_64_bits}
+use Rattle.metrics_core.specs.Kinds.{kind_eq, KindMask, mask_has}
+use Rattle.metrics_core.specs.Keys.{KeyText, key_eq}
+use Rattle.metrics_core.specs.Calls.{TimedCall, calls_of, update_count}
+use Rattle.prom_format.specs.Names.{sanitized_metric_name}
+
+-- one live series: its kind, number and key, all calls on it, and what the last page noted of it
+pub record Series : Type 0 where
+  pub kind : MetricKind
+  pub number : ℕ
+  pub key : KeyText
+  pub calls : List TimedCall
+  pub note : Option (ℕ × ℕ)  -- count of updates, moment
+
+-- what is said of a metric name
+pub record Description : Type 0 where
+  pub name : List ℕ
+  pub text : List ℕ
+  pub unit : Option UnitOf
+
+-- the live series in order of registration, how many were ever made, and the descriptions by metric name
+pub record PrometheusState : Type 0 where
+  pub live : List Series
+  pub made : ℕ
+  pub published : List Description
+  pub pending : List Description
+
+abbrev pub empty_state : PrometheusState
+empty_state = record { live = []; made = 0; published = []; pending = [] }
+
+-- ---- registering
+
+-- the number that no series ever has
+abbrev pub no_series : ℕ
+no_series = 2 ^ 64 - 1
+
+-- the live series of the kind with an equal key
+abbrev pub live_series : MetricKind → KeyText → PrometheusState → Option Series
+live_series kind key s = find (λ series. kind_eq series.kind kind && key_eq series.key key) s.live
+
+-- the number that a registration gives: that of the live series, or else of the next one to be made
+abbrev pub number_given : MetricKind → KeyText → PrometheusState → ℕ
+number_given kind key s = unwrap_or (option_map (λ series. series.number) (live_series kind key s)) s.made
+
+-- registering changes nothing where such a series is live, or no number is left; otherwise a new one goes last
+abbrev pub register : MetricKind → KeyText → PrometheusState → PrometheusState
+register kind key s =
+    if is_some (live_series kind key s) then s
+    else if s.made == no_series then s
+    else record s { live = s.live ++ record { kind = kind; number = s.made; key = key; calls = []; note = None } ∷ []; made = s.made + 1 }
+
+-- ---- describing
+
+abbrev pub description_of : List Description → List ℕ → Option Description
+description_of ds name = find (λ d. bytes_eq d.name name) ds
+
+-- a description put into a list: in the place of the one with its name, or else last
+abbrev pub put_description : List Description → Description → List Description
+put_description [] d = d ∷ []
+put_description (first ∷ ds) d = if bytes_eq first.name d.name then d ∷ ds else first ∷ put_description ds d
+
+-- describing changes nothing where the metric name is published; otherwise the text waits for the next page
+abbrev pub describe : List ℕ → Option UnitOf → List ℕ → PrometheusState → PrometheusState
+describe name unit text s =
+    if is_some (description_of s.published (sanitized_metric_name name)) then s
+    else record s { pending = put_description s.pending (record { name = sanitized_metric_name name; text = text; unit = unit }) }
+
+-- ---- calling
+
+abbrev pub with_call : ℕ → TimedCall → Series → Series
+with_call number timed series = if series.number == number then record series { calls = series.calls ++ timed ∷ [] } else series
+
+-- a call goes to the live series with the number; where none is live nothing changes
+abbrev pub call : ℕ → TimedCall → PrometheusState → PrometheusState
+call number timed s = record s { live = map (with_call number timed) s.live }
+
+-- ---- rendering
+
+-- which kinds fall idle, and after how many nanoseconds
+pub record Idle : Type 0 where
+  pub mask : KindMask
+  pub timeout : ℕ
+
+abbrev pub count_of_updates : Series → ℕ
+count_of_updates series = in_64_bits (update_count series.kind (calls_of series.calls))
+
+-- a series with this count and moment noted; with the same count and a moment too long ago it is no longer live
+abbrev pub noted : ℕ → ℕ → Option (ℕ × ℕ) → Series → Option Series
+noted timeout t None series = Some (record series { note = Some (count_of_updates series, t) })
+noted timeout t (Some (count, moment)) series =
+    if not (count == count_of_updates series) then Some (record series { note = Some (count_of_updates series, t) })
+    else if nat_lt (moment + timeout) t then None
+    else Some series
+
+abbrev pub kept_at : Option Idle → ℕ → Series → Option Series
+kept_at None t series = Some series
+kept_at (Some idle) t series = if mask_has idle.mask series.kind then noted idle.timeout t series.note series else Some series
+
+-- a page at moment t publishes what waits, and removes the series that are idle
+abbrev pub page_step : Option Idle → ℕ → PrometheusState → PrometheusState
+page_step idle t s = record s { live = filter_map (kept_at idle t) s.live; published = s.published ++ s.pending; pending = [] }

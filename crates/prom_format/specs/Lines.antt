@@ -1,0 +1,39 @@
+-- The labels of a row as they are meant, and the lines of a page (Prometheus text exposition format, "Line format").
+use Rattle.std.specs.Prelude.{ℕ, List, [], ◌∷◌, ◌++◌, map, flat_map, Option, Some, None, codes}
+use Rattle.metrics_core.specs.Characters.{line}
+use Rattle.metrics_core.specs.Keys.{LabelText, label_set}
+use Rattle.metrics_core.specs.declared.units.Unit.{Unit as UnitOf}
+use Rattle.prom_format.specs.Names.{sanitized_label_name, full_name}
+use Rattle.prom_format.specs.Printed.{canonical_label_value, canonical_description}
+use Rattle.prom_format.specs.Pages.{label_text, help_text}
+
+-- a label as it is meant: a label name, and the canonical value
+abbrev pub shown_label : LabelText → LabelText
+shown_label label = record { key = sanitized_label_name label.key; value = canonical_label_value label.value }
+
+-- the label set of a series as it is meant: the global labels, and those of its key
+abbrev pub shown_label_set : List LabelText → List LabelText → List LabelText
+shown_label_set globals labels = map shown_label (label_set globals labels)
+
+-- the help line, type line and row that the writing calls make; the name is taken as it is
+abbrev pub help_line : List ℕ → Option UnitOf → Option (List ℕ) → List ℕ → List ℕ
+help_line name unit suffix text = help_text (full_name name unit suffix) (Some (canonical_description text))
+
+abbrev pub type_line : List ℕ → Option UnitOf → Option (List ℕ) → List ℕ → List ℕ
+type_line name unit suffix type = line (codes "# TYPE " ++ full_name name unit suffix ++ codes " " ++ type)
+
+-- one more label, which is written as it is
+abbrev pub additional_text : Option (List ℕ × List ℕ) → List (List ℕ)
+additional_text None = []
+additional_text (Some (name, value)) = (name ++ codes "=\"" ++ value ++ codes "\"") ∷ []
+
+abbrev pub behind_commas : List (List ℕ) → List ℕ
+behind_commas texts = flat_map (λ text. codes "," ++ text) texts
+
+abbrev pub braced : List (List ℕ) → List ℕ
+braced [] = []
+braced (first ∷ others) = codes "{" ++ first ++ behind_commas others ++ codes "}"
+
+abbrev pub metric_line : List ℕ → Option (List ℕ) → List LabelText → Option (List ℕ × List ℕ) → List ℕ → Option UnitOf → List ℕ
+metric_line name suffix labels additional value unit =
+    line (full_name name unit suffix ++ braced (map (λ l. label_text (shown_label l)) labels ++ additional_text additional) ++ codes " " ++ value)
