@@ -6,7 +6,7 @@ use Rattle.std.specs.Fmt.{digits}
 use Rattle.std.specs.Str.{chars}
 use Rattle.std.specs.Char.{encode_utf8}
 use Rattle.prom_format.specs.Pages.{Row, Family, IsPage, IsPrintable, IsPrintableRow}
-use Rattle.prom_format.specs.declared.FamilyType.TheVariants.{Counter}
+use Rattle.prom_format.specs.declared.families.FamilyType.TheVariants.{Counter}
 use Rattle.prom_format.specs.Names.{IsLabelName}
 use Rattle.prom_format.proofs.PageText.{page_read}
 use Rattle.metrics_core.specs.Numbers.{whole}

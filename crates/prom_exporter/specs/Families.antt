@@ -12,8 +12,8 @@ use Rattle.prom_format.specs.Printed.{canonical_description}
 use Rattle.prom_format.specs.Lines.{shown_label_set}
 use Rattle.prom_format.specs.Pages.{Row, Family}
 use Rattle.prom_format.specs.Matchers.{MatcherText, rule_for}
-use Rattle.prom_format.specs.declared.FamilyType.{FamilyType}
-use Rattle.prom_format.specs.declared.FamilyType.TheVariants as types
+use Rattle.prom_format.specs.declared.families.FamilyType.{FamilyType}
+use Rattle.prom_format.specs.declared.families.FamilyType.TheVariants as types
 use Rattle.prom_exporter.specs.State.{Series, PrometheusState, Idle, description_of}
 use Rattle.prom_exporter.specs.Window.{timed_samples, window, clamped, quantile_of, bucket_count, sample_count, sample_sum}
 use Rattle.prom_exporter.specs.Native.{NativeText}

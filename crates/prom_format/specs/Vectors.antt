@@ -9,7 +9,7 @@ use Rattle.prom_format.specs.Printed.{printed_label_value}
 use Rattle.prom_format.specs.Pages.{Row, row_text, page_text}
 use Rattle.prom_format.specs.Lines.{metric_line, help_line}
 use Rattle.prom_format.specs.Matchers.{Suffix, Prefix, Full, sanitized_matcher, fits, rule_for}
-use Rattle.prom_format.specs.declared.FamilyType.TheVariants.{Counter, Gauge}
+use Rattle.prom_format.specs.declared.families.FamilyType.TheVariants.{Counter, Gauge}
 
 pub digits_become_underscores : sanitized_metric_name (codes "123") ≡ codes "_23"
 unfolding chars

@@ -1,0 +1,7 @@
+//! The text of a Prometheus page: names, printed texts, numbers, label sets and lines (Prometheus text exposition
+//! format, version 0.0.4), and the grammar by which a page is read.
+#![tactic(auto)]
+
+mod families;
+
+pub use families::FamilyType;
