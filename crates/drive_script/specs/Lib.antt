@@ -1,0 +1,6 @@
+pub mod Words
+pub mod Script
+pub mod Valid
+pub mod Faults
+pub mod Texts
+pub mod Vectors

@@ -1,0 +1,10 @@
+//! The script of rounds: its types, its grammar, and the reader that finds its first bad line.
+#![tactic(auto)]
+
+mod faults;
+mod reader;
+mod script;
+
+pub use faults::DriveFault;
+pub use reader::read_script;
+pub use script::{Act, CallLine, Round, Script, Setup};
