@@ -3,5 +3,7 @@
 #![tactic(auto)]
 
 mod families;
+mod numbers;
 
 pub use families::FamilyType;
+pub use numbers::{push_count, push_fixed};
