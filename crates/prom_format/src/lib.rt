@@ -5,6 +5,7 @@
 mod families;
 mod names;
 mod numbers;
+mod suffixes;
 
 pub use families::FamilyType;
 pub use names::{sanitize_label_key, sanitize_metric_name};
