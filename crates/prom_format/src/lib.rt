@@ -3,6 +3,7 @@
 #![tactic(auto)]
 
 mod families;
+mod labels;
 mod lines;
 mod names;
 mod numbers;
@@ -10,6 +11,7 @@ mod printed;
 mod suffixes;
 
 pub use families::FamilyType;
+pub use labels::{LabelSet, LabelStrings};
 pub use lines::{write_help_line, write_type_line};
 pub use names::{sanitize_label_key, sanitize_metric_name};
 pub use numbers::{push_count, push_fixed};
