@@ -1,15 +1,17 @@
 -- The calls of a round one after another leave each series with the calls on it, in the script's order.
-use Rattle.std.proofs.Common.{◌≡◌, ℕ, List, [], ◌∷◌, ◌++◌, refl, sym, ap, ◌∙◌, append-nil, append_assoc, Bool, true, false, map, fold}
+use Rattle.std.proofs.Common.{◌≡◌, ℕ, List, [], ◌∷◌, ◌++◌, refl, sym, ap, ◌∙◌, append-nil, append_assoc, Bool, true, false, map, fold, ◌+◌, ◌<◌, length, get_or, drop, drop-cons, add-one, suc}
 use Rattle.std.specs.Prelude.{Option, Some, None, filter, zip, slice_get, if◌then◌else◌, unwrap_or, option_map}
 use Rattle.metrics_core.specs.declared.kinds.SeriesId.{SeriesId}
 use Rattle.metrics_core.specs.Calls.{Call}
-use Rattle.prom_format.specs.Pages.{Family}
+use Rattle.prom_format.specs.Pages.{page_text}
 use Rattle.prom_exporter.specs.State.{Series, PrometheusState, with_call, call_on, page_step}
-use Rattle.prom_exporter.specs.Families.{ExporterSettings, families_at}
-use Rattle.prom_exporter.specs.Exporter.{Exporter, page_families, stepped}
-use Rattle.drive_script.specs.Script.{CallLine, RoundText, call_of}
-use Rattle.metrics_drive.specs.Play.{PlayState, after_calls, called, calls_on, is_call_on, names}
-use Rattle.metrics_drive.specs.InTurn.{orders_of}
+use Rattle.prom_exporter.specs.Families.{families_at}
+use Rattle.prom_exporter.specs.Exporter.{Exporter, default_settings, page_families, stepped}
+use Rattle.drive_script.specs.Script.{CallLine, RoundText, call_of, no_settings}
+use Rattle.drive_script.specs.Texts.{round_of}
+use Rattle.drive_script.specs.declared.script.Round.{Round}
+use Rattle.metrics_drive.specs.Play.{PlayState, after_setup, after_calls, called, calls_on, is_call_on, names}
+use Rattle.metrics_drive.specs.InTurn.{orders_of, played, round_text, rounds_text}
 use Rattle.metrics_drive.specs.Turns.{call_step, call_by}
 
 -- a series after those of some calls that are on it
@@ -94,3 +96,36 @@ pub after_all_is : (p : PlayState) (round : RoundText) → after_all round.momen
 after_all_is p round =
     ap (λ live. record p { prometheus = record p.prometheus { live = live } })
     (sym (zipped (called round.moment) (calls_on p round) p.prometheus.live))
+
+-- the state after the calls is that of the calls on each series
+state_after : (p q : PlayState) (round : RoundText) (x : PlayState) → q ≡ after_setup p round → x ≡ fold (call_step round.moment) q round.calls
+    → x ≡ after_calls (after_setup p round) round (orders_of (after_setup p round) round)
+state_after p q round x set_up called =
+    called ∙ ap (λ s. fold (call_step round.moment) s round.calls) set_up
+    ∙ calls_in_turn round.moment (after_setup p round) round.calls ∙ after_all_is (after_setup p round) round
+
+-- The state of a player, and the page, after a round: q is the state after the round's setup.
+pub round_played : (p q : PlayState) (round : RoundText) (exporter : Exporter) (handles : List SeriesId) → q ≡ after_setup p round
+    → record { prometheus = exporter.state; handles = handles } ≡ fold (call_step round.moment) q round.calls
+    → exporter.settings ≡ default_settings
+    → record { prometheus = (stepped round.moment exporter).state; handles = handles } ≡ played no_settings p round
+round_played p q round exporter handles set_up called settings =
+    ap (λ idle. record { prometheus = page_step idle round.moment exporter.state; handles = handles }) (ap (λ s. s.idle) settings)
+    ∙ ap (λ x. record { prometheus = page_step None round.moment x.prometheus; handles = x.handles }) (state_after p q round _ set_up called)
+
+pub page_written : (p q : PlayState) (round : RoundText) (exporter : Exporter) (handles : List SeriesId) → q ≡ after_setup p round
+    → record { prometheus = exporter.state; handles = handles } ≡ fold (call_step round.moment) q round.calls
+    → exporter.settings ≡ default_settings
+    → page_text (page_families round.moment exporter) ≡ round_text no_settings p round
+page_written p q round exporter handles set_up called settings =
+    ap (λ s. page_text (page_families round.moment (record { settings = s; state = exporter.state }))) settings
+    ∙ ap (λ x. page_text (families_at default_settings round.moment (page_step None round.moment x.prometheus))) (state_after p q round _ set_up called)
+
+-- the pages from a round on are that of the round and those behind it
+pub next_round : (p : PlayState) (rounds : List Round) (i : ℕ) (round : Round) → i < length rounds → round ≡ get_or rounds i round
+    → rounds_text no_settings p (map round_of (drop i rounds))
+    ≡ round_text no_settings p (round_of round) ++ rounds_text no_settings (played no_settings p (round_of round)) (map round_of (drop (i + 1) rounds))
+next_round p rounds i round within found = ap (λ rs. rounds_text no_settings p (map round_of rs)) here
+  where
+    here : drop i rounds ≡ round ∷ drop (i + 1) rounds
+    here = rw add-one (drop-cons rounds i round within ∙ ap (λ r. r ∷ drop (suc i) rounds) (sym found))

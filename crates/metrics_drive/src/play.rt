@@ -21,7 +21,10 @@ pub fn play<K: Sink>(alloc: Global, script: &Script, out: &mut K) -> Result<Repo
     ensures cause { IfErr result (IsPlayFault (Rose (K.faults out.old) (K.faults out.new))) }
     ensures never_falls { K.faults out.old ≤ K.faults out.new }
 {
-    let mut player = Player::new(alloc)?;
+    let mut player = match Player::new(alloc) {
+        Ok(player) => player,
+        Err(Memory) => return Err(DriveFault::Memory),
+    };
     for round in &script.rounds {
         match player.play_round(alloc, round, out) {
             Ok(()) => (),
@@ -86,11 +89,13 @@ impl Player {
         ensures cause { IfErr result (IsPlayFault (Rose (K.faults out.old) (K.faults out.new))) }
         ensures never_falls { K.faults out.old ≤ K.faults out.new }
     {
-        if self.set_up(alloc, &round.setup).is_err() {
-            return Err(DriveFault::Memory);
+        match self.set_up(alloc, &round.setup) {
+            Ok(()) => (),
+            Err(Memory) => return Err(DriveFault::Memory),
         }
-        if self.make_calls(alloc, round.moment, &round.calls).is_err() {
-            return Err(DriveFault::Memory);
+        match self.make_calls(alloc, round.moment, &round.calls) {
+            Ok(()) => (),
+            Err(Memory) => return Err(DriveFault::Memory),
         }
         self.write_page(alloc, round.moment, out)
     }
