@@ -3,7 +3,8 @@ use Rattle.std.proofs.Common.{◌≡◌, ℕ, ◌<◌, ◌≤◌, ◌+◌, List,
 use Rattle.std.proofs.lemmas.List.{take-append-drop}
 use Rattle.std.specs.Prelude.{Option, Some, None, IfSome}
 use Rattle.metrics_core.specs.Outside.{Rose}
-use Rattle.metrics_drive.specs.Answers.{script_limit, IsTooLong}
+use Rattle.metrics_drive.specs.Headline.{script_limit}
+use Rattle.metrics_drive.specs.Answers.{IsTooLong}
 use Rattle.drive_script.specs.declared.faults.DriveFault.{DriveFault}
 use Rattle.drive_script.specs.declared.faults.DriveFault.TheVariants as faults
 use Rattle.metrics_drive.specs.Reading.{IsTaken, IsPieceFault, IsReadFault}

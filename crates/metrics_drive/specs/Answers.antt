@@ -7,7 +7,7 @@ use Rattle.drive_script.specs.Valid.{IsScriptOf, IsFirstBadLine}
 use Rattle.drive_script.specs.Faults.{fault_text}
 use Rattle.drive_script.specs.declared.faults.DriveFault.{DriveFault}
 use Rattle.drive_script.specs.declared.faults.DriveFault.TheVariants as faults
-use Rattle.metrics_drive.specs.Headline.{IsPlayedInPart}
+use Rattle.metrics_drive.specs.Headline.{IsPlayedInPart, IsGoodScript, script_limit}
 use Rattle.metrics_drive.specs.declared.report.Report.{Report}
 
 -- ---- causes
@@ -16,10 +16,6 @@ use Rattle.metrics_drive.specs.declared.report.Report.{Report}
 abbrev pub IsDriveWords : List (List ℕ) → Type 0
 IsDriveWords words = words ≡ codes "drive" ∷ []
 
--- the most bytes that a script may have
-abbrev pub script_limit : ℕ
-script_limit = 67108864
-
 -- the source gave more bytes than that
 abbrev pub IsTooLong : List ℕ → Type 0
 IsTooLong bytes = script_limit < length bytes
@@ -27,10 +23,6 @@ IsTooLong bytes = script_limit < length bytes
 -- the bytes are within the limit, and line l is the first bad one
 abbrev pub IsBadScript : List ℕ → ℕ → Type 0
 IsBadScript bytes l = (length bytes ≤ script_limit) × IsFirstBadLine bytes l
-
--- the bytes are within the limit, and a valid script
-abbrev pub IsGoodScript : List ℕ → ScriptText → Type 0
-IsGoodScript bytes script = (length bytes ≤ script_limit) × IsScriptOf bytes script
 
 -- Why a run over these bytes ended with a fault; `SourceFailed` and `SinkFailed` say that the count of faults of the
 -- source and of the sink of the pages rose in the call. Want of memory is free.
@@ -47,14 +39,18 @@ HasDeviceCause SourceFailed SinkFailed faults.ReadFault = SourceFailed
 HasDeviceCause SourceFailed SinkFailed faults.WriteFault = SinkFailed
 HasDeviceCause SourceFailed SinkFailed _ = Unit {0}
 
--- What a fault leaves of the pages: nothing was written where the script wasn't played; a failed write leaves a front
--- of the pages; want of memory leaves one or the other.
-abbrev pub LeavesOf : List ℕ → Option (List ℕ) → Option (List ℕ) → DriveFault → Type 0
-LeavesOf bytes written written' (faults.Script l) = written' ≡ written
-LeavesOf bytes written written' faults.TooLong = written' ≡ written
-LeavesOf bytes written written' faults.ReadFault = written' ≡ written
-LeavesOf bytes written written' faults.WriteFault = IsPlayedInPart bytes written written'
-LeavesOf bytes written written' faults.Memory = (written' ≡ written) ⊎ IsPlayedInPart bytes written written'
+-- nothing was written where the script wasn't played
+abbrev pub LeavesUnplayed : Option (List ℕ) → Option (List ℕ) → DriveFault → Type 0
+LeavesUnplayed written written' (faults.Script l) = written' ≡ written
+LeavesUnplayed written written' faults.TooLong = written' ≡ written
+LeavesUnplayed written written' faults.ReadFault = written' ≡ written
+LeavesUnplayed written written' _ = Unit {0}
+
+-- a failed write leaves a front of the pages of a run, and want of memory such a front or nothing
+abbrev pub LeavesFront : List ℕ → Option (List ℕ) → Option (List ℕ) → DriveFault → Type 0
+LeavesFront bytes written written' faults.WriteFault = IsPlayedInPart bytes written written'
+LeavesFront bytes written written' faults.Memory = (written' ≡ written) ⊎ IsPlayedInPart bytes written written'
+LeavesFront bytes written written' _ = Unit {0}
 
 -- ---- statuses
 
@@ -87,7 +83,7 @@ report_text pages = codes "pages " ++ decimal pages ++ codes " sent 0 unsent 0 d
 -- the bytes are a valid script of so many rounds
 pub record HasRounds (bytes : List ℕ) (pages : ℕ) : Type 0 where
   pub script : ScriptText
-  pub reading : IsScriptOf bytes script
+  pub reading : IsGoodScript bytes script
   pub counted : pages ≡ length script.rounds
 
 -- the line that each status has; what it says of the script holds where the source tells its bytes

@@ -16,7 +16,7 @@ pub returns-in-Err-play_round-clause-front : goal.returns-in-Err-play_round-clau
 returns-in-Err-play_round-clause-front g c =
     let within : c.loop-round.round-index < length c.args.script.now.rounds.items = omega (arith, ap length c.deref-round-items.ensures.value) in
     let found : c.round-item.result ≡ get_or c.args.script.now.rounds.items c.loop-round.round-index c.round-item.result
-        = c.round-item.is ∙ ap (λ rounds. get_or rounds c.loop-round.round-index c.round-item.result) c.deref-round-items.ensures.value in
+    = c.round-item.is ∙ ap (λ rounds. get_or rounds c.loop-round.round-index c.round-item.result) c.deref-round-items.ensures.value in
     let P : List ℕ → Type 0 = λ rest. GrewUpTo (g.K.Sink.written c.args.out.now) (g.K.Sink.written c.loop-round.out) (run_text (script_of c.args.script.now)) rest in
     let so_far = subst P (next_round (state_of c.loop-round.player) c.args.script.now.rounds.items c.loop-round.round-index c.round-item.result within found) c.loop-round.invariant.so_far in
     grew_up_to-front _ _ _ _ _ _ so_far c.in-Err-play_round.ensures.front
@@ -25,11 +25,11 @@ pub loop-round-preserved : goal.loop-round-preserved
 loop-round-preserved g c =
     let within : c.loop-round.round-index < length c.args.script.now.rounds.items = omega (arith, ap length c.deref-round-items.ensures.value) in
     let found : c.round-item.result ≡ get_or c.args.script.now.rounds.items c.loop-round.round-index c.round-item.result
-        = c.round-item.is ∙ ap (λ rounds. get_or rounds c.loop-round.round-index c.round-item.result) c.deref-round-items.ensures.value in
+    = c.round-item.is ∙ ap (λ rounds. get_or rounds c.loop-round.round-index c.round-item.result) c.deref-round-items.ensures.value in
     let P : List ℕ → Type 0 = λ rest. GrewUpTo (g.K.Sink.written c.args.out.now) (g.K.Sink.written c.loop-round.out) (run_text (script_of c.args.script.now)) rest in
     let so_far = subst P (next_round (state_of c.loop-round.player) c.args.script.now.rounds.items c.loop-round.round-index c.round-item.result within found) c.loop-round.invariant.so_far in
     let Q : PlayState → Type 0 = λ p. GrewUpTo (g.K.Sink.written c.args.out.now) (g.K.Sink.written c.play_round.new.out) (run_text (script_of c.args.script.now))
-        (rounds_text no_settings p (map round_of (drop (c.loop-round.round-index + 1) c.args.script.now.rounds.items))) in
+    (rounds_text no_settings p (map round_of (drop (c.loop-round.round-index + 1) c.args.script.now.rounds.items))) in
     record {
       settings = c.in-Ok-play_round.ensures.settings;
       never_falls = omega (arith, c.loop-round.invariant.never_falls, c.in-Ok-play_round.ensures.never_falls);
