@@ -1,5 +1,6 @@
 pub mod Words
 pub mod Script
+pub mod Reading
 pub mod Valid
 pub mod Faults
 pub mod Texts

@@ -9,6 +9,8 @@ use Rattle.drive_script.specs.declared.script.Setup.{Setup}
 use Rattle.drive_script.specs.declared.script.Setup.TheVariants as setups
 use Rattle.drive_script.specs.declared.script.Round.{Round}
 use Rattle.drive_script.specs.declared.script.Script.{Script}
+use Rattle.drive_script.specs.declared.lines.Line.{Line}
+use Rattle.drive_script.specs.declared.lines.Line.TheVariants as lines
 
 abbrev pub act_of : Act → text.Act
 act_of (acts.Inc n) = text.Inc n
@@ -24,3 +26,8 @@ round_of round = record { moment = round.moment; setup = map setup_of round.setu
 
 abbrev pub script_of : Script → text.ScriptText
 script_of script = record { settings = text.no_settings; rounds = map round_of script.rounds.items }
+
+abbrev pub line_of : Line → text.ScriptLine
+line_of (lines.Round moment) = text.Round moment
+line_of (lines.Setup setup) = text.Setup (setup_of setup)
+line_of (lines.Call call) = text.CallOf (call_line_of call)

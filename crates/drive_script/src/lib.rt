@@ -1,7 +1,9 @@
 //! The script of rounds: its types, its grammar, and the reader that finds its first bad line.
 #![tactic(auto)]
 
+mod cursor;
 mod faults;
+mod lines;
 mod reader;
 mod script;
 
