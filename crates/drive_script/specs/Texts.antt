@@ -1,7 +1,9 @@
 -- The script that a value of the program stands for.
-use Rattle.std.specs.Prelude.{List, map}
+use Rattle.std.specs.Prelude.{◌≡◌, List, map}
 use Rattle.metrics_core.specs.declared.keys.Key.{Key}
 use Rattle.drive_script.specs.Script as text
+use Rattle.drive_script.specs.Valid.{registered}
+use Rattle.drive_script.specs.declared.progress.Progress.{Progress}
 use Rattle.drive_script.specs.declared.script.Act.{Act}
 use Rattle.drive_script.specs.declared.script.Act.TheVariants as acts
 use Rattle.drive_script.specs.declared.script.CallLine.{CallLine}
@@ -31,3 +33,11 @@ abbrev pub line_of : Line → text.ScriptLine
 line_of (lines.Round moment) = text.Round moment
 line_of (lines.Setup setup) = text.Setup (setup_of setup)
 line_of (lines.Call call) = text.CallOf (call_line_of call)
+
+-- the script of the rounds so far
+abbrev pub script_so_far : Progress → text.ScriptText
+script_so_far progress = record { settings = text.no_settings; rounds = map round_of progress.rounds.items }
+
+-- the progress has the kind of each register line
+abbrev pub KnowsKinds : Progress → Type 0
+KnowsKinds progress = progress.kinds.items ≡ map (λ r. r.kind) (registered (script_so_far progress))

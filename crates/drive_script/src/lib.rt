@@ -4,6 +4,7 @@
 mod cursor;
 mod faults;
 mod lines;
+mod progress;
 mod reader;
 mod script;
 
