@@ -2,3 +2,4 @@ pub mod Fields
 pub mod Names
 pub mod Forms
 pub mod Growth
+pub mod Pieces

@@ -1,8 +1,8 @@
 -- The script that a value of the program stands for.
-use Rattle.std.specs.Prelude.{◌≡◌, List, map}
+use Rattle.std.specs.Prelude.{◌≡◌, ℕ, List, map}
 use Rattle.metrics_core.specs.declared.keys.Key.{Key}
 use Rattle.drive_script.specs.Script as text
-use Rattle.drive_script.specs.Valid.{registered}
+use Rattle.drive_script.specs.Valid.{registered, IsValid}
 use Rattle.drive_script.specs.declared.progress.Progress.{Progress}
 use Rattle.drive_script.specs.declared.script.Act.{Act}
 use Rattle.drive_script.specs.declared.script.Act.TheVariants as acts
@@ -41,3 +41,9 @@ script_so_far progress = record { settings = text.no_settings; rounds = map roun
 -- the progress has the kind of each register line
 abbrev pub KnowsKinds : Progress → Type 0
 KnowsKinds progress = progress.kinds.items ≡ map (λ r. r.kind) (registered (script_so_far progress))
+
+-- the progress stands behind these lines: they are the valid script of its rounds
+pub record StandsBehind (lines : List (List ℕ)) (progress : Progress) : Type 0 where
+  pub script : text.IsScript lines (script_so_far progress)
+  pub valid : IsValid (script_so_far progress)
+  pub kinds : KnowsKinds progress

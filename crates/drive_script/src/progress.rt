@@ -1,18 +1,39 @@
-//! What the lines so far say, and the next line's place behind them.
+//! What the lines so far say, and whether one more line may stand behind them.
 
-ghost use Rattle.std.specs.Prelude.{IfOk, OnOk, MatchBool};
+ghost use Rattle.std.specs.Prelude.{
+  ◌≡◌,
+  ℕ,
+  List,
+  [],
+  ◌∷◌,
+  ◌++◌,
+  ◌↔◌,
+  IsTrue,
+  IfOk,
+  OnOk,
+  MatchBool,
+};
 ghost use Rattle.drive_script.specs.Growth.{IsNext};
-ghost use Rattle.drive_script.specs.Script.{ScriptText, Round, Setup, CallOf};
-ghost use Rattle.drive_script.specs.Texts.{setup_of, call_line_of, script_so_far, KnowsKinds};
+ghost use Rattle.drive_script.specs.Script as text;
+ghost use Rattle.drive_script.specs.Texts.{
+  setup_of,
+  call_line_of,
+  script_of,
+  script_so_far,
+  KnowsKinds,
+  StandsBehind,
+};
+ghost use Rattle.drive_script.specs.Valid.{registered, HasHandle, AreValidLines};
 
-use crate::{CallLine, Round, Setup};
+use crate::lines::{Line, read_line};
+use crate::{CallLine, Round, Script, Setup};
 use metrics_core::{Memory, MetricKind};
 use std::alloc::Global;
 
 /// How many register lines a script may have.
 const MAX_REGISTRATIONS: usize = 1_000_000;
 
-/// The rounds so far, and the kind of each register line in them.
+/// The rounds so far, and the kind of each register line in them. After an `Err` of a method it is of no use.
 #[derive(Drop)]
 pub(crate) struct Progress {
     rounds: Vec<Round>,
@@ -20,13 +41,44 @@ pub(crate) struct Progress {
 }
 
 impl Progress {
-    /// A round begins. Whether it may; after an `Err` the progress is of no use.
+    /// Nothing is said yet.
+    pub(crate) fn new(alloc: Global) -> Progress
+        ensures { StandsBehind [] result }
+    {
+        Progress {
+            rounds: Vec::new(alloc),
+            kinds: Vec::new(alloc),
+        }
+    }
+
+    /// Takes the next line. Answers whether the lines with it are a valid script.
+    pub(crate) fn take_line(&mut self, alloc: Global, line: &[u8]) -> Result<bool, Memory>
+        ensures { (lines : List (List ℕ)) → StandsBehind lines self.old → IfOk result (λ taken.
+            MatchBool taken (StandsBehind (lines ++ line.now ∷ []) self.new)
+                (¬ AreValidLines (lines ++ line.now ∷ []))) }
+    {
+        match read_line(alloc, line)? {
+            None => Ok(false),
+            Some(Line::Round(moment)) => self.begin_round(alloc, moment),
+            Some(Line::Setup(setup)) => self.set_up(setup),
+            Some(Line::Call(call)) => self.call(call),
+        }
+    }
+
+    /// The script that the lines are.
+    pub(crate) fn into_script(self) -> Script
+        ensures { script_of result ≡ script_so_far self }
+    {
+        let Progress { rounds, kinds: _ } = self;
+        Script { rounds }
+    }
+
+    /// A round begins, if it may.
     fn begin_round(&mut self, alloc: Global, moment: u64) -> Result<bool, Memory>
-        requires { KnowsKinds self.old }
-        ensures kinds { OnOk result (KnowsKinds self.new) }
+        ensures kinds { KnowsKinds self.old → OnOk result (KnowsKinds self.new) }
         ensures next { IfOk result (λ taken. MatchBool taken
-            (IsNext (script_so_far self.old) (Round moment) (script_so_far self.new))
-            ((new : ScriptText) → ¬ IsNext (script_so_far self.old) (Round moment) new)) }
+            (IsNext (script_so_far self.old) (text.Round moment) (script_so_far self.new))
+            ((new : text.ScriptText) → ¬ IsNext (script_so_far self.old) (text.Round moment) new)) }
     {
         if !self.rounds.is_empty() {
             return Ok(false);
@@ -39,18 +91,17 @@ impl Progress {
         Ok(true)
     }
 
-    /// The last round sets something up. Whether it may; after an `Err` the progress is of no use.
+    /// The last round sets something up, if it may.
     fn set_up(&mut self, setup: Setup) -> Result<bool, Memory>
-        requires { KnowsKinds self.old }
-        ensures kinds { OnOk result (KnowsKinds self.new) }
-        ensures next { IfOk result (λ taken. MatchBool taken
-            (IsNext (script_so_far self.old) (Setup (setup_of setup)) (script_so_far self.new))
-            ((new : ScriptText) → ¬ IsNext (script_so_far self.old) (Setup (setup_of setup)) new)) }
+        ensures kinds { KnowsKinds self.old → OnOk result (KnowsKinds self.new) }
+        ensures next { KnowsKinds self.old → IfOk result (λ taken. MatchBool taken
+            (IsNext (script_so_far self.old) (text.Setup (setup_of setup)) (script_so_far self.new))
+            ((new : text.ScriptText) → ¬ IsNext (script_so_far self.old) (text.Setup (setup_of setup)) new)) }
     {
         let Some(round) = self.rounds.last_mut() else {
             return Ok(false);
         };
-        if !round.calls.is_empty() || self.kinds.len() == MAX_REGISTRATIONS {
+        if !round.calls.is_empty() || self.kinds.len() >= MAX_REGISTRATIONS {
             return Ok(false);
         }
         let Setup::Register { kind, .. } = &setup;
@@ -59,15 +110,14 @@ impl Progress {
         Ok(true)
     }
 
-    /// The last round calls. Whether it may; after an `Err` the progress is of no use.
+    /// The last round calls, if it may.
     fn call(&mut self, call: CallLine) -> Result<bool, Memory>
-        requires { KnowsKinds self.old }
-        ensures kinds { OnOk result (KnowsKinds self.new) }
-        ensures next { IfOk result (λ taken. MatchBool taken
-            (IsNext (script_so_far self.old) (CallOf (call_line_of call)) (script_so_far self.new))
-            ((new : ScriptText) → ¬ IsNext (script_so_far self.old) (CallOf (call_line_of call)) new)) }
+        ensures kinds { KnowsKinds self.old → OnOk result (KnowsKinds self.new) }
+        ensures next { KnowsKinds self.old → IfOk result (λ taken. MatchBool taken
+            (IsNext (script_so_far self.old) (text.CallOf (call_line_of call)) (script_so_far self.new))
+            ((new : text.ScriptText) → ¬ IsNext (script_so_far self.old) (text.CallOf (call_line_of call)) new)) }
     {
-        if self.kinds.get(call.handle as usize) != Some(&call.act.kind()) {
+        if !self.has_handle(&call) {
             return Ok(false);
         }
         let Some(round) = self.rounds.last_mut() else {
@@ -75,5 +125,16 @@ impl Progress {
         };
         round.calls.push(call)?;
         Ok(true)
+    }
+
+    /// Whether the call's handle is that of a register line, of the call's kind.
+    fn has_handle(&self, call: &CallLine) -> bool
+        ensures { KnowsKinds self.now
+            → IsTrue result ↔ HasHandle (registered (script_so_far self.now)) (call_line_of call.now) }
+    {
+        match self.kinds.get(call.handle as usize) {
+            Some(kind) => *kind == call.act.kind(),
+            None => false,
+        }
     }
 }
