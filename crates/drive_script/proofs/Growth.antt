@@ -8,6 +8,7 @@ use Rattle.std.proofs.lemmas.List.Concat.{flat_map-append}
 use Rattle.std.proofs.lemmas.List.Elements.{All-nil, All-push, All-take, All-get_or, All-from_recursion, filter_map-append}
 use Rattle.std.proofs.lemmas.List.Sums.{sum_by-cons}
 use Rattle.metrics_core.specs.Keys.{LabelText, KeyText, SameKey, occurrences}
+use Rattle.metrics_core.specs.declared.kinds.MetricKind.{MetricKind}
 use Rattle.metrics_core.specs.declared.kinds.MetricKind.TheVariants as kinds
 use Rattle.prom_format.specs.Names.{IsMetricName}
 use Rattle.drive_script.specs.Script.{ScriptText, RoundText, SetupLine, Register, Describe, CallLine, ScriptLine, Round, Setup, CallOf, IsLine, IsScript, round_lines, no_settings, SettingsText}
@@ -185,6 +186,21 @@ handles_last earlier (r ∷ before) round h =
 same_registered : (before : List RoundText) (round other : RoundText) → round.setup ≡ other.setup → flat_map registered_in (before ++ round ∷ []) ≡ flat_map registered_in (before ++ other ∷ [])
 same_registered before round other e = registered_push before round ∙ ap (λ setup. flat_map registered_in before ++ filter_map registration_of setup) e ∙ sym (registered_push before other)
 
+-- a register line is registered behind the earlier ones
+pub one_registered : (old new : ScriptText) (before : List RoundText) (round : RoundText) (kind : MetricKind) (key : KeyText) → old.rounds ≡ before ++ round ∷ [] → new ≡ record old { rounds = before ++ record round { setup = round.setup ++ Register kind key ∷ [] } ∷ [] }
+    → registered new ≡ registered old ++ record { kind = kind; key = key } ∷ []
+one_registered old new before round kind key last grown =
+    let one : Registration = record { kind = kind; key = key } in
+    ap (λ (s : ScriptText). registered s) grown
+    ∙ registered_push before (record round { setup = round.setup ++ Register kind key ∷ [] })
+    ∙ ap (λ rs. flat_map registered_in before ++ rs) (filter_map-append registration_of round.setup (Register kind key ∷ []))
+    ∙ sym (append_assoc (flat_map registered_in before) (registered_in round) (one ∷ []))
+    ∙ ap (λ rs. rs ++ one ∷ []) (sym (registered_push before round) ∙ ap (flat_map registered_in) (sym last))
+
+-- a call line registers nothing
+pub none_registered : (old new : ScriptText) (call : CallLine) → AddsCall old call new → registered new ≡ registered old
+none_registered old new call h = ap (λ (s : ScriptText). registered s) h.grown ∙ same_registered h.before (record h.round { calls = h.round.calls ++ call ∷ [] }) h.round refl ∙ ap (flat_map registered_in) (sym h.last)
+
 -- ---- one more line
 
 next_settings : (old new : ScriptText) (says : ScriptLine) → IsNext old says new → new.settings ≡ old.settings
@@ -206,7 +222,7 @@ next_registrations : (old new : ScriptText) (says : ScriptLine) → IsNext old s
 next_registrations old new (Round moment) h few = let e : length (registered new) ≡ 0 = ap (λ (s : ScriptText). length (registered s)) h.grown in omega arith
 next_registrations old new (Setup setup) h few = h.room
 next_registrations old new (CallOf call) h few =
-    let e : length (registered new) ≡ length (registered old) = ap (λ (s : ScriptText). length (registered s)) h.grown ∙ ap length (same_registered h.before (record h.round { calls = h.round.calls ++ call ∷ [] }) h.round refl) ∙ ap (λ rs. length (flat_map registered_in rs)) (sym h.last) in omega arith
+    let e : length (registered new) ≡ length (registered old) = ap length (none_registered old new call h) in omega arith
 
 next_handles : (old new : ScriptText) (says : ScriptLine) → IsNext old says new → HaveHandles [] old.rounds → HaveHandles [] new.rounds
 next_handles old new (Round moment) h handles = subst (λ (s : ScriptText). HaveHandles [] s.rounds) (sym h.grown) (All-nil (HasHandle []), tt)

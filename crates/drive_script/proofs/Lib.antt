@@ -3,3 +3,4 @@ pub mod Names
 pub mod Forms
 pub mod Growth
 pub mod Pieces
+pub mod Steps

@@ -16,7 +16,6 @@ ghost use Rattle.std.specs.Prelude.{
 ghost use Rattle.drive_script.specs.Growth.{IsNext};
 ghost use Rattle.drive_script.specs.Script as text;
 ghost use Rattle.drive_script.specs.Texts.{
-  setup_of,
   call_line_of,
   script_of,
   script_so_far,
@@ -27,7 +26,7 @@ ghost use Rattle.drive_script.specs.Valid.{registered, HasHandle, AreValidLines}
 
 use crate::lines::{Line, read_line};
 use crate::{CallLine, Round, Script, Setup};
-use metrics_core::{Memory, MetricKind};
+use metrics_core::{Key, Memory, MetricKind};
 use std::alloc::Global;
 
 /// How many register lines a script may have.
@@ -60,7 +59,7 @@ impl Progress {
         match read_line(alloc, line)? {
             None => Ok(false),
             Some(Line::Round(moment)) => self.begin_round(alloc, moment),
-            Some(Line::Setup(setup)) => self.set_up(setup),
+            Some(Line::Setup(Setup::Register { kind, key })) => self.register(kind, key),
             Some(Line::Call(call)) => self.call(call),
         }
     }
@@ -91,12 +90,12 @@ impl Progress {
         Ok(true)
     }
 
-    /// The last round sets something up, if it may.
-    fn set_up(&mut self, setup: Setup) -> Result<bool, Memory>
+    /// The last round registers a series, if it may.
+    fn register(&mut self, kind: MetricKind, key: Key) -> Result<bool, Memory>
         ensures kinds { KnowsKinds self.old → OnOk result (KnowsKinds self.new) }
         ensures next { KnowsKinds self.old → IfOk result (λ taken. MatchBool taken
-            (IsNext (script_so_far self.old) (text.Setup (setup_of setup)) (script_so_far self.new))
-            ((new : text.ScriptText) → ¬ IsNext (script_so_far self.old) (text.Setup (setup_of setup)) new)) }
+            (IsNext (script_so_far self.old) (text.Setup (text.Register kind key)) (script_so_far self.new))
+            ((new : text.ScriptText) → ¬ IsNext (script_so_far self.old) (text.Setup (text.Register kind key)) new)) }
     {
         let Some(round) = self.rounds.last_mut() else {
             return Ok(false);
@@ -104,9 +103,8 @@ impl Progress {
         if !round.calls.is_empty() || self.kinds.len() >= MAX_REGISTRATIONS {
             return Ok(false);
         }
-        let Setup::Register { kind, .. } = &setup;
-        self.kinds.push(*kind)?;
-        round.setup.push(setup)?;
+        self.kinds.push(kind)?;
+        round.setup.push(Setup::Register { kind, key })?;
         Ok(true)
     }
 
