@@ -12,7 +12,7 @@ use Rattle.drive_script.specs.Script.{without_empty_last, lines_of}
 use Rattle.drive_script.specs.Valid.{AreValidLines, IsFirstBadLine}
 use Rattle.drive_script.proofs.Growth.{fronts_valid}
 
-abbrev ends_line : ℕ → Bool
+abbrev pub ends_line : ℕ → Bool
 ends_line c = c == newline
 
 more_pieces : (piece : List ℕ) (pieces : List (List ℕ)) → 0 < length pieces → without_empty_last (piece ∷ pieces) ≡ piece ∷ without_empty_last pieces

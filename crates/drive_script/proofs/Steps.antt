@@ -1,21 +1,22 @@
 -- One step of the progress: the last round with one more line.
-use Rattle.std.proofs.Common.{◌≡◌, ℕ, suc, ◌+◌, ◌-◌, ◌<◌, ◌≤◌, Bool, true, List, [], ◌∷◌, ◌++◌, map, length, get_or, set, take, Option, Some, None, refl, sym, ap, subst, ◌∙◌, arith}
+use Rattle.std.proofs.Common.{◌≡◌, ℕ, suc, ◌+◌, ◌-◌, ◌<◌, ◌≤◌, Bool, true, false, List, [], ◌∷◌, ◌++◌, map, length, get_or, set, take, Option, Some, None, refl, sym, ap, subst, ◌∙◌, arith}
 use Rattle.std.specs.Global.{Vec}
-use Rattle.std.specs.Prelude.{slice_get, option_map, ◌↔◌, IsTrue}
+use Rattle.std.specs.Prelude.{slice_get, option_map, Result, Ok, Err, IfOk, OnOk, MatchBool}
 use Rattle.std.proofs.lemmas.List.{take_all, take_more, set_split, drop_all, map_push, same_from_push, length-map, length_push}
 use Rattle.std.proofs.lemmas.Option.{slice_get_read, slice_get-map, slice_get_within, same_Some}
 use Rattle.metrics_core.specs.Keys.{KeyText}
 use Rattle.metrics_core.specs.declared.kinds.MetricKind.{MetricKind}
 use Rattle.drive_script.specs.Script as text
-use Rattle.drive_script.specs.Script.{ScriptText, no_settings}
-use Rattle.drive_script.specs.Valid.{Registration, registered, HasHandle}
-use Rattle.drive_script.specs.Growth.{SetsUp, AddsCall}
-use Rattle.drive_script.specs.Texts.{call_line_of, setup_of, round_of}
+use Rattle.drive_script.specs.Script.{ScriptText, no_settings, IsLine}
+use Rattle.drive_script.specs.Valid.{Registration, registered, HasHandle, AreValidLines}
+use Rattle.drive_script.specs.Growth.{SetsUp, AddsCall, IsNext}
+use Rattle.drive_script.specs.Texts.{call_line_of, setup_of, round_of, script_so_far, KnowsKinds, StandsBehind}
+use Rattle.drive_script.specs.declared.progress.Progress.{Progress}
 use Rattle.drive_script.specs.declared.script.CallLine.{CallLine}
 use Rattle.drive_script.specs.declared.script.Setup.{Setup}
 use Rattle.drive_script.specs.declared.script.Setup.TheVariants as setups
 use Rattle.drive_script.specs.declared.script.Round.{Round}
-use Rattle.drive_script.proofs.Growth.{one_registered}
+use Rattle.drive_script.proofs.Growth.{one_registered, next_valid, only_next}
 
 abbrev with_rounds : List text.RoundText → ScriptText
 with_rounds rounds = record { settings = no_settings; rounds = rounds }
@@ -109,3 +110,15 @@ pub no_handle : (rs : List Registration) (kinds : List MetricKind) (place : ℕ)
 no_handle rs kinds place wanted knows past h =
     let within : place < length rs = slice_get_within rs place (record { kind = wanted; key = h.0 }) h.1 in
     omega (arith, ap length knows, length-map rs (λ (r : Registration). r.kind))
+
+-- ---- one line
+
+-- what a step says of the script, said of the lines
+pub step_taken : {E : Type 0} (lines : List (List ℕ)) (line : List ℕ) (old new : Progress) (says : text.ScriptLine) (r : Result Bool E) → StandsBehind lines old → IsLine line says → OnOk r (KnowsKinds new)
+    → IfOk r (λ taken. MatchBool taken (IsNext (script_so_far old) says (script_so_far new)) ((t : ScriptText) → ¬ IsNext (script_so_far old) says t))
+    → IfOk r (λ taken. MatchBool taken (StandsBehind (lines ++ line ∷ []) new) (¬ AreValidLines (lines ++ line ∷ [])))
+step_taken lines line old new says (Ok true) h is_line knows next =
+    let valid = next_valid lines line (script_so_far old) (script_so_far new) says (h.script, h.valid) is_line next in
+    record { script = valid.0; valid = valid.1; kinds = knows }
+step_taken lines line old new says (Ok false) h is_line knows none = only_next lines line (script_so_far old) says (h.script, h.valid) is_line none
+step_taken lines line old new says (Err e) h is_line knows next = tt

@@ -31,7 +31,7 @@ script_of script = record { settings = text.no_settings; rounds = map round_of s
 
 abbrev pub line_of : Line → text.ScriptLine
 line_of (lines.Round moment) = text.Round moment
-line_of (lines.Setup setup) = text.Setup (setup_of setup)
+line_of (lines.Register kind key) = text.Setup (text.Register kind key)
 line_of (lines.Call call) = text.CallOf (call_line_of call)
 
 -- the script of the rounds so far

@@ -7,7 +7,7 @@ ghost use Rattle.drive_script.specs.Reading.{round_at, register_at, call_at};
 ghost use Rattle.drive_script.specs.Texts.{call_line_of, line_of};
 
 use crate::cursor::Cursor;
-use crate::{Act, CallLine, Setup};
+use crate::{Act, CallLine};
 use metrics_core::{Key, KeyName, Memory, MetricKind};
 use std::alloc::Global;
 
@@ -19,7 +19,8 @@ const LAST_LANE: u64 = 0;
 pub(crate) enum Line {
     /// The moment of a round that begins.
     Round(u64),
-    Setup(Setup),
+    /// A series that is registered.
+    Register { kind: MetricKind, key: Key },
     Call(CallLine),
 }
 
@@ -40,10 +41,10 @@ pub(crate) fn read_line(alloc: Global, line: &[u8]) -> Result<Option<Line>, Memo
     };
     let name = String::from_str(alloc, name)?;
     let key = Key::from_name(KeyName::from(name));
-    Ok(Some(Line::Setup(Setup::Register {
+    Ok(Some(Line::Register {
         kind: MetricKind::Counter,
         key,
-    })))
+    }))
 }
 
 /// The moment of a round line.

@@ -59,7 +59,7 @@ impl Progress {
         match read_line(alloc, line)? {
             None => Ok(false),
             Some(Line::Round(moment)) => self.begin_round(alloc, moment),
-            Some(Line::Setup(Setup::Register { kind, key })) => self.register(kind, key),
+            Some(Line::Register { kind, key }) => self.register(kind, key),
             Some(Line::Call(call)) => self.call(call),
         }
     }
