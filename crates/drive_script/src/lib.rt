@@ -1,7 +1,10 @@
 //! The script of rounds: its types, its grammar, and the reader that finds its first bad line.
 #![tactic(auto)]
 
+mod cursor;
 mod faults;
+mod lines;
+mod progress;
 mod reader;
 mod script;
 

@@ -1,17 +1,44 @@
 //! The reader of scripts.
 
-ghost use Rattle.std.specs.Prelude.{IfOk, IfErr};
+ghost use Rattle.std.specs.Prelude.{◌≡◌, ◌<◌, ◌∷◌, length, IfOk, IfErr};
 ghost use Rattle.drive_script.specs.Faults.{IsScriptFault};
+ghost use Rattle.drive_script.specs.Script.{lines_of};
 ghost use Rattle.drive_script.specs.Texts.{script_of};
 ghost use Rattle.drive_script.specs.Valid.{IsScriptOf};
 
+use crate::cursor::count_before;
+use crate::progress::Progress;
 use crate::{DriveFault, Script};
 use std::alloc::Global;
 
 /// Reads a script. Bytes that are no valid script are refused with their first bad line.
-pub fn read_script(_alloc: Global, _bytes: &[u8]) -> Result<Script, DriveFault>
-    ensures valid { IfOk result (λ script. IsScriptOf _bytes.now (script_of script)) }
-    ensures refused { IfErr result (IsScriptFault _bytes.now) }
+pub fn read_script(alloc: Global, bytes: &[u8]) -> Result<Script, DriveFault>
+    ensures valid { IfOk result (λ script. IsScriptOf bytes.now (script_of script)) }
+    ensures refused { IfErr result (IsScriptFault bytes.now) }
 {
-    Err(DriveFault::Memory)
+    let mut progress = Progress::new(alloc);
+    let mut rest = bytes;
+    let mut line = 0;
+    while !rest.is_empty() {
+        let (text, after) = split_line(rest);
+        line += 1;
+        if !progress.take_line(alloc, text)? {
+            return Err(DriveFault::Script { line });
+        }
+        rest = after;
+    }
+    Ok(progress.into_script())
+}
+
+/// The first line, without its newline, and the bytes behind that.
+fn split_line(bytes: &[u8]) -> (&[u8], &[u8])
+    requires { 0 < length bytes.now }
+    ensures lines { lines_of bytes.now ≡ result.0.now ∷ lines_of result.1.now }
+    ensures shorter { length result.1.now < length bytes.now }
+{
+    let end = count_before(bytes, b'\n');
+    if end == bytes.len() {
+        return (bytes, &[]);
+    }
+    (&bytes[..end], &bytes[end + 1..])
 }

@@ -1,6 +1,10 @@
 //! The values that a script is read into. Handles count the register lines of the whole script, from 0.
 
-use metrics_core::Key;
+ghost use Rattle.std.specs.Prelude.{◌≡◌};
+ghost use Rattle.drive_script.specs.Script.{kind_of};
+ghost use Rattle.drive_script.specs.Texts.{act_of};
+
+use metrics_core::{Key, MetricKind};
 
 /// A script: its rounds, in the order in which they are played.
 #[derive(Drop)]
@@ -16,11 +20,11 @@ pub struct Round {
     pub calls: Vec<CallLine>,
 }
 
-/// What a setup line does on the exporter. A line that isn't built yet has no variant.
+/// What a setup line does on the exporters.
 #[derive(Drop)]
 pub enum Setup {
-    /// Registers a counter under a key.
-    RegisterCounter { key: Key },
+    /// Registers a series of a kind under a key.
+    Register { kind: MetricKind, key: Key },
 }
 
 /// A call of a lane on the series of a register line.
@@ -38,4 +42,15 @@ pub struct CallLine {
 pub enum Act {
     /// Adds to a counter, modulo 2^64.
     Inc(u64),
+}
+
+impl Act {
+    /// The kind of the series that it is a call on.
+    pub fn kind(&self) -> MetricKind
+        ensures { result ≡ kind_of (act_of self.now) }
+    {
+        match self {
+            Act::Inc(_) => MetricKind::Counter,
+        }
+    }
 }

@@ -1,0 +1,6 @@
+pub mod Fields
+pub mod Names
+pub mod Forms
+pub mod Growth
+pub mod Pieces
+pub mod Steps
