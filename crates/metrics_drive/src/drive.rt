@@ -53,5 +53,8 @@ pub fn drive<S: Source, K: Sink>(
         Ok(script) => script,
         Err(fault) => return Err(fault),
     };
-    play(alloc, &script, out)
+    match play(alloc, &script, out) {
+        Ok(report) => Ok(report),
+        Err(fault) => Err(fault),
+    }
 }
