@@ -2,7 +2,7 @@
 use Rattle.std.proofs.Common.{◌≡◌, ℕ, List, [], ◌∷◌, ◌++◌, refl, map}
 use Rattle.std.specs.List.{AllZip}
 use Rattle.prom_format.specs.Pages.{page_text}
-use Rattle.prom_exporter.proofs.Laws.{page_reads}
+use Rattle.prom_exporter.proofs.Printable.{page_reads}
 use Rattle.drive_script.specs.Script.{ScriptText, SettingsText, RoundText}
 use Rattle.metrics_drive.specs.Headline.{IsPagesOf, ArePages}
 use Rattle.metrics_drive.specs.InTurn.{orders_of, orders_in_turn, orders_along, script_orders, played, round_text, rounds_text, run_text}
