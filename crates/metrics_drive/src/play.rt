@@ -4,7 +4,7 @@ ghost use Rattle.std.specs.Prelude.{◌≡◌, ◌≤◌, fold, map, length, IfO
 ghost use Rattle.metrics_core.specs.Outside.{Rose, GrewBy, GrewByFront};
 ghost use Rattle.drive_script.specs.Script.{no_settings};
 ghost use Rattle.drive_script.specs.Texts.{script_of};
-ghost use Rattle.metrics_drive.specs.Answers.{IsPlayFault};
+ghost use Rattle.metrics_drive.specs.Answers.{IsPlayFault, report_of};
 ghost use Rattle.metrics_drive.specs.Built.{AreBuiltRounds};
 ghost use Rattle.metrics_drive.specs.InTurn.{run_text};
 
@@ -18,7 +18,7 @@ use std::alloc::Global;
 pub fn play<K: Sink>(alloc: Global, script: &Script, out: &mut K) -> Result<Report, DriveFault>
     requires { AreBuiltRounds script.now.rounds.items }
     ensures pages { OnOk result (GrewBy (K.written out.old) (K.written out.new) (run_text (script_of script.now))) }
-    ensures counted { IfOk result (λ report. report ≡ record { pages = length script.now.rounds.items; sent = 0; unsent = 0; dropped = 0 }) }
+    ensures counted { IfOk result (λ report. report ≡ report_of (length script.now.rounds.items)) }
     ensures front { OnErr result (GrewByFront (K.written out.old) (K.written out.new) (run_text (script_of script.now))) }
     ensures cause { IfErr result (IsPlayFault (Rose (K.faults out.old) (K.faults out.new))) }
     ensures never_falls { K.faults out.old ≤ K.faults out.new }
