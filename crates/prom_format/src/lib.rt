@@ -3,5 +3,9 @@
 #![tactic(auto)]
 
 mod families;
+mod names;
+mod numbers;
 
 pub use families::FamilyType;
+pub use names::{sanitize_label_key, sanitize_metric_name};
+pub use numbers::{push_count, push_fixed};
