@@ -2,6 +2,7 @@
 #![tactic(auto)]
 
 mod builder;
+mod counters;
 mod errors;
 mod state;
 
