@@ -2,7 +2,6 @@
 use Rattle.std.proofs.Common.{◌≡◌, ℕ, Bool, true, false, cond, not, ◌||◌, List, [], ◌∷◌, ◌++◌, map, filter, refl, sym, ap, ◌∙◌, append-nil}
 use Rattle.std.specs.Prelude.{bytes_eq, if◌then◌else◌}
 use Rattle.std.specs.List.{list_any}
-use Rattle.std.specs.Cmp.{IsEquivalence}
 use Rattle.std.specs.Cmp.Lexicographic.{nat_list_eq_equiv}
 use Rattle.std.proofs.lemmas.Bool.{true≢false, or_parts}
 use Rattle.std.proofs.lemmas.List.{map-append}
@@ -81,16 +80,16 @@ none_filtered : (p test : List ℕ → Bool) (ms : List (List ℕ)) → list_any
 none_filtered p test [] e = refl
 none_filtered p test (k ∷ ms) e =
     elim (test k) as (λ b. list_any p (cond b (k ∷ filter test ms) (filter test ms)) ≡ false) [
-      true ↦ rw (or_parts (p k) (list_any p ms) e).0 (none_filtered p test ms (or_parts (p k) (list_any p ms) e).1)
-    | false ↦ none_filtered p test ms (or_parts (p k) (list_any p ms) e).1
+      | true ↦ rw (or_parts (p k) (list_any p ms) e).0 (none_filtered p test ms (or_parts (p k) (list_any p ms) e).1)
+      | false ↦ none_filtered p test ms (or_parts (p k) (list_any p ms) e).1
     ]
 
 apart_filtered : (test : List ℕ → Bool) (ms : List (List ℕ)) → AreApart ms → AreApart (filter test ms)
 apart_filtered test [] a = tt
 apart_filtered test (k ∷ ms) a =
     elim (test k) as (λ b. AreApart (cond b (k ∷ filter test ms) (filter test ms))) [
-      true ↦ (none_filtered (bytes_eq k) test ms a.0, apart_filtered test ms a.1)
-    | false ↦ apart_filtered test ms a.1
+      | true ↦ (none_filtered (bytes_eq k) test ms a.0, apart_filtered test ms a.1)
+      | false ↦ apart_filtered test ms a.1
     ]
 
 none_others_step : (m k : List ℕ) (ms : List (List ℕ)) (b : Bool) → bytes_eq m k ≡ b → list_any (bytes_eq m) (others m ms) ≡ false → list_any (bytes_eq m) (others m (k ∷ ms)) ≡ false

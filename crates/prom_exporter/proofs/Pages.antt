@@ -1,21 +1,19 @@
 -- The page of a state of counters: its families are the groups of its counters.
-use Rattle.std.proofs.Common.{◌≡◌, ℕ, Bool, true, false, cond, List, [], ◌∷◌, ◌++◌, map, filter, filter_map, Option, None, Some, refl, sym, ap, subst, ◌∙◌, append-nil, append_assoc}
+use Rattle.std.proofs.Common.{◌≡◌, ℕ, Bool, true, false, List, [], ◌∷◌, ◌++◌, map, filter, filter_map, None, refl, sym, ap, ◌∙◌, append-nil, append_assoc}
 use Rattle.std.specs.Prelude.{codes, bytes_eq, decimal, flat_map}
-use Rattle.std.proofs.lemmas.List.{map-append}
 use Rattle.std.proofs.lemmas.Slice.Eq.{bytes_eq-Decides}
 use Rattle.metrics_core.specs.Characters.{line}
 use Rattle.metrics_core.specs.declared.kinds.MetricKind.TheVariants as kinds
 use Rattle.metrics_core.specs.Numbers.{whole, page_number}
-use Rattle.metrics_core.specs.Kinds.{kind_eq}
 use Rattle.metrics_core.specs.Keys.{KeyText, LabelText, label_set}
 use Rattle.metrics_core.specs.Calls.{counter_value}
 use Rattle.prom_format.specs.Names.{sanitized_metric_name}
-use Rattle.prom_format.specs.Pages.{Row, Family, label_text, labels_text, label_set_text, row_text, block_text, body_text}
+use Rattle.prom_format.specs.Pages.{Family, label_text, labels_text, label_set_text, row_text, body_text}
 use Rattle.prom_format.specs.Lines.{shown_label, shown_label_set, braced, behind_commas, metric_line}
 use Rattle.prom_format.specs.declared.families.FamilyType.TheVariants as types
 use Rattle.prom_exporter.specs.State.{Series, PrometheusState}
-use Rattle.prom_exporter.specs.Families.{ExporterSettings, distinct, series_of_kind, names_of_kind, series_named, counter_suffix, counter_rows, gauge_rows, family_of, distribution_of, distribution_family, families_at}
-use Rattle.prom_exporter.specs.Exporter.{Exporter, default_settings, stepped, page_body}
+use Rattle.prom_exporter.specs.Families.{distinct, series_of_kind, names_of_kind, counter_suffix, counter_rows, gauge_rows, family_of, distribution_of, distribution_family, families_at}
+use Rattle.prom_exporter.specs.Exporter.{default_settings, page_body}
 use Rattle.prom_exporter.specs.Counters.{CounterText, series_of, state_of, named, grouped, metric_name, counter_row, counter_family}
 use Rattle.prom_exporter.proofs.States.{stepped-same}
 

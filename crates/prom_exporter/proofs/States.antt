@@ -1,19 +1,19 @@
 -- The state that counters make: what registering, calling and a page do to it.
-use Rattle.std.proofs.Common.{◌≡◌, ◌≢◌, ℕ, zero, suc, ◌+◌, ◌<◌, ◌≤◌, Bool, true, false, cond, ◌||◌, ◌&&◌, eqb, List, [], ◌∷◌, ◌++◌, map, filter, filter_map, length, Option, None, Some, refl, sym, ap, subst, ◌∙◌, arith}
-use Rattle.std.specs.Prelude.{◌==◌, unwrap_or, option_map, is_some, slice_get, bytes_eq, if◌then◌else◌}
-use Rattle.std.specs.List.{list_any, find, range_with_len}
+use Rattle.std.proofs.Common.{◌≡◌, ◌≢◌, ℕ, zero, suc, ◌+◌, ◌<◌, ◌≤◌, true, false, cond, ◌&&◌, eqb, List, [], ◌∷◌, ◌++◌, map, filter_map, length, Option, None, Some, refl, sym, ap, ◌∙◌, arith, length-append}
+use Rattle.std.specs.Prelude.{◌==◌, unwrap_or, option_map, is_some, slice_get}
+use Rattle.std.specs.List.{list_any, range_with_len}
 use Rattle.std.specs.Map.{lookup, values_of}
 use Rattle.std.proofs.lemmas.Bool.{ne_eqb, eq-eqb}
 use Rattle.std.proofs.lemmas.List.{map-append}
-use Rattle.indexmap.specs.Layout.{set_value_at}
+use Rattle.indexmap.specs.Layout.{set_value_at, length-set_value_at}
 use Rattle.metrics_core.specs.declared.kinds.MetricKind.{MetricKind}
 use Rattle.metrics_core.specs.declared.kinds.MetricKind.TheVariants.{Counter, Gauge, Histogram}
 use Rattle.metrics_core.specs.Kinds.{kind_eq}
 use Rattle.metrics_core.specs.Keys.{KeyText, key_eq}
 use Rattle.metrics_core.specs.Calls.{Call}
-use Rattle.prom_exporter.specs.State.{Series, PrometheusState, no_series, live_series, number_given, register, with_call, call_on, is_live, kept_at, page_step}
-use Rattle.prom_exporter.specs.Exporter.{Exporter, default_settings, stepped}
-use Rattle.prom_exporter.specs.Counters.{CounterText, series_of, state_of, number_of}
+use Rattle.prom_exporter.specs.State.{Series, no_series, live_series, number_given, register, with_call, call_on, is_live, kept_at}
+use Rattle.prom_exporter.specs.Exporter.{default_settings, stepped}
+use Rattle.prom_exporter.specs.Counters.{CounterText, series_of, state_of, number_of, AreAllLive}
 
 -- ---- registering
 
@@ -22,8 +22,8 @@ module _ (symm : (a b : KeyText) → key_eq a b ≡ key_eq b a) (key : KeyText) 
   live-found [] made = refl
   live-found (e ∷ es) made =
       rw (symm e.0 key) (elim (key_eq key e.0) as (λ b. option_map (λ series. series.number) (cond b (Some (series_of e)) (live_series Counter key (state_of es made))) ≡ option_map (λ counter. counter.number) (cond b (Some e.1) (lookup (key_eq key) es))) [
-        true ↦ refl
-      | false ↦ live-found es made
+        | true ↦ refl
+        | false ↦ live-found es made
       ])
 
   is_some_number : {X : Type 0} (f : X → ℕ) (o : Option X) → is_some (option_map f o) ≡ is_some o
@@ -115,6 +115,12 @@ module _ (i : ℕ) (call : Call) where
     pub call_on-other : (kind : MetricKind) → kind_eq Counter kind ≡ false → (es : List (KeyText × CounterText)) → call_on kind i call (state_of es made) ≡ state_of es made
     call_on-other kind other es = ap (λ l. record { live = l; made = made; published = []; pending = [] }) (called-other kind other es)
 
+    -- a number past all places, of any kind
+    pub call_on-none : (kind : MetricKind) (es : List (KeyText × CounterText)) → map number_of es ≡ range_with_len 0 (length es) → length es ≤ i → call_on kind i call (state_of es made) ≡ state_of es made
+    call_on-none Counter es numbered past = call_on-past es numbered past
+    call_on-none Gauge es numbered past = call_on-other Gauge refl es
+    call_on-none Histogram es numbered past = call_on-other Histogram refl es
+
 -- ---- which numbers are live
 
 module _ (i : ℕ) where
@@ -143,12 +149,42 @@ module _ (i : ℕ) where
     is_live-other kind other [] = refl
     is_live-other kind other (e ∷ es) = rw other (is_live-other kind other es)
 
--- ---- numbers
+    pub is_live-none : (kind : MetricKind) (es : List (KeyText × CounterText)) → map number_of es ≡ range_with_len 0 (length es) → length es ≤ i → is_live kind i (state_of es made) ≡ false
+    is_live-none Counter es numbered past = is_live-past es numbered past
+    is_live-none Gauge es numbered past = is_live-other Gauge refl es
+    is_live-none Histogram es numbered past = is_live-other Histogram refl es
 
-pub numbers-set : (es : List (KeyText × CounterText)) (i : ℕ) (counter : CounterText) (call : Call) → slice_get (values_of es) i ≡ Some counter → map number_of (set_value_at es i (called call counter)) ≡ map number_of es
-numbers-set [] i counter call found = refl
-numbers-set (e ∷ es) zero counter call found = let is : counter ≡ e.1 = cc in (λ j. (is j).number ∷ map number_of es)
-numbers-set (e ∷ es) (suc i) counter call found = ap (λ l. number_of e ∷ l) (numbers-set es i counter call found)
+-- ---- all that were made are live
+
+numbers-push : (n : ℕ) (es : List (KeyText × CounterText)) (e : KeyText × CounterText) → AreFrom n es → e.1.number ≡ n + length es → AreFrom n (es ++ e ∷ [])
+numbers-push n [] e numbered next = let own : e.1.number ≡ n = omega arith in ap (λ m. m ∷ []) own
+numbers-push n (first ∷ es) e numbered next =
+    let rest : AreFrom (n + 1) (es ++ e ∷ []) = numbers-push (n + 1) es e (other_numbers n first es numbered) (omega arith) in
+    (λ j. first_number n first es numbered j ∷ rest j)
+
+pub all_live-push : (es : List (KeyText × CounterText)) (made : ℕ) (key : KeyText) → AreAllLive es made → AreAllLive (es ++ (key, record { number = made; calls = [] }) ∷ []) (made + 1)
+all_live-push es made key all = record {
+  numbered = numbers-push 0 es (key, record { number = made; calls = [] }) all.numbered (omega (arith, all.counted));
+  counted = omega (arith, all.counted, length-append es ((key, record { number = made; calls = [] }) ∷ []));
+}
+
+module _ (counter other : CounterText) (same : other.number ≡ counter.number) where
+  numbers-set : (es : List (KeyText × CounterText)) (i : ℕ) → slice_get (values_of es) i ≡ Some counter → map number_of (set_value_at es i other) ≡ map number_of es
+  numbers-set [] i found = refl
+  numbers-set (e ∷ es) zero found = let is : other.number ≡ e.1.number = cc in ap (λ n. n ∷ map number_of es) is
+  numbers-set (e ∷ es) (suc i) found = ap (λ l. number_of e ∷ l) (numbers-set es i found)
+
+  pub all_live-set : (es : List (KeyText × CounterText)) (made i : ℕ) → slice_get (values_of es) i ≡ Some counter → AreAllLive es made → AreAllLive (set_value_at es i other) made
+  all_live-set es made i found all = record {
+    numbered = numbers-set es i found ∙ all.numbered ∙ ap (range_with_len 0) (sym (length-set_value_at es i other));
+    counted = all.counted ∙ sym (length-set_value_at es i other);
+  }
+
+-- the same counter at its place
+pub set-same : (es : List (KeyText × CounterText)) (i : ℕ) (counter : CounterText) → slice_get (values_of es) i ≡ Some counter → set_value_at es i counter ≡ es
+set-same [] i counter found = refl
+set-same (e ∷ es) zero counter found = let is : counter ≡ e.1 = cc in ap (λ c. (e.0, c) ∷ es) is
+set-same (e ∷ es) (suc i) counter found = ap (λ l. e ∷ l) (set-same es i counter found)
 
 -- ---- a page
 

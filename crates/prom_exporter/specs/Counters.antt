@@ -1,5 +1,5 @@
 -- Counters as the exporter keeps them, and the state and the families that they make.
-use Rattle.std.specs.Prelude.{◌≡◌, ℕ, List, [], ◌∷◌, map, filter, flat_map, length, None, bytes_eq}
+use Rattle.std.specs.Prelude.{◌≡◌, ℕ, List, [], map, filter, length, None, bytes_eq}
 use Rattle.std.specs.List.{range_with_len}
 use Rattle.metrics_core.specs.declared.kinds.MetricKind.TheVariants as kinds
 use Rattle.metrics_core.specs.Numbers.{whole}
