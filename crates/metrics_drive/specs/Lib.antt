@@ -1,0 +1,5 @@
+pub mod Play
+pub mod Headline
+pub mod Answers
+pub mod Reading
+pub mod Vectors
