@@ -1,6 +1,9 @@
 -- A list in groups by name, and what one more member changes.
 use Rattle.std.proofs.Common.{◌≡◌, ℕ, Bool, true, false, cond, not, ◌||◌, List, [], ◌∷◌, ◌++◌, map, filter, refl, sym, ap, ◌∙◌, append-nil}
-use Rattle.std.specs.Prelude.{bytes_eq, if◌then◌else◌}
+use Rattle.std.specs.Prelude.{String, string_bytes, unwrap_or, bytes_eq, if◌then◌else◌}
+use Rattle.std.specs.String.{string_eq}
+use Rattle.std.specs.Map.{lookup}
+use Rattle.indexmap.specs.IndexMap.{insert_entry}
 use Rattle.std.specs.List.{list_any}
 use Rattle.std.specs.Cmp.Lexicographic.{nat_list_eq_equiv}
 use Rattle.std.proofs.lemmas.Bool.{true≢false, or_parts}
@@ -154,3 +157,26 @@ module _ {X : Type 0} (name_of : X → List ℕ) where
       ap (λ ns. gathered (xs ++ x ∷ []) (distinct ns)) (map-append name_of xs (x ∷ []))
       ∙ ap (gathered (xs ++ x ∷ [])) (distinct-push (map name_of xs) (name_of x))
       ∙ gathered-push xs x (distinct (map name_of xs)) (distinct-apart (map name_of xs)) (λ e. named_none (name_of x) xs (sym (any_distinct (name_of x) (map name_of xs)) ∙ e))
+
+-- ---- groups in a map
+
+-- entries by name: the group of a name takes one more member, or a new one goes last
+module _ {Y V X : Type 0} (view : V → List X) (name : String Y) (group empty : V) (x : X) (none : view empty ≡ []) where
+  abbrev shown : String Y × V → List ℕ × List X
+  shown e = (string_bytes e.0, view e.1)
+
+  entries_step : (e : String Y × V) (es : List (String Y × V)) (b : Bool) → bytes_eq (string_bytes name) (string_bytes e.0) ≡ b
+      → view group ≡ view (unwrap_or (lookup (string_eq name) (e ∷ es)) empty) ++ x ∷ []
+      → (view group ≡ view (unwrap_or (lookup (string_eq name) es) empty) ++ x ∷ [] → map shown (insert_entry string_eq es name group) ≡ with_member (map shown es) (string_bytes name) x)
+      → map shown (insert_entry string_eq (e ∷ es) name group) ≡ with_member (map shown (e ∷ es)) (string_bytes name) x
+  entries_step e es true is more rest = rw is (ap (λ l. (string_bytes e.0, l) ∷ map shown es) (rw is at more))
+  entries_step e es false is more rest = rw is (ap (λ l. shown e ∷ l) (rest (rw is at more)))
+
+  pub entries-insert_entry : (es : List (String Y × V)) → view group ≡ view (unwrap_or (lookup (string_eq name) es) empty) ++ x ∷ []
+      → map shown (insert_entry string_eq es name group) ≡ with_member (map shown es) (string_bytes name) x
+  entries-insert_entry [] more = ap (λ l. (string_bytes name, l) ∷ []) (more ∙ ap (λ l. l ++ x ∷ []) none)
+  entries-insert_entry (e ∷ es) more = entries_step e es (bytes_eq (string_bytes name) (string_bytes e.0)) refl more (entries-insert_entry es)
+
+-- the same of entries that are given by an equation
+pub shown_entries : {K V X : Type 0} (view : K × V → X) (es fs : List (K × V)) (xs : List X) → es ≡ fs → map view fs ≡ xs → map view es ≡ xs
+shown_entries view es fs xs same is = ap (map view) same ∙ is

@@ -4,6 +4,7 @@
 mod builder;
 mod counters;
 mod errors;
+mod families;
 mod state;
 
 pub use builder::PrometheusBuilder;
