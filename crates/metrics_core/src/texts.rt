@@ -20,7 +20,7 @@ ghost use Rattle.metrics_core.specs.Texts.{
 ghost use Rattle.metrics_core.specs.TextLaws.{text_hash_input_respects};
 
 use crate::Memory;
-use std::alloc::Global;
+use std::alloc::{AllocError, Global};
 use std::cmp::Ordering;
 use std::convert::AsStr;
 use std::hash::{Hash, Hasher};
@@ -145,6 +145,19 @@ impl<'a> CowStr<'a> {
         match self {
             CowStr::Borrowed(text) => Ok(borrow::CowStr::Borrowed(text)),
             held => Ok(borrow::CowStr::Owned(held.into_owned(alloc)?)),
+        }
+    }
+}
+
+/// An owned text is copied by the allocator that it has.
+impl Clone for CowStr<'_> {
+    ghost is_clone = { λ cow copy. (cow_text copy ≡ cow_text cow) × (holding_of copy ≡ holding_of cow) };
+
+    fn clone(&self) -> Result<Self, AllocError> {
+        match self {
+            CowStr::Owned(text) => Ok(CowStr::Owned(text.clone()?)),
+            CowStr::Borrowed(text) => Ok(CowStr::Borrowed(text)),
+            CowStr::Shared(text) => Ok(CowStr::Shared(text.clone()?)),
         }
     }
 }
