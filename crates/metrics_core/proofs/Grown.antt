@@ -27,11 +27,14 @@ grew_front-append (Some before) b c x y h k = by b h k
   where
     by : (b : Option (List ℕ)) → b ≡ Some (before ++ x) → GrewByFront b c y → (rest : List ℕ) × WrittenUpTo before c (x ++ y) rest
     by None e k = cc
-    by (Some middle) e (rest, up) = (rest, record {
-      front = x ++ up.front;
-      cut = ap (λ m. x ++ m) up.cut ∙ sym (append_assoc x up.front rest);
-      written = up.written ∙ ap (λ m. Some (m ++ up.front)) (some_injective e) ∙ ap Some (append_assoc before x up.front);
-    })
+    by (Some middle) e (rest, up) = (
+      rest,
+      record {
+        front = x ++ up.front;
+        cut = ap (λ m. x ++ m) up.cut ∙ sym (append_assoc x up.front rest);
+        written = up.written ∙ ap (λ m. Some (m ++ up.front)) (some_injective e) ∙ ap Some (append_assoc before x up.front);
+      },
+    )
       where
         some_injective : Some middle ≡ Some (before ++ x) → middle ≡ before ++ x
         some_injective e = cc
@@ -39,11 +42,14 @@ grew_front-append (Some before) b c x y h k = by b h k
 -- a growth by a front of some bytes is one by a front of these bytes and more
 pub grew_front-longer : (a b : Option (List ℕ)) (x y : List ℕ) → GrewByFront a b x → GrewByFront a b (x ++ y)
 grew_front-longer None b x y h = tt
-grew_front-longer (Some before) b x y (rest, up) = (rest ++ y, record {
-  front = up.front;
-  cut = ap (λ m. m ++ y) up.cut ∙ append_assoc up.front rest y;
-  written = up.written;
-})
+grew_front-longer (Some before) b x y (rest, up) = (
+  rest ++ y,
+  record {
+    front = up.front;
+    cut = ap (λ m. m ++ y) up.cut ∙ append_assoc up.front rest y;
+    written = up.written;
+  },
+)
 
 -- a growth by the whole is one by a front
 pub grew_front-whole : (a b : Option (List ℕ)) (x : List ℕ) → GrewBy a b x → GrewByFront a b x

@@ -2,6 +2,7 @@ pub mod Characters
 pub mod Numbers
 pub mod Keys
 pub mod Texts
+pub mod TextLaws
 pub mod Lists
 pub mod Hashes
 pub mod KeyLaws

@@ -1,26 +1,29 @@
 //! The names and keys of series.
 
-ghost use Rattle.std.specs.Prelude.{◌≡◌, ℕ, ◌^◌, ◌<◌, [], length, string_bytes, bytes_eq, IfOk};
+ghost use Rattle.std.specs.Prelude.{◌≡◌, ℕ, ◌^◌, ◌<◌, [], length, string_bytes, bytes_eq, IfOk, Some, refl};
 ghost use Rattle.std.specs.Cmp.{partial_equiv_from_equiv};
-ghost use Rattle.std.specs.Cmp.Lexicographic.{nat_list_eq_equiv};
+ghost use Rattle.std.specs.Cmp.Lexicographic.{slice_cmp, nat_list_eq_equiv, nat_list_cmp_total, texts_po, texts_ties};
+ghost use Rattle.std.specs.Ordering.{nat_cmp};
 ghost use Rattle.std.specs.Hash as fed;
 ghost use Rattle.std.specs.Slice.Iter.{iter_rest};
 ghost use Rattle.std.specs.Iterator.Adapters.{IterYieldsInOrder};
 ghost use Rattle.metrics_core.specs.Texts.{cow_text};
 ghost use Rattle.metrics_core.specs.Keys.{LabelText, key_eq};
 ghost use Rattle.metrics_core.specs.Hashes.{key_hash};
-ghost use Rattle.metrics_core.specs.KeyLaws.{name_hash_input_respects, key_eq_laws, key_hash_respects};
+ghost use Rattle.metrics_core.specs.KeyLaws.{key_eq_laws, key_hash_respects};
+ghost use Rattle.metrics_core.specs.TextLaws.{text_hash_input_respects};
 
 use crate::hashes::hash_with_seed;
 use crate::labels::{add_hashes, are_same, clone_all};
 use crate::{CowSlice, Label, Memory, SharedString};
 use std::alloc::Global;
+use std::cmp::Ordering;
 use std::hash::{Hash, Hasher};
 use std::marker::Model;
 use std::slice;
 
 /// The name of a metric: any text. A contract sees it as its UTF-8 bytes.
-#[derive(Drop)]
+#[derive(Debug, Drop)]
 pub struct KeyName {
     text: SharedString,
 }
@@ -35,11 +38,37 @@ impl Model for KeyName {
 }
 
 impl KeyName {
+    /// The name of a text that lives as long as the program.
+    pub fn from_const_str(text: &'static str) -> KeyName
+        ensures text { result ≡ text.now }
+    {
+        KeyName {
+            text: SharedString::const_str(text),
+        }
+    }
+
     /// The text of the name.
     pub fn as_str(&self) -> &str
         ensures text { result.now ≡ self.now }
     {
         self.text.as_str()
+    }
+
+    /// The text of the name, held as the name held it.
+    pub fn into_inner(self) -> SharedString
+        ensures text { cow_text result ≡ self }
+    {
+        let KeyName { text } = self;
+        text
+    }
+
+    /// The same name, held so that a copy of it takes no new text.
+    pub fn to_retained(&self, alloc: Global) -> Result<KeyName, Memory>
+        ensures same { IfOk result (λ copy. copy ≡ self.now) }
+    {
+        Ok(KeyName {
+            text: self.text.to_retained(alloc)?,
+        })
     }
 
     /// The same name.
@@ -84,10 +113,34 @@ impl Eq for KeyName {
     ghost laws = { nat_list_eq_equiv };
 }
 
+impl PartialOrd for KeyName {
+    ghost partial_cmp = { λ a b. Some (slice_cmp nat_cmp a b) };
+
+    ghost laws = { texts_po };
+
+    fn partial_cmp(&self, other: &KeyName) -> Option<Ordering> {
+        Some(self.cmp(other))
+    }
+}
+
+impl Ord for KeyName {
+    ghost cmp = { slice_cmp nat_cmp };
+
+    ghost total = { nat_list_cmp_total };
+
+    ghost matches_partial_cmp = { λ a b. refl };
+
+    ghost matches_eq = { texts_ties };
+
+    fn cmp(&self, other: &KeyName) -> Ordering {
+        self.as_str().cmp(other.as_str())
+    }
+}
+
 impl Hash for KeyName {
     ghost hash_input = { fed.str };
 
-    ghost respects_eq = { name_hash_input_respects };
+    ghost respects_eq = { text_hash_input_respects };
 
     fn hash<H: Hasher>(&self, state: &mut H) {
         self.as_str().hash(state);
