@@ -1,3 +1,4 @@
 pub mod Groups
 pub mod States
-pub mod Pages
+pub mod CounterPages
+pub mod Progress

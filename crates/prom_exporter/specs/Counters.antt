@@ -1,6 +1,11 @@
 -- Counters as the exporter keeps them, and the state and the families that they make.
-use Rattle.std.specs.Prelude.{◌≡◌, ℕ, List, [], map, filter, length, None, bytes_eq}
+use Rattle.std.specs.Prelude.{string_bytes, ◌≡◌, ℕ, List, [], map, filter, length, None, bytes_eq}
 use Rattle.std.specs.List.{range_with_len}
+use Rattle.std.specs.Borrow.{Bor}
+use Rattle.std.specs.Map.Iter.{deref_pair}
+use Rattle.std.specs.declared.string.String.{String}
+use Rattle.std.specs.declared.vec.Vec.{Vec}
+use Rattle.std.specs.declared.alloc.Global.{Global}
 use Rattle.metrics_core.specs.declared.kinds.MetricKind.TheVariants as kinds
 use Rattle.metrics_core.specs.Numbers.{whole}
 use Rattle.metrics_core.specs.Keys.{KeyText, LabelText}
@@ -47,6 +52,10 @@ grouped name_of xs = map (λ name. (name, named name_of xs name)) (distinct (map
 
 abbrev pub metric_name : KeyText × CounterText → List ℕ
 metric_name counter = sanitized_metric_name counter.0.name
+
+-- a group as the program has it: the text of its name, and references to its members
+abbrev pub group_of : String Global × Vec (Bor KeyText × Bor CounterText) Global → List ℕ × List (KeyText × CounterText)
+group_of group = (string_bytes group.0, map deref_pair group.1.items)
 
 -- the row of a counter under a metric name
 abbrev pub counter_row : List LabelText → List ℕ → KeyText × CounterText → Row

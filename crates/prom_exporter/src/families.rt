@@ -1,8 +1,7 @@
 //! The families of counters on a page.
 
-ghost use Rattle.std.specs.Prelude.{◌≡◌, map, IfOk, string_bytes};
-ghost use Rattle.std.specs.Map.Iter.{deref_pair};
-ghost use Rattle.prom_exporter.specs.Counters.{grouped, metric_name};
+ghost use Rattle.std.specs.Prelude.{◌≡◌, map, IfOk};
+ghost use Rattle.prom_exporter.specs.Counters.{group_of, grouped, metric_name};
 
 use crate::counters::CounterSeries;
 use indexmap::IndexMap;
@@ -18,7 +17,7 @@ pub(crate) fn counter_families<'a>(
     alloc: Global,
     counters: &'a IndexMap<Key, CounterSeries>,
 ) -> Result<IndexMap<String, Members<'a>>, Memory>
-    ensures { IfOk result (λ families. map (λ family. (string_bytes family.0, map deref_pair family.1.items)) families.entries ≡ grouped metric_name counters.now.entries) }
+    ensures { IfOk result (λ families. map group_of families.entries ≡ grouped metric_name counters.now.entries) }
 {
     let mut families = IndexMap::new(alloc);
     for (key, counter) in counters.iter() {

@@ -5,6 +5,7 @@ mod builder;
 mod counters;
 mod errors;
 mod families;
+mod pages;
 mod state;
 
 pub use builder::PrometheusBuilder;

@@ -5,7 +5,7 @@ use Rattle.std.specs.Map.Iter.{deref_pair}
 use Rattle.std.proofs.lemmas.List.{map-append}
 use Rattle.indexmap.specs.Entry.{map_with_value}
 use Rattle.prom_format.specs.Names.{sanitized_metric_name}
-use Rattle.prom_exporter.specs.Counters.{grouped, metric_name}
+use Rattle.prom_exporter.specs.Counters.{group_of, grouped, metric_name}
 use Rattle.prom_exporter.proofs.Groups.{with_member, grouped-push, entries-insert_entry, shown_entries}
 use Rattle.prom_exporter.proofs.families.counter_families.Goals as goal
 use Rattle.prom_exporter.proofs.families.counter_families.Goals.{In_ok-push}
@@ -21,7 +21,7 @@ loop-key-preserved c =
     ∙ map-append deref_pair c.or_insert-members.result.now.items ((c.in-Some.key, c.in-Some.counter) ∷ [])
     ∙ ap (λ members. map deref_pair members.items ++ member ∷ []) (c.or_insert-members.ensures.value ∙ ap (λ found. unwrap_or found c.new.result) c.in_ok-families.ensures.value) in
     shown_entries _ _ (map_with_value c.in_ok-families.field-0 group).entries _ (search rules)
-    (ap (map (λ family. (string_bytes family.0, map deref_pair family.1.items))) (c.in_ok-families.ensures.update.1 group)
+    (ap (map group_of) (c.in_ok-families.ensures.update.1 group)
     ∙ entries-insert_entry (λ members. map deref_pair members.items) name group c.new.result member (ap (map deref_pair) c.new.ensures.items) c.loop-key.families.entries more
     ∙ ap (λ groups. with_member groups (string_bytes name) member) c.loop-key.invariant
     ∙ ap (λ n. with_member (grouped metric_name so_far) n member) (c.in_ok-name.ensures ∙ ap sanitized_metric_name c.name.ensures.text)

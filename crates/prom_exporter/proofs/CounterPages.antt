@@ -1,6 +1,6 @@
 -- The page of a state of counters: its families are the groups of its counters.
 use Rattle.std.proofs.Common.{◌≡◌, ℕ, Bool, true, false, List, [], ◌∷◌, ◌++◌, map, filter, filter_map, None, refl, sym, ap, ◌∙◌, append-nil, append_assoc}
-use Rattle.std.specs.Prelude.{codes, bytes_eq, decimal, flat_map}
+use Rattle.std.specs.Prelude.{Option, Some, codes, bytes_eq, decimal, flat_map}
 use Rattle.std.proofs.lemmas.Slice.Eq.{bytes_eq-Decides}
 use Rattle.metrics_core.specs.Characters.{line}
 use Rattle.metrics_core.specs.declared.kinds.MetricKind.TheVariants as kinds
@@ -8,9 +8,14 @@ use Rattle.metrics_core.specs.Numbers.{whole, page_number}
 use Rattle.metrics_core.specs.Keys.{KeyText, LabelText, label_set}
 use Rattle.metrics_core.specs.Calls.{counter_value}
 use Rattle.prom_format.specs.Names.{sanitized_metric_name}
-use Rattle.prom_format.specs.Pages.{Family, label_text, labels_text, label_set_text, row_text, body_text}
+use Rattle.prom_format.specs.Pages.{Family, label_text, labels_text, label_set_text, row_text, body_text, block_text}
 use Rattle.prom_format.specs.Lines.{shown_label, shown_label_set, braced, behind_commas, metric_line}
 use Rattle.prom_format.specs.declared.families.FamilyType.TheVariants as types
+use Rattle.std.specs.Iterator.{Yields}
+use Rattle.std.specs.Map.Iter.{TakesFirst}
+use Rattle.std.proofs.lemmas.Map.Iter.{rest_so_far, rest_more}
+use Rattle.std.proofs.lemmas.Grind.{flat_map-append}
+use Rattle.std.proofs.lemmas.List.{map-append}
 use Rattle.prom_exporter.specs.State.{Series, PrometheusState}
 use Rattle.prom_exporter.specs.Families.{distinct, series_of_kind, names_of_kind, counter_suffix, counter_rows, gauge_rows, family_of, distribution_of, distribution_family, families_at}
 use Rattle.prom_exporter.specs.Exporter.{default_settings, page_body}
@@ -119,3 +124,35 @@ pub row_text-counter : (globals : List LabelText) (name : List ℕ) (counter : K
     → row_text (counter_row globals name counter) ≡ metric_line name None (label_set globals counter.0.labels) None (decimal (counter_value counter.1.calls)) None
 row_text-counter globals name counter number =
     (λ j. line (name ++ label_set_braced (label_set globals counter.0.labels) j ++ codes " " ++ number j))
+
+-- ---- a body, family by family
+
+module _ {E X : Type 0} (shown : X → Family) (seen : E → X) where
+  abbrev body : List E → List ℕ
+  body es = body_text (map shown (map seen es))
+
+  pub body-append : (es fs : List E) → body (es ++ fs) ≡ body es ++ body fs
+  body-append es fs =
+      ap (λ l. body_text (map shown l)) (map-append seen es fs)
+      ∙ ap body_text (map-append shown (map seen es) (map seen fs))
+      ∙ flat_map-append block_text (map shown (map seen es)) (map shown (map seen fs))
+
+  pub body-push : (es : List E) (e : E) → body (es ++ e ∷ []) ≡ body es ++ block_text (shown (seen e))
+  body-push es e = body-append es (e ∷ []) ∙ ap (λ l. body es ++ l) (append-nil (block_text (shown (seen e))))
+
+  -- a loop over all has gone over some, and others are left
+  module _ {A : Type 0} (deref : A → E) (some : List A) where
+    pub body-yielded : (all start left : List E) → start ≡ all → Yields (TakesFirst deref) start some left → body all ≡ body (map deref some) ++ body left
+    body-yielded all start left from yielded = ap body (sym from ∙ rest_so_far deref some start left yielded) ∙ body-append (map deref some) left
+
+    -- one more
+    pub body-yielded_push : (x : A) → body (map deref (some ++ x ∷ [])) ≡ body (map deref some) ++ block_text (shown (seen (deref x)))
+    body-yielded_push x = ap body (map-append deref some (x ∷ [])) ∙ body-push (map deref some) (deref x)
+
+    pub body-yielded_more : (all start left after : List E) (x : A) (r : Option A) → start ≡ all → Yields (TakesFirst deref) start some left → r ≡ Some x → TakesFirst deref left r after
+        → body all ≡ body (map deref (some ++ x ∷ [])) ++ body after
+    body-yielded_more all start left after x r from yielded is step =
+        body-yielded all start left from yielded
+        ∙ ap (λ l. body (map deref some) ++ body l) (rest_more deref left after r x is step)
+        ∙ sym (append_assoc (body (map deref some)) (block_text (shown (seen (deref x)))) (body after))
+        ∙ ap (λ l. l ++ body after) (sym (body-yielded_push x))
