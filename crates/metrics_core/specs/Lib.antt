@@ -1,6 +1,7 @@
 pub mod Characters
 pub mod Numbers
 pub mod Keys
+pub mod Pairs
 pub mod Texts
 pub mod TextLaws
 pub mod Lists
