@@ -8,6 +8,9 @@ pub mod Lists
 pub mod Hashes
 pub mod KeyLaws
 pub mod Units
+pub mod UnitLaws
+pub mod Levels
+pub mod LevelLaws
 pub mod Kinds
 pub mod Calls
 pub mod Series
