@@ -1,6 +1,6 @@
 //! The values that a script is read into. Handles count the register lines of the whole script, from 0.
 
-use metrics_core::{Key, MetricKind};
+use metrics_core::Key;
 
 /// A script: its rounds, in the order in which they are played.
 #[derive(Drop)]
@@ -16,11 +16,11 @@ pub struct Round {
     pub calls: Vec<CallLine>,
 }
 
-/// What a setup line does on the exporters.
+/// What a setup line does on the exporter. A line that isn't built yet has no variant.
 #[derive(Drop)]
 pub enum Setup {
-    /// Registers a series of a kind under a key.
-    Register { kind: MetricKind, key: Key },
+    /// Registers a counter under a key.
+    RegisterCounter { key: Key },
 }
 
 /// A call of a lane on the series of a register line.

@@ -105,3 +105,9 @@ pub record IsSaid (left : Option (List ℕ)) (ErrFailed : Type 0) (said said' : 
   pub text : List ℕ
   pub meant : IsLineOf left status text
   pub written : ErrFailed ⊎ GrewBy said said' text
+
+-- why a play ended before its last page: the sink failed, or memory was wanting
+abbrev pub IsPlayFault : Type 0 → DriveFault → Type 0
+IsPlayFault SinkFailed faults.WriteFault = SinkFailed
+IsPlayFault SinkFailed faults.Memory = Unit {0}
+IsPlayFault SinkFailed _ = ⊥

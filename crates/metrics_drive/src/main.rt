@@ -2,7 +2,7 @@
 #![tactic(auto)]
 
 //mod drive;
-//mod play;
+mod play;
 mod reading;
 mod report;
 //mod run;
