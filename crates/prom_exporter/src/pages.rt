@@ -12,7 +12,7 @@ use crate::counters::CounterSeries;
 use crate::families::Members;
 use indexmap::IndexMap;
 use metrics_core::{Key, Memory, Sink, write_whole};
-use prom_format::write_type_line;
+use prom_format::{LabelSet, push_count, write_metric_line, write_type_line};
 use std::alloc::Global;
 
 /// Where so many bytes of a page are in memory they go to the sink.
@@ -80,5 +80,8 @@ fn push_row(
 ) -> Result<(), Memory>
     ensures { OnOk result (string_bytes buffer.new ≡ string_bytes buffer.old ++ row_text (counter_row (labels_of globals.now.entries) name.now (key.now, counter.now))) }
 {
-    Err(Memory)
+    let labels = LabelSet::from_key_and_global(alloc, key, globals)?;
+    let mut value = String::new(alloc);
+    push_count(&mut value, counter.total())?;
+    write_metric_line(buffer, name, None, &labels, None, value.as_str(), None)
 }

@@ -9,6 +9,8 @@ ghost use Rattle.prom_exporter.specs.Exporter.{Exporter, default_settings, stepp
 
 use crate::BuildError;
 use crate::counters::CounterSeries;
+use crate::families::counter_families;
+use crate::pages::write_families;
 use indexmap::IndexMap;
 use metrics_core::{Key, Memory, MetricKind, SeriesCall, SeriesId, Sink};
 use std::alloc::Global;
@@ -85,21 +87,22 @@ impl PrometheusState {
     /// the sink fails a front of it was written.
     pub fn render_to_write<K: Sink>(
         &mut self,
-        _alloc: Global,
+        alloc: Global,
         moment: u64,
-        _sink: &mut K,
+        sink: &mut K,
     ) -> Result<(), BuildError>
         ensures stepped { OnOk result (self.new ≡ stepped moment self.old) }
         ensures failed { result ≡ Err BuildError.WriteFault → self.new ≡ stepped moment self.old }
         ensures refused { result ≡ Err BuildError.Memory → (self.new ≡ self.old) ⊎ (self.new ≡ stepped moment self.old) }
 
-        ensures body { OnOk result (GrewBy (K.written _sink.old) (K.written _sink.new) (page_body moment self.old)) }
-        ensures front { OnErr result (GrewByFront (K.written _sink.old) (K.written _sink.new) (page_body moment self.old)) }
+        ensures body { OnOk result (GrewBy (K.written sink.old) (K.written sink.new) (page_body moment self.old)) }
+        ensures front { OnErr result (GrewByFront (K.written sink.old) (K.written sink.new) (page_body moment self.old)) }
 
-        ensures cause { result ≡ Err BuildError.WriteFault → Rose (K.faults _sink.old) (K.faults _sink.new) }
-        ensures never_falls { K.faults _sink.old ≤ K.faults _sink.new }
+        ensures cause { result ≡ Err BuildError.WriteFault → Rose (K.faults sink.old) (K.faults sink.new) }
+        ensures never_falls { K.faults sink.old ≤ K.faults sink.new }
     {
-        Err(BuildError::Memory)
+        let families = counter_families(alloc, &self.counters)?;
+        write_families(alloc, &families, &IndexMap::new(alloc), sink)
     }
 }
 

@@ -1,8 +1,7 @@
-use Rattle.std.proofs.Common.{◌≡◌, ◌++◌, map, string_bytes, List, [], ◌∷◌, sym, ap, subst, ◌∙◌, arith}
+use Rattle.std.proofs.Common.{◌≡◌, ◌++◌, map, string_bytes, [], ◌∷◌, ◌∙◌, arith}
 use Rattle.std.specs.Map.Iter.{deref_pair}
 use Rattle.std.proofs.lemmas.Map.Iter.{iter_end}
 use Rattle.std.proofs.lemmas.Result.{err_from_is_err_and}
-use Rattle.metrics_core.specs.Outside.{GrewBy, GrewByFront}
 use Rattle.prom_format.specs.LabelSets.{labels_of}
 use Rattle.prom_format.specs.Pages.{block_text, body_text}
 use Rattle.prom_exporter.specs.Counters.{group_of, counter_family}
