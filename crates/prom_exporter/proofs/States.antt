@@ -1,9 +1,11 @@
 -- The state that counters make: what registering, calling and a page do to it.
-use Rattle.std.proofs.Common.{◌≡◌, ◌≢◌, ℕ, zero, suc, ◌+◌, ◌<◌, ◌≤◌, true, false, cond, ◌&&◌, eqb, List, [], ◌∷◌, ◌++◌, map, filter_map, length, Option, None, Some, refl, sym, ap, ◌∙◌, arith, length-append}
+use Rattle.std.proofs.Common.{◌≡◌, ◌≢◌, ℕ, zero, suc, ◌+◌, ◌<◌, ◌≤◌, true, false, cond, ◌&&◌, eqb, List, [], ◌∷◌, ◌++◌, map, filter_map, length, Option, None, Some, refl, sym, ap, subst, ◌∙◌, arith, length-append}
 use Rattle.std.specs.Prelude.{◌==◌, unwrap_or, option_map, is_some, slice_get}
 use Rattle.std.specs.List.{list_any, range_with_len}
 use Rattle.std.specs.Map.{lookup, values_of}
 use Rattle.std.proofs.lemmas.Bool.{ne_eqb, eq-eqb}
+use Rattle.std.specs.List.{All}
+use Rattle.std.proofs.lemmas.List.Elements.{All-head, All-tail}
 use Rattle.std.proofs.lemmas.List.{map-append}
 use Rattle.indexmap.specs.Layout.{set_value_at, length-set_value_at}
 use Rattle.metrics_core.specs.declared.kinds.MetricKind.{MetricKind}
@@ -185,6 +187,13 @@ pub set-same : (es : List (KeyText × CounterText)) (i : ℕ) (counter : Counter
 set-same [] i counter found = refl
 set-same (e ∷ es) zero counter found = let is : counter ≡ e.1 = cc in ap (λ c. (e.0, c) ∷ es) is
 set-same (e ∷ es) (suc i) counter found = ap (λ l. e ∷ l) (set-same es i counter found)
+
+-- what holds of all live series holds of the counter at a place
+pub live-place : (P : Series → Type 0) (es : List (KeyText × CounterText)) (i : ℕ) (counter : CounterText) → All P (map series_of es) → slice_get (values_of es) i ≡ Some counter → (key : KeyText) × P (series_of (key, counter))
+live-place P [] i counter all found = cc
+live-place P (e ∷ es) zero counter all found =
+    let is : e.1 ≡ counter = cc in (e.0, subst (λ c. P (series_of (e.0, c))) is (All-head P (series_of e) (map series_of es) all))
+live-place P (e ∷ es) (suc i) counter all found = live-place P es i counter (All-tail P (series_of e) (map series_of es) all) found
 
 -- ---- a page
 

@@ -1,6 +1,6 @@
 //! The state of the exporter: its live series, in order of registration.
 
-ghost use Rattle.std.specs.Prelude.{◌≡◌, ◌≤◌, ◌⊎◌, IfOk, OnErr, OnOk, IfErr};
+ghost use Rattle.std.specs.Prelude.{◌≡◌, ◌-◌, ◌^◌, ◌<◌, ◌≤◌, ◌⊎◌, length, All, IsOk, IfOk, OnErr, OnOk};
 ghost use Rattle.metrics_core.specs.declared.kinds.MetricKind.TheVariants.{Counter};
 ghost use Rattle.metrics_core.specs.Outside.{Rose, GrewBy, GrewByFront};
 ghost use Rattle.metrics_core.specs.Series.{call_of};
@@ -60,18 +60,20 @@ impl PrometheusState {
         if number == u64::MAX {
             return Ok(counter_id(number));
         }
-        self.counters
-            .insert(key.clone(alloc)?, CounterSeries::new(alloc, number))?;
+        let series = CounterSeries::new(alloc, number)?;
+        let key = key.clone(alloc)?;
+        self.counters.insert(key, series)?;
         self.made += 1;
         Ok(counter_id(number))
     }
 
     /// Makes a call on a series. Answers false exactly where no series of the id's kind is live under its number, and
-    /// then nothing changed. Calls on counters take no memory.
+    /// then nothing changed. It is refused only at a series with 2^63 - 1 calls, since calls on counters take no memory.
     pub fn apply(&mut self, alloc: Global, id: SeriesId, call: SeriesCall) -> Result<bool, Memory>
         ensures called { OnOk result (self.new ≡ record self.old { state = call_on id.kind id.number (call_of call) self.old.state }) }
         ensures live { IfOk result (λ live. live ≡ is_live id.kind id.number self.old.state) }
         ensures refused { OnErr result (self.new ≡ self.old) }
+        ensures succeeds { All (λ series. length series.calls < 2 ^ 63 - 1) self.old.state.live → IsOk result }
     {
         if id.number >= self.made {
             return Ok(false);

@@ -1,4 +1,6 @@
-use Rattle.std.proofs.Common.{◌≡◌, ◌⊎◌, inl, inr, false, sym, ap, ◌∙◌, arith}
+use Rattle.std.proofs.Common.{◌≡◌, ◌-◌, ◌^◌, ◌<◌, map, length, subst, ◌⊎◌, inl, inr, false, sym, ap, ◌∙◌, arith}
+use Rattle.std.specs.List.{All}
+use Rattle.std.proofs.lemmas.Bool.{false≢true}
 use Rattle.std.proofs.lemmas.Result.{err_from_is_err_and}
 use Rattle.indexmap.specs.Layout.{set_value_at}
 use Rattle.metrics_core.specs.declared.kinds.MetricKind.{MetricKind}
@@ -7,8 +9,8 @@ use Rattle.metrics_core.specs.Kinds.{kind_eq}
 use Rattle.metrics_core.specs.Series.{call_of}
 use Rattle.prom_exporter.specs.State.{PrometheusState}
 use Rattle.prom_exporter.specs.Exporter.{Exporter, default_settings}
-use Rattle.prom_exporter.specs.Counters.{state_of}
-use Rattle.prom_exporter.proofs.States.{call_on-place, is_live-place, call_on-none, is_live-none, call_on-other, is_live-other, all_live-set, set-same}
+use Rattle.prom_exporter.specs.Counters.{state_of, series_of}
+use Rattle.prom_exporter.proofs.States.{call_on-place, is_live-place, call_on-none, is_live-none, call_on-other, is_live-other, all_live-set, set-same, live-place}
 use Rattle.prom_exporter.proofs.state.PrometheusState.apply.Goals as goal
 use Rattle.prom_exporter.proofs.state.PrometheusState.apply.Goals.{In_ok-call-in-Counter}
 
@@ -43,12 +45,19 @@ returns-in_err-call-in-Counter-clause-refused c =
     let refusal = err_from_is_err_and c.from_residual.result c.from_residual.ensures.1 in
     rw refusal.1 (ap (λ es. exporter (state_of es c.self.inside.made)) same ∙ c.self.view_is)
 
-pub returns-in-Gauge : goal.returns-in-Gauge
-returns-in-Gauge c = record {
-  called = rw (← c.self.view_is) (ap exporter (sym (call_on-other c.args.id.number (call_of c.args.call) c.self.inside.made c.args.id.kind (no_counter c.args.id.kind c.in-Gauge.is) c.self.inside.counters.entries)));
-  live = rw (← c.self.view_is) (sym (is_live-other c.args.id.number c.self.inside.made c.args.id.kind (no_counter c.args.id.kind c.in-Gauge.is) c.self.inside.counters.entries));
-  refused = tt;
-}
+pub returns-in_err-call-in-Counter-clause-succeeds : goal.returns-in_err-call-in-Counter-clause-succeeds
+returns-in_err-call-in-Counter-clause-succeeds c all =
+    let live : All (λ series. length series.calls < 2 ^ 63 - 1) (map series_of c.self.inside.counters.entries) = subst (λ s. All (λ series. length series.calls < 2 ^ 63 - 1) s.state.live) (sym c.self.view_is) all in
+    let short = live-place (λ series. length series.calls < 2 ^ 63 - 1) c.self.inside.counters.entries c.args.id.number c.index_mut.result.now live c.index_mut.ensures.value in
+    absurd (false≢true (c.in_err-call-in-Counter.ensures.succeeds short.1))
+
+pub returns-in-Gauge-clause-called : goal.returns-in-Gauge-clause-called
+returns-in-Gauge-clause-called c =
+    rw (← c.self.view_is) (ap exporter (sym (call_on-other c.args.id.number (call_of c.args.call) c.self.inside.made c.args.id.kind (no_counter c.args.id.kind c.in-Gauge.is) c.self.inside.counters.entries)))
+
+pub returns-in-Gauge-clause-live : goal.returns-in-Gauge-clause-live
+returns-in-Gauge-clause-live c =
+    rw (← c.self.view_is) (sym (is_live-other c.args.id.number c.self.inside.made c.args.id.kind (no_counter c.args.id.kind c.in-Gauge.is) c.self.inside.counters.entries))
 
 pub returns-clause-called : goal.returns-clause-called
 returns-clause-called c =

@@ -17,10 +17,10 @@ exporter state = record { settings = default_settings; state = state }
 -- the entries with the new counter last
 grown : (c : After-counter_id-2) → c.insert.new.self.entries ≡ c.self.inside.counters.entries ++ (c.args.key.now, record { number = c.self.inside.made; calls = [] }) ∷ []
 grown c =
-    let absent : lookup (key_eq c.in_ok-clone.field-0) c.self.inside.counters.entries ≡ None = rw c.in_ok-clone.ensures.same (sym c.in_default.ensures.value) in
+    let absent : lookup (key_eq c.in_ok-key.key) c.self.inside.counters.entries ≡ None = rw c.in_ok-key.ensures.same (sym c.in_default.ensures.value) in
     c.in_ok-insert.ensures.entries
-    ∙ insert_entry-new key_eq c.self.inside.counters c.in_ok-clone.field-0 c.new.result absent
-    ∙ (λ j. c.self.inside.counters.entries ++ (c.in_ok-clone.ensures.same j, c.new.ensures j) ∷ [])
+    ∙ insert_entry-new key_eq c.self.inside.counters c.in_ok-key.key c.in_ok-series.series absent
+    ∙ (λ j. c.self.inside.counters.entries ++ (c.in_ok-key.ensures.same j, c.in_ok-series.ensures j) ∷ [])
 
 pub returns-in-Some-clause-registered : goal.returns-in-Some-clause-registered
 returns-in-Some-clause-registered c =
