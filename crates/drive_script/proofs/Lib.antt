@@ -4,3 +4,4 @@ pub mod Forms
 pub mod Growth
 pub mod Pieces
 pub mod Steps
+pub mod Scripts

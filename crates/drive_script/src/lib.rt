@@ -2,12 +2,14 @@
 #![tactic(auto)]
 
 mod cursor;
+mod examples;
 mod faults;
 mod lines;
 mod progress;
 mod reader;
 mod script;
 
+pub use examples::{basic_example, empty_example};
 pub use faults::DriveFault;
 pub use reader::read_script;
 pub use script::{Act, CallLine, Round, Script, Setup};
