@@ -1,9 +1,14 @@
 pub mod Characters
 pub mod Numbers
 pub mod Keys
+pub mod Texts
+pub mod Lists
+pub mod Hashes
+pub mod KeyLaws
 pub mod Units
 pub mod Kinds
 pub mod Calls
 pub mod Series
 pub mod Outside
+pub mod Devices
 pub mod Vectors

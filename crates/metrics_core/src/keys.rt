@@ -1,21 +1,37 @@
 //! The names and keys of series.
 
-ghost use Rattle.std.specs.Prelude.{◌≡◌, [], string_bytes};
+ghost use Rattle.std.specs.Prelude.{◌≡◌, ℕ, ◌^◌, ◌<◌, [], length, string_bytes, bytes_eq, IfOk};
+ghost use Rattle.std.specs.Cmp.{partial_equiv_from_equiv};
+ghost use Rattle.std.specs.Cmp.Lexicographic.{nat_list_eq_equiv};
+ghost use Rattle.std.specs.Hash as fed;
+ghost use Rattle.std.specs.Slice.Iter.{iter_rest};
+ghost use Rattle.std.specs.Iterator.Adapters.{IterYieldsInOrder};
+ghost use Rattle.metrics_core.specs.Texts.{cow_text};
+ghost use Rattle.metrics_core.specs.Keys.{LabelText, key_eq};
+ghost use Rattle.metrics_core.specs.Hashes.{key_hash};
+ghost use Rattle.metrics_core.specs.KeyLaws.{name_hash_input_respects, key_eq_laws, key_hash_respects};
 
+use crate::hashes::hash_with_seed;
+use crate::labels::{add_hashes, are_same, clone_all};
+use crate::{CowSlice, Label, Memory, SharedString};
+use std::alloc::Global;
+use std::hash::{Hash, Hasher};
 use std::marker::Model;
+use std::slice;
 
 /// The name of a metric: any text. A contract sees it as its UTF-8 bytes.
 #[derive(Drop)]
 pub struct KeyName {
-    text: String,
+    text: SharedString,
 }
 
 impl Model for KeyName {
-    ghost use Rattle.std.specs.Prelude.{ℕ, List, string_bytes};
+    ghost use Rattle.std.specs.Prelude.{ℕ, List};
+    ghost use Rattle.metrics_core.specs.Texts.{cow_text};
 
     ghost Value = { List ℕ };
 
-    ghost view = { λ name. string_bytes name.text };
+    ghost view = { λ name. cow_text name.text };
 }
 
 impl KeyName {
@@ -25,29 +41,74 @@ impl KeyName {
     {
         self.text.as_str()
     }
+
+    /// The same name.
+    pub fn clone(&self, alloc: Global) -> Result<KeyName, Memory>
+        ensures same { IfOk result (λ copy. copy ≡ self.now) }
+    {
+        Ok(KeyName {
+            text: self.text.clone(alloc)?,
+        })
+    }
 }
 
 impl From<String> for KeyName {
     ghost from_gives = { λ text name. name ≡ string_bytes text };
 
     fn from(text: String) -> KeyName {
+        KeyName {
+            text: SharedString::from(text),
+        }
+    }
+}
+
+impl From<SharedString> for KeyName {
+    ghost from_gives = { λ text name. name ≡ cow_text text };
+
+    fn from(text: SharedString) -> KeyName {
         KeyName { text }
     }
 }
 
-/// The key of a series: its name. Two keys are equal where their names are.
+impl PartialEq for KeyName {
+    ghost eq = { bytes_eq };
+
+    ghost laws = { partial_equiv_from_equiv nat_list_eq_equiv };
+
+    fn eq(&self, other: &KeyName) -> bool {
+        self.as_str() == other.as_str()
+    }
+}
+
+impl Eq for KeyName {
+    ghost laws = { nat_list_eq_equiv };
+}
+
+impl Hash for KeyName {
+    ghost hash_input = { fed.str };
+
+    ghost respects_eq = { name_hash_input_respects };
+
+    fn hash<H: Hasher>(&self, state: &mut H) {
+        self.as_str().hash(state);
+    }
+}
+
+/// The key of a series: its name, and labels in some order. Two keys are equal where their names are and where each
+/// label stands as often in the one as in the other, whatever its place.
 #[derive(Drop)]
 pub struct Key {
     name: KeyName,
+    labels: CowSlice<'static, Label>,
 }
 
 impl Model for Key {
-    ghost use Rattle.std.specs.Prelude.{[]};
     ghost use Rattle.metrics_core.specs.Keys.{KeyText};
+    ghost use Rattle.metrics_core.specs.Lists.{cow_items};
 
     ghost Value = { KeyText };
 
-    ghost view = { λ key. record { name = key.name; labels = [] } };
+    ghost view = { λ key. record { name = key.name; labels = cow_items key.labels } };
 }
 
 impl Key {
@@ -55,7 +116,20 @@ impl Key {
     pub fn from_name(name: KeyName) -> Key
         ensures parts { result ≡ record { name = name; labels = [] } }
     {
-        Key { name }
+        Key {
+            name,
+            labels: CowSlice::from_borrowed(&[]),
+        }
+    }
+
+    /// The key of a series with labels.
+    pub fn from_parts(name: KeyName, labels: Vec<Label>) -> Key
+        ensures parts { result ≡ record { name = name; labels = labels.items } }
+    {
+        Key {
+            name,
+            labels: CowSlice::from_owned(labels),
+        }
     }
 
     /// The name of the series.
@@ -63,5 +137,101 @@ impl Key {
         ensures text { result.now ≡ self.now.name }
     {
         self.name.as_str()
+    }
+
+    /// The labels in their order.
+    pub fn labels(&self) -> slice::Iter<'_, Label>
+        ensures rest { iter_rest result ≡ self.now.labels }
+        ensures len { length (iter_rest result) ≡ length self.now.labels }
+        ensures bound { length (iter_rest result) < 2 ^ 64 }
+        ensures runs { IterYieldsInOrder LabelText }
+    {
+        self.labels.as_slice().iter()
+    }
+
+    /// The same key.
+    pub fn clone(&self, alloc: Global) -> Result<Key, Memory>
+        ensures same { IfOk result (λ copy. copy ≡ self.now) }
+    {
+        let labels = clone_all(self.labels.as_slice(), alloc)?;
+        Ok(Key::from_parts(self.name.clone(alloc)?, labels))
+    }
+
+    /// The hash of the key: FNV-1a of the name, and the sum modulo 2^64 of the hashes of the labels, each of which is
+    /// the hash of the key under seed 1 and that of the value under seed 2, joined by exclusive or.
+    pub fn get_hash(&self) -> u64
+        ensures hash { result ≡ key_hash self.now }
+    {
+        add_hashes(
+            hash_with_seed(0, self.name().as_bytes()),
+            self.labels.as_slice(),
+        )
+    }
+}
+
+impl PartialEq for Key {
+    ghost eq = { key_eq };
+
+    ghost laws = { partial_equiv_from_equiv key_eq_laws };
+
+    fn eq(&self, other: &Key) -> bool {
+        self.name == other.name && are_same(self.labels.as_slice(), other.labels.as_slice())
+    }
+}
+
+impl Eq for Key {
+    ghost laws = { key_eq_laws };
+}
+
+impl Hash for Key {
+    ghost hash_input = { λ key. fed.u64 (key_hash key) };
+
+    ghost respects_eq = { key_hash_respects };
+
+    fn hash<H: Hasher>(&self, state: &mut H) {
+        state.write_u64(self.get_hash());
+    }
+}
+
+#[cfg(test)]
+mod tests {
+    use super::*;
+    use std::test::Fail;
+
+    fn key_of(alloc: Global, labels: [(&'static str, &'static str); 2]) -> Result<Key, Memory> {
+        let mut list = Vec::new(alloc);
+        for (key, value) in labels {
+            list.push(Label::new(
+                SharedString::from_borrowed(key),
+                SharedString::from_borrowed(value),
+            ))?;
+        }
+        let name = KeyName::from(SharedString::from_borrowed("x"));
+        Ok(Key::from_parts(name, list))
+    }
+
+    #[test]
+    fn labels_count_and_their_order_is_free(rt: HostRuntime) -> Result<(), Fail> {
+        let one = key_of(rt.alloc(), [("a", "1"), ("a", "2")])?;
+        let other = key_of(rt.alloc(), [("a", "2"), ("a", "1")])?;
+        let doubled = key_of(rt.alloc(), [("a", "1"), ("a", "1")])?;
+        assert!(rt; one == other);
+        assert!(rt; one != doubled);
+        assert_eq!(rt; one.get_hash(), other.get_hash());
+        assert!(rt; one.clone(rt.alloc())? == one);
+        assert_eq!(rt; one.labels().len(), 2);
+        Ok(())
+    }
+
+    #[test]
+    fn hashes_of_names(rt: HostRuntime) {
+        for (name, hash) in [
+            ("a", 0xaf63dc4c8601ec8cu64),
+            ("foobar", 0x85944171f73967e8),
+            ("", 0xcbf29ce484222325),
+        ] {
+            let key = Key::from_name(KeyName::from(SharedString::from_borrowed(name)));
+            assert_eq!(rt; key.get_hash(), hash);
+        }
     }
 }

@@ -2,18 +2,31 @@
 //! kinds and numbers of series, the calls that change them, and units.
 #![tactic(auto)]
 
+mod adapters;
 mod calls;
+mod devices;
+mod hashes;
 mod keys;
 mod kinds;
+mod labels;
 mod memory;
+mod numbers;
 mod sinks;
+mod slices;
 mod sources;
+mod texts;
 mod units;
 
+pub use adapters::{Reading, Writing};
 pub use calls::SeriesCall;
+pub use devices::{ByteSource, Discard, MemorySink, MemorySource};
 pub use keys::{Key, KeyName};
 pub use kinds::{MetricKind, SeriesId};
+pub use labels::Label;
 pub use memory::Memory;
+pub use numbers::Fixed;
 pub use sinks::{Sink, write_whole};
+pub use slices::CowSlice;
 pub use sources::{Failed, Source};
+pub use texts::{CowStr, SharedString};
 pub use units::Unit;

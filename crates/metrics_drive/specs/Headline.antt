@@ -1,9 +1,10 @@
--- What a run of a script writes and sends.
-use Rattle.std.specs.Prelude.{◌≡◌, ℕ, ◌+◌, Bool, true, false, List, [], ◌∷◌, ◌++◌, map, length, flat_map, sum_by, unwrap_or, if◌then◌else◌}
+-- What a run of a script writes.
+use Rattle.std.specs.Prelude.{◌≡◌, ℕ, ◌≤◌, List, [], ◌∷◌, ◌++◌, length, Option}
+use Rattle.metrics_core.specs.Outside.{GrewBy, GrewByFront}
 use Rattle.prom_format.specs.Pages.{Family, IsPage}
-use Rattle.dsd_writer.specs.Lines.{Item, payloads_of, dropped_of, framed}
-use Rattle.drive_script.specs.Script.{ScriptText, SettingsText}
-use Rattle.metrics_drive.specs.Play.{RoundOrders, AreOrders, pages_of, flushes_of}
+use Rattle.drive_script.specs.Script.{ScriptText, CallLine}
+use Rattle.drive_script.specs.Valid.{IsScriptOf}
+use Rattle.metrics_drive.specs.Play.{AreOrders, pages_of}
 
 -- the bytes are these pages, one after another
 abbrev pub ArePages : List ℕ → List (List Family) → Type 0
@@ -11,48 +12,33 @@ ArePages bytes [] = bytes ≡ []
 ArePages bytes (families ∷ pages) =
     (page rest : List ℕ) × (bytes ≡ page ++ rest) × IsPage page families × ArePages rest pages
 
--- For one choice of orders, what was written is one page for each round, and each page is exactly the families of the state.
-pub record IsPagesOf (script : ScriptText) (written : List ℕ) : Type 0 where
-  pub orders : List RoundOrders
+-- For one order of the calls on each series in each round, the bytes are one page for each round, ended by `# EOF`, and
+-- each page is exactly the families of the exporter's state at its round's moment.
+pub record IsPagesOf (script : ScriptText) (bytes : List ℕ) : Type 0 where
+  pub orders : List (List (List CallLine))
   pub legal : AreOrders script orders
-  pub pages : ArePages written (pages_of script orders)
+  pub pages : ArePages bytes (pages_of script orders)
 
--- the limit of a payload: the script's, or by default 1432 bytes for datagrams and 8192 for a stream
-abbrev pub limit_of : SettingsText → Bool → ℕ
-limit_of settings on_stream = unwrap_or settings.dsd_limit (if on_stream then 8192 else 1432)
+-- the most bytes that a script may have
+abbrev pub script_limit : ℕ
+script_limit = 67108864
 
--- the payloads of a run, over all flushes in order
-abbrev pub payloads_along : SettingsText → Bool → List (List Item) → List (List ℕ)
-payloads_along settings on_stream flushes =
-    flat_map (λ items. map (framed on_stream) (payloads_of (limit_of settings on_stream) items)) flushes
+-- the bytes are within the limit, and a valid script
+abbrev pub IsGoodScript : List ℕ → ScriptText → Type 0
+IsGoodScript bytes script = (length bytes ≤ script_limit) × IsScriptOf bytes script
 
--- how many values a run leaves out
-abbrev pub dropped_along : SettingsText → Bool → List (List Item) → ℕ
-dropped_along settings on_stream flushes = sum_by (dropped_of (limit_of settings on_stream)) flushes
+-- the bytes are a valid script, and what the sink tells grew by the pages of its run
+pub record IsPlayed (bytes : List ℕ) (written written' : Option (List ℕ)) : Type 0 where
+  pub script : ScriptText
+  pub reading : IsGoodScript bytes script
+  pub text : List ℕ
+  pub pages : IsPagesOf script text
+  pub grew : GrewBy written written' text
 
--- For one choice of orders, the pages and the payloads of a run, and how many values were left out.
-pub record IsRunOf (script : ScriptText) (on_stream : Bool) (written : List ℕ) (payloads : List (List ℕ)) (dropped : ℕ) : Type 0 where
-  pub orders : List RoundOrders
-  pub legal : AreOrders script orders
-  pub pages : ArePages written (pages_of script orders)
-  pub sent : payloads ≡ payloads_along script.settings on_stream (flushes_of script orders)
-  pub left_out : dropped ≡ dropped_along script.settings on_stream (flushes_of script orders)
-
--- What was written when a write failed or memory was wanting: a front of the pages of some run.
-pub record IsFrontOfPages (script : ScriptText) (written : List ℕ) : Type 0 where
-  pub rest : List ℕ
-  pub whole : IsPagesOf script (written ++ rest)
-
--- what `drive` sends where the link refuses some sends: these payloads in order, without those refused
-abbrev pub sent_of : List (List ℕ × Bool) → List (List ℕ)
-sent_of [] = []
-sent_of ((payload, true) ∷ sends) = payload ∷ sent_of sends
-sent_of ((payload, false) ∷ sends) = sent_of sends
-
--- each payload is handed to the link once, in order, with what it answered; what the link tells grew by those it took
-pub record AreSent (payloads : List (List ℕ)) (grown : List (List ℕ)) (sent unsent : ℕ) : Type 0 where
-  pub sends : List (List ℕ × Bool)
-  pub handed : payloads ≡ map (λ (payload, taken). payload) sends
-  pub told : grown ≡ sent_of sends
-  pub counted : sent ≡ length (sent_of sends)
-  pub rest : sent + unsent ≡ length payloads
+-- the bytes are a valid script, and what the sink tells grew by a front of the pages of its run
+pub record IsPlayedInPart (bytes : List ℕ) (written written' : Option (List ℕ)) : Type 0 where
+  pub script : ScriptText
+  pub reading : IsGoodScript bytes script
+  pub text : List ℕ
+  pub pages : IsPagesOf script text
+  pub grew : GrewByFront written written' text

@@ -6,7 +6,7 @@ use Rattle.metrics_core.specs.declared.units.Unit.{Unit as UnitOf}
 use Rattle.metrics_core.specs.Numbers.{page_number, whole}
 use Rattle.metrics_core.specs.Kinds.{kind_eq}
 use Rattle.metrics_core.specs.Keys.{LabelText}
-use Rattle.metrics_core.specs.Calls.{calls_of, counter_value, gauge_value, samples}
+use Rattle.metrics_core.specs.Calls.{counter_value, gauge_value, samples}
 use Rattle.prom_format.specs.Names.{sanitized_metric_name, full_name}
 use Rattle.prom_format.specs.Printed.{canonical_description}
 use Rattle.prom_format.specs.Lines.{shown_label_set}
@@ -59,10 +59,10 @@ counter_suffix settings = if settings.total_suffix then Some (codes "total") els
 
 abbrev pub counter_rows : ExporterSettings → PrometheusState → Series → List Row
 counter_rows settings s series =
-    row_of settings s series (counter_suffix settings) [] (whole (counter_value (calls_of series.calls))) ∷ []
+    row_of settings s series (counter_suffix settings) [] (whole (counter_value series.calls)) ∷ []
 
 abbrev pub gauge_rows : ExporterSettings → PrometheusState → Series → List Row
-gauge_rows settings s series = row_of settings s series None [] (gauge_value (calls_of series.calls)) ∷ []
+gauge_rows settings s series = row_of settings s series None [] (gauge_value series.calls) ∷ []
 
 -- the sum and the count of all samples
 abbrev pub sum_and_count_rows : ExporterSettings → PrometheusState → Series → List ℤ → List Row
@@ -74,9 +74,9 @@ sum_and_count_rows settings s series values =
 -- histogram: a row for each bound, one for all samples, sum and count
 abbrev pub histogram_rows : ExporterSettings → PrometheusState → List ℤ → Series → List Row
 histogram_rows settings s bounds series =
-    map (λ bound. row_of settings s series (Some (codes "bucket")) (one_label (codes "le") (page_number bound)) (whole (bucket_count bound (samples (calls_of series.calls))))) bounds
-    ++ row_of settings s series (Some (codes "bucket")) (one_label (codes "le") (codes "+Inf")) (whole (sample_count (samples (calls_of series.calls))))
-    ∷ sum_and_count_rows settings s series (samples (calls_of series.calls))
+    map (λ bound. row_of settings s series (Some (codes "bucket")) (one_label (codes "le") (page_number bound)) (whole (bucket_count bound (samples series.calls)))) bounds
+    ++ row_of settings s series (Some (codes "bucket")) (one_label (codes "le") (codes "+Inf")) (whole (sample_count (samples series.calls)))
+    ∷ sum_and_count_rows settings s series (samples series.calls)
 
 -- the values of a series' window at a moment
 abbrev pub window_of : ExporterSettings → ℕ → Series → List ℤ
@@ -87,7 +87,7 @@ window_of settings t series =
 abbrev pub summary_rows : ExporterSettings → PrometheusState → ℕ → Series → List Row
 summary_rows settings s t series =
     map (λ q. row_of settings s series None (one_label (codes "quantile") (page_number (pos (clamped q)))) (quantile_of q (window_of settings t series))) settings.quantiles
-    ++ sum_and_count_rows settings s series (samples (calls_of series.calls))
+    ++ sum_and_count_rows settings s series (samples series.calls)
 
 -- ---- what kind of distribution a name has
 

@@ -1,11 +1,12 @@
 -- The state of the Prometheus exporter, and the steps of registering, describing, calling and rendering.
-use Rattle.std.specs.Prelude.{ℕ, ◌+◌, ◌-◌, ◌^◌, ◌&&◌, not, ◌==◌, nat_lt, List, [], ◌∷◌, ◌++◌, map, Option, Some, None, find, filter_map, is_some, option_map, unwrap_or, bytes_eq, if◌then◌else◌}
+use Rattle.std.specs.Prelude.{ℕ, ◌+◌, ◌-◌, ◌^◌, Bool, ◌&&◌, not, ◌==◌, nat_lt, List, [], ◌∷◌, ◌++◌, map, Option, Some, None, find, filter_map, is_some, option_map, unwrap_or, bytes_eq, if◌then◌else◌}
+use Rattle.std.specs.List.{list_any}
 use Rattle.metrics_core.specs.declared.kinds.MetricKind.{MetricKind}
 use Rattle.metrics_core.specs.declared.units.Unit.{Unit as UnitOf}
 use Rattle.metrics_core.specs.Numbers.{in_64_bits}
 use Rattle.metrics_core.specs.Kinds.{kind_eq, KindMask, mask_has}
 use Rattle.metrics_core.specs.Keys.{KeyText, key_eq}
-use Rattle.metrics_core.specs.Calls.{TimedCall, calls_of, update_count}
+use Rattle.metrics_core.specs.Calls.{Call, update_count}
 use Rattle.prom_format.specs.Names.{sanitized_metric_name}
 
 -- one live series: its kind, number and key, all calls on it, and what the last page noted of it
@@ -13,7 +14,7 @@ pub record Series : Type 0 where
   pub kind : MetricKind
   pub number : ℕ
   pub key : KeyText
-  pub calls : List TimedCall
+  pub calls : List Call
   pub note : Option (ℕ × ℕ)  -- count of updates, moment
 
 -- what is said of a metric name
@@ -71,12 +72,17 @@ describe name unit text s =
 
 -- ---- calling
 
-abbrev pub with_call : ℕ → TimedCall → Series → Series
-with_call number timed series = if series.number == number then record series { calls = series.calls ++ timed ∷ [] } else series
+abbrev pub with_call : MetricKind → ℕ → Call → Series → Series
+with_call kind number call series =
+    if kind_eq series.kind kind && series.number == number then record series { calls = series.calls ++ call ∷ [] } else series
 
--- a call goes to the live series with the number; where none is live nothing changes
-abbrev pub call : ℕ → TimedCall → PrometheusState → PrometheusState
-call number timed s = record s { live = map (with_call number timed) s.live }
+-- a call goes to the live series of the kind with the number; where none is live nothing changes
+abbrev pub call_on : MetricKind → ℕ → Call → PrometheusState → PrometheusState
+call_on kind number call s = record s { live = map (with_call kind number call) s.live }
+
+-- whether a series of the kind with the number is live
+abbrev pub is_live : MetricKind → ℕ → PrometheusState → Bool
+is_live kind number s = list_any (λ series. kind_eq series.kind kind && series.number == number) s.live
 
 -- ---- rendering
 
@@ -86,7 +92,7 @@ pub record Idle : Type 0 where
   pub timeout : ℕ
 
 abbrev pub count_of_updates : Series → ℕ
-count_of_updates series = in_64_bits (update_count series.kind (calls_of series.calls))
+count_of_updates series = in_64_bits (update_count series.kind series.calls)
 
 -- a series with this count and moment noted; with the same count and a moment too long ago it is no longer live
 abbrev pub noted : ℕ → ℕ → Option (ℕ × ℕ) → Series → Option Series

@@ -1,4 +1,4 @@
-use Rattle.std.proofs.Common.{ℕ, ◌≤◌, length}
+use Rattle.std.proofs.Common.{◌≤◌, length}
 use Rattle.std.specs.Prelude.{IfSome}
 use Rattle.metrics_core.specs.Outside.{WrittenUpTo}
 use Rattle.metrics_core.proofs.sinks.write_whole.Given as goal

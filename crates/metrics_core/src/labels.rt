@@ -1,0 +1,140 @@
+//! Labels: pairs of texts that tell the series of one name apart.
+
+ghost use Rattle.std.specs.Prelude.{◌≡◌, ◌+◌, ◌++◌, IfOk, nat_eq, sum_by};
+ghost use Rattle.std.specs.List.{list_all};
+ghost use Rattle.std.specs.Hash as fed;
+ghost use Rattle.std.specs.Cmp.{partial_equiv_from_equiv};
+ghost use Rattle.metrics_core.specs.Texts.{cow_text};
+ghost use Rattle.metrics_core.specs.Keys.{label_eq, occurrences, same_multiset};
+ghost use Rattle.metrics_core.specs.Numbers.{in_64_bits};
+ghost use Rattle.metrics_core.specs.Hashes.{label_hash};
+ghost use Rattle.metrics_core.specs.KeyLaws.{label_eq_laws, label_hash_input_respects};
+
+use crate::hashes::hash_with_seed;
+use crate::{Memory, SharedString};
+use std::alloc::Global;
+use std::hash::{Hash, Hasher};
+use std::marker::Model;
+
+/// A label: a key and a value.
+#[derive(Drop)]
+pub struct Label {
+    key: SharedString,
+    value: SharedString,
+}
+
+impl Model for Label {
+    ghost use Rattle.metrics_core.specs.Keys.{LabelText};
+    ghost use Rattle.metrics_core.specs.Texts.{cow_text};
+
+    ghost Value = { LabelText };
+
+    ghost view = { λ label. record { key = cow_text label.key; value = cow_text label.value } };
+}
+
+impl Label {
+    /// The label of a key and a value.
+    pub fn new(key: SharedString, value: SharedString) -> Label
+        ensures parts { result ≡ record { key = cow_text key.entry; value = cow_text value.entry } }
+    {
+        Label { key, value }
+    }
+
+    /// The key of the label.
+    pub fn key(&self) -> &str
+        ensures text { result.now ≡ self.now.key }
+    {
+        self.key.as_str()
+    }
+
+    /// The value of the label.
+    pub fn value(&self) -> &str
+        ensures text { result.now ≡ self.now.value }
+    {
+        self.value.as_str()
+    }
+
+    /// The same label.
+    pub fn clone(&self, alloc: Global) -> Result<Label, Memory>
+        ensures same { IfOk result (λ copy. copy ≡ self.now) }
+    {
+        Ok(Label {
+            key: self.key.clone(alloc)?,
+            value: self.value.clone(alloc)?,
+        })
+    }
+
+    /// The label's part of the hash of a key.
+    pub(crate) fn part_of_hash(&self) -> u64
+        ensures { result ≡ label_hash self.now }
+    {
+        hash_with_seed(1, self.key().as_bytes()) ^ hash_with_seed(2, self.value().as_bytes())
+    }
+}
+
+impl PartialEq for Label {
+    ghost eq = { label_eq };
+
+    ghost laws = { partial_equiv_from_equiv label_eq_laws };
+
+    fn eq(&self, other: &Label) -> bool {
+        self.key() == other.key() && self.value() == other.value()
+    }
+}
+
+impl Eq for Label {
+    ghost laws = { label_eq_laws };
+}
+
+impl Hash for Label {
+    ghost hash_input = { λ label. fed.str label.key ++ fed.str label.value };
+
+    ghost respects_eq = { label_hash_input_respects };
+
+    fn hash<H: Hasher>(&self, state: &mut H) {
+        self.key().hash(state);
+        self.value().hash(state);
+    }
+}
+
+/// How often a label stands in a list.
+fn count(labels: &[Label], label: &Label) -> usize
+    ensures { result ≡ occurrences labels.now label.now }
+{
+    labels.iter().filter(|other| *label == **other).count()
+}
+
+/// Whether each of some labels stands as often in the one list as in the other.
+fn counts_agree(labels: &[Label], others: &[Label], among: &[Label]) -> bool
+    ensures { result ≡ list_all (λ l. nat_eq (occurrences labels.now l) (occurrences others.now l)) among.now }
+{
+    among
+        .iter()
+        .all(|label| count(labels, label) == count(others, label))
+}
+
+/// Whether each label stands as often in the one list as in the other.
+#[tactic(auto, using(crate::specs::KeyLaws::list_all_append))]
+pub(crate) fn are_same(labels: &[Label], others: &[Label]) -> bool
+    ensures { result ≡ same_multiset labels.now others.now }
+{
+    counts_agree(labels, others, labels) && counts_agree(labels, others, others)
+}
+
+/// Copies of the labels, in their order.
+pub(crate) fn clone_all(labels: &[Label], alloc: Global) -> Result<Vec<Label>, Memory>
+    ensures same { IfOk result (λ copies. copies.items ≡ labels.now) }
+{
+    let mut copies = Vec::new(alloc);
+    for label in labels {
+        copies.push(label.clone(alloc)?)?;
+    }
+    Ok(copies)
+}
+
+/// A hash to which those of labels are added, modulo 2^64.
+pub(crate) fn add_hashes(start: u64, labels: &[Label]) -> u64
+    ensures { result ≡ in_64_bits (start + sum_by label_hash labels.now) }
+{
+    labels.iter().fold(start, |hash, label| hash.wrapping_add(label.part_of_hash()))
+}

@@ -1,0 +1,6 @@
+pub mod State
+pub mod Window
+pub mod Native
+pub mod Families
+pub mod Exporter
+pub mod Vectors

@@ -1,0 +1,123 @@
+-- Worked examples, computed.
+use Rattle.std.specs.Prelude.{◌≡◌, ℕ, ◌*◌, pos, codes, refl, List, [], ◌∷◌, ℤ, true, false, Some, None, map, length}
+use Rattle.std.specs.Fmt.{digits}
+use Rattle.std.specs.Str.{chars}
+use Rattle.metrics_core.specs.declared.kinds.MetricKind.TheVariants as kinds
+use Rattle.metrics_core.specs.declared.units.Unit.TheVariants.{Bytes}
+use Rattle.metrics_core.specs.Numbers.{whole}
+use Rattle.metrics_core.specs.Keys.{LabelText, KeyText}
+use Rattle.metrics_core.specs.Calls.{Increment, Record}
+use Rattle.prom_format.specs.Pages.{page_text}
+use Rattle.prom_exporter.specs.State.{PrometheusState, empty_state, register, describe, call_on, page_step}
+use Rattle.prom_exporter.specs.Window.{Sample, window, sample_sum}
+use Rattle.prom_exporter.specs.Native.{NativeText, Positive, native_depth, native_count, zero_count}
+use Rattle.prom_exporter.specs.Families.{ExporterSettings, families_at}
+
+abbrev seconds : ℕ → ℕ
+seconds n = n * 1000000000
+
+abbrev plain : ExporterSettings
+plain = record { quantiles = pos 500000000 ∷ []; buckets = None; buckets_for = []; native_for = []; bucket_count = 3; bucket_duration = 20000000000; idle = None; units = false; total_suffix = false; globals = [] }
+
+abbrev label : List ℕ → List ℕ → LabelText
+label k v = record { key = k; value = v }
+
+abbrev key : List ℕ → List LabelText → KeyText
+key n ls = record { name = n; labels = ls }
+
+abbrev sampled : ℕ → ℕ → PrometheusState → PrometheusState
+sampled t n s = call_on kinds.Histogram 0 (Record (whole n) t 1) s
+
+abbrev page_of : ExporterSettings → ℕ → PrometheusState → List ℕ
+page_of settings t s = page_text (families_at settings t (page_step settings.idle t s))
+
+abbrev lat : PrometheusState
+lat = sampled (seconds 3620) 2 (sampled (seconds 3600) 1 (register kinds.Histogram (key (codes "lat") []) empty_state))
+
+-- the bucket that begins on the cutoff is out of the window
+pub window_cutoff : page_of plain (seconds 3660) lat ≡ codes "# TYPE lat summary\nlat{quantile=\"0.5\"} 2\nlat_sum 3\nlat_count 2\n\n# EOF\n"
+unfolding digits chars
+window_cutoff = refl
+
+pub window_before : page_of plain (seconds 3620) lat ≡ codes "# TYPE lat summary\nlat{quantile=\"0.5\"} 1\nlat_sum 3\nlat_count 2\n\n# EOF\n"
+unfolding digits chars
+window_before = refl
+
+abbrev at_seconds : ℕ → Sample
+at_seconds n = record { value = whole 42; moment = seconds n }
+
+-- 42 at 3600, 3620, 3640 and 3660 s
+pub default_window : length (window (seconds 20) (seconds 60) (seconds 3660) (map at_seconds (3600 ∷ 3620 ∷ 3640 ∷ 3660 ∷ []))) ≡ 3
+default_window = refl
+
+pub helped_counter : page_of (record plain { units = true; total_suffix = true }) 0 (call_on kinds.Counter 0 (Increment 42) (register kinds.Counter (key (codes "foo_total") []) (describe (codes "foo_total") (Some Bytes) (codes "Some help") empty_state)))
+    ≡ codes "# HELP foo_bytes_total Some help\n# TYPE foo_bytes_total counter\nfoo_bytes_total 42\n\n# EOF\n"
+unfolding digits chars
+helped_counter = refl
+
+pub bucketed : page_of (record plain { buckets = Some (whole 1 ∷ whole 5 ∷ []) }) 0 (sampled 0 9 (sampled 0 3 (sampled 0 1 (call_on kinds.Histogram 0 (Record (pos 500000000) 0 1) (register kinds.Histogram (key (codes "h") []) empty_state)))))
+    ≡ codes "# TYPE h histogram\nh_bucket{le=\"1\"} 2\nh_bucket{le=\"5\"} 3\nh_bucket{le=\"+Inf\"} 4\nh_sum 13.5\nh_count 4\n\n# EOF\n"
+unfolding digits chars
+bucketed = refl
+
+pub count_named_account : page_of (record plain { quantiles = whole 1 ∷ [] }) 0 (sampled 0 2 (register kinds.Histogram (key (codes "account") []) empty_state))
+    ≡ codes "# TYPE account summary\naccount{quantile=\"1\"} 2\naccount_sum 2\naccount 1\n\n# EOF\n"
+unfolding digits chars
+count_named_account = refl
+
+pub empty_summary : page_of plain 0 (register kinds.Histogram (key (codes "h") []) empty_state)
+    ≡ codes "# TYPE h summary\nh{quantile=\"0.5\"} 0\nh_sum 0\nh_count 0\n\n# EOF\n"
+unfolding digits chars
+empty_summary = refl
+
+pub global_labels : page_of (record plain { globals = label (codes "a") (codes "1") ∷ label (codes "b") (codes "2") ∷ [] }) 0 (register kinds.Counter (key (codes "x") (label (codes "a") (codes "9") ∷ label (codes "c") (codes "3") ∷ [])) empty_state)
+    ≡ codes "# TYPE x counter\nx{a=\"9\",b=\"2\",c=\"3\"} 0\n\n# EOF\n"
+unfolding digits chars
+global_labels = refl
+
+-- `a` is a backslash and a quote: the quote drops the backslash
+pub backslash_quote_row : page_of plain 0 (register kinds.Counter (key (codes "x") (label (codes "a") (92 ∷ 34 ∷ []) ∷ [])) empty_state)
+    ≡ codes "# TYPE x counter\nx{a=\"\\\"\"} 0\n\n# EOF\n"
+unfolding digits chars
+backslash_quote_row = refl
+
+-- `a` is a backslash, a newline and b: the backslash is printed before the b
+pub backslash_newline_row : page_of plain 0 (register kinds.Counter (key (codes "x") (label (codes "a") (92 ∷ 10 ∷ 98 ∷ []) ∷ [])) empty_state)
+    ≡ codes "# TYPE x counter\nx{a=\"\\n\\\\b\"} 0\n\n# EOF\n"
+unfolding digits chars
+backslash_newline_row = refl
+
+abbrev idle_change : ExporterSettings
+idle_change = record plain { idle = Some (record { mask = record { counters = true; gauges = true; histograms = true }; timeout = 5 }) }
+
+abbrev c0 : PrometheusState
+c0 = page_step idle_change.idle 0 (call_on kinds.Counter 0 (Increment 1) (register kinds.Counter (key (codes "c") []) empty_state))
+
+abbrev c6 : PrometheusState
+c6 = page_step idle_change.idle 6 (page_step idle_change.idle 3 c0)
+
+pub idle_kept : page_of idle_change 3 c0 ≡ codes "# TYPE c counter\nc 1\n\n# EOF\n"
+unfolding digits chars
+idle_kept = refl
+
+pub idle_removed : page_of idle_change 6 (page_step idle_change.idle 3 c0) ≡ codes "# EOF\n"
+unfolding digits chars
+idle_removed = refl
+
+-- a call through the handle of a removed series shows nowhere
+pub idle_stays_removed : page_of idle_change 7 (call_on kinds.Counter 0 (Increment 1) c6) ≡ codes "# EOF\n"
+unfolding digits chars
+idle_stays_removed = refl
+
+abbrev four : List ℤ
+four = map whole (1 ∷ 2 ∷ 4 ∷ 8 ∷ [])
+
+abbrev native : NativeText
+native = record { depth = 0; max_buckets = 2; threshold = pos 100000000 }
+
+-- factor 2, at most 2 buckets, threshold 0.1, over 1, 2, 4, 8
+pub native_schema : native_depth native four ≡ 2
+native_schema = refl
+
+pub native_counts : (native_count native four (Positive (pos 0)) ≡ 1) × (native_count native four (Positive (pos 1)) ≡ 3) × (zero_count native four ≡ 0) × (sample_sum four ≡ whole 15)
+native_counts = (refl, refl, refl, refl)

@@ -1,0 +1,26 @@
+//! What the exporter refuses.
+
+use metrics_core::Memory;
+use thiserror::Error;
+
+/// A refusal of the exporter.
+#[derive(Clone, Copy, Debug, PartialEq, Eq, Error)]
+pub enum BuildError {
+    /// The sink failed.
+    #[error("write failed")]
+    WriteFault,
+    /// Memory was refused.
+    #[error("out of memory")]
+    Memory,
+}
+
+impl From<Memory> for BuildError {
+    ghost use Rattle.std.specs.Prelude.{◌≡◌};
+    ghost use Rattle.prom_exporter.specs.declared.errors.BuildError.TheVariants as errors;
+
+    ghost from_gives = { λ _ error. error ≡ errors.Memory };
+
+    fn from(_refused: Memory) -> BuildError {
+        BuildError::Memory
+    }
+}
