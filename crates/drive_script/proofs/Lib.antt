@@ -5,3 +5,4 @@ pub mod Growth
 pub mod Pieces
 pub mod Steps
 pub mod Scripts
+pub mod Laws
