@@ -1,10 +1,10 @@
 -- A line is read as what it says, and so it says at most one thing.
-use Rattle.std.proofs.Common.{◌≡◌, ℕ, ◌+◌, ◌-◌, ◌^◌, ◌<◌, ◌≤◌, Bool, true, ltb, List, [], ◌∷◌, ◌++◌, length, get_or, Option, Some, None, refl, sym, ap, subst, ◌∙◌, arith, lit<}
+use Rattle.std.proofs.Common.{◌≡◌, ℕ, ◌-◌, ◌^◌, ◌<◌, true, ltb, List, [], ◌∷◌, ◌++◌, get_or, Some, None, refl, sym, ap, subst, ◌∙◌, arith, lit<}
 use Rattle.std.specs.Prelude.{codes, decimal, IsUtf8, IsAscii}
 use Rattle.std.specs.List.{list_all}
 use Rattle.std.proofs.lemmas.Bool.{and_parts, ltb-true}
-use Rattle.std.proofs.lemmas.Fmt.{IsAscii-decimal, decimal_is_IsNumeral, decimal_digit}
-use Rattle.std.proofs.lemmas.List.{append-nil, get_or_append_left}
+use Rattle.std.proofs.lemmas.Fmt.{IsAscii-decimal, decimal_digit}
+use Rattle.std.proofs.lemmas.List.{append-nil}
 use Rattle.std.proofs.lemmas.Option.{same_Some}
 use Rattle.std.proofs.lemmas.Str.{IsUtf8-from_ascii, IsAscii-append}
 use Rattle.std.proofs.lemmas.Str.Ascii.{IsAscii-nil, IsAscii-cons}
@@ -13,7 +13,7 @@ use Rattle.metrics_core.specs.declared.kinds.MetricKind.TheVariants as kinds
 use Rattle.prom_format.specs.Names.{IsMetricName}
 use Rattle.drive_script.specs.Words.{spaced, quoted}
 use Rattle.drive_script.specs.Script.{SetupLine, Register, Describe, Act, Inc, CallLine, ScriptLine, Round, Setup, CallOf, IsLine, AreActWords}
-use Rattle.drive_script.specs.Reading.{◌>>=◌, behind, digit_count, number_at, name_at, end_at, round_at, register_at, call_at}
+use Rattle.drive_script.specs.Reading.{◌>>=◌, behind, number_at, name_at, end_at, round_at, register_at, call_at}
 use Rattle.drive_script.proofs.Fields.{bind_some, behind_takes, behind_again, number_takes, number_again}
 use Rattle.drive_script.proofs.Names.{name_takes, name_again, quoted_metric_name, metric_name_is_ascii}
 
@@ -47,7 +47,7 @@ round_takes line moment e =
     let number = number_takes (2 ^ 64 - 1) b.0.0 a.0 b.0.1 b.1 in
     let small : moment < 2 ^ 64 = omega (arith, number.1) in
     let spelled : line ≡ codes "round " ++ decimal moment =
-        behind_takes (codes "round ") line a.0 a.1 ∙ ap (λ (x : List ℕ). codes "round " ++ x) (number.0 ∙ ap (λ (x : List ℕ). decimal b.0.0 ++ x) (end_takes b.0.1 c.0 c.1) ∙ append-nil (decimal b.0.0) ∙ ap decimal is) in
+    behind_takes (codes "round ") line a.0 a.1 ∙ ap (λ (x : List ℕ). codes "round " ++ x) (number.0 ∙ ap (λ (x : List ℕ). decimal b.0.0 ++ x) (end_takes b.0.1 c.0 c.1) ∙ append-nil (decimal b.0.0) ∙ ap decimal is) in
     record {
       words = codes "round" ∷ decimal moment ∷ [];
       formed = (small, refl);
@@ -76,7 +76,7 @@ register_takes line name e =
     let taken = name_takes a.0 b.0.0 b.0.1 b.1 in
     let named : IsMetricName name = subst IsMetricName is taken.1 in
     let spelled : line ≡ codes "register counter " ++ quoted name =
-        behind_takes (codes "register counter ") line a.0 a.1 ∙ ap (λ (x : List ℕ). codes "register counter " ++ x) (taken.0 ∙ ap (λ (x : List ℕ). quoted b.0.0 ++ x) (end_takes b.0.1 c.0 c.1) ∙ append-nil (quoted b.0.0) ∙ ap quoted is) in
+    behind_takes (codes "register counter ") line a.0 a.1 ∙ ap (λ (x : List ℕ). codes "register counter " ++ x) (taken.0 ∙ ap (λ (x : List ℕ). quoted b.0.0 ++ x) (end_takes b.0.1 c.0 c.1) ∙ append-nil (quoted b.0.0) ∙ ap quoted is) in
     record {
       words = codes "register" ∷ codes "counter" ∷ quoted name ∷ [];
       formed = (named, refl, refl);

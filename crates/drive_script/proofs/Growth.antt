@@ -1,5 +1,5 @@
 -- The lines of a valid script and one more: they are a valid script just where that line is the script's next.
-use Rattle.std.proofs.Common.{◌≡◌, ℕ, zero, suc, ◌+◌, ◌-◌, ◌<◌, ◌≤◌, ◌⊎◌, List, [], ◌∷◌, ◌++◌, map, length, get_or, take, Option, Some, None, refl, sym, ap, subst, ◌∙◌, arith, inl, inr, lit≤}
+use Rattle.std.proofs.Common.{◌≡◌, ℕ, zero, suc, ◌+◌, ◌-◌, ◌<◌, ◌≤◌, ◌⊎◌, List, [], ◌∷◌, ◌++◌, map, length, get_or, take, refl, sym, ap, subst, ◌∙◌, arith, inl, inr, lit≤}
 use Rattle.std.specs.Prelude.{All, AllPairs, flat_map, filter_map, sum_by}
 use Rattle.std.specs.List.{AllZip, AllByRecursion}
 use Rattle.std.specs.List.Sorted.{IsNonDecreasing}
@@ -7,12 +7,12 @@ use Rattle.std.proofs.lemmas.List.{append-nil, append_assoc, map-append, length-
 use Rattle.std.proofs.lemmas.List.Concat.{flat_map-append}
 use Rattle.std.proofs.lemmas.List.Elements.{All-nil, All-push, All-take, All-get_or, All-from_recursion, filter_map-append}
 use Rattle.std.proofs.lemmas.List.Sums.{sum_by-cons}
-use Rattle.metrics_core.specs.Keys.{LabelText, KeyText, SameKey, occurrences}
+use Rattle.metrics_core.specs.Keys.{LabelText, KeyText, occurrences}
 use Rattle.metrics_core.specs.declared.kinds.MetricKind.{MetricKind}
 use Rattle.metrics_core.specs.declared.kinds.MetricKind.TheVariants as kinds
 use Rattle.prom_format.specs.Names.{IsMetricName}
 use Rattle.drive_script.specs.Script.{ScriptText, RoundText, SetupLine, Register, Describe, CallLine, ScriptLine, Round, Setup, CallOf, IsLine, IsScript, round_lines, no_settings, SettingsText}
-use Rattle.drive_script.specs.Valid.{Registration, registration_of, registered_in, registered, HasHandle, HaveHandles, sample_count, sample_total, Head, head_of, PrintApart, IsValid, AreValidLines}
+use Rattle.drive_script.specs.Valid.{Registration, registration_of, registered_in, registered, HasHandle, HaveHandles, sample_count, Head, PrintApart, IsValid, AreValidLines}
 use Rattle.drive_script.specs.Growth.{BeginsRound, SetsUp, AddsCall, IsNext}
 use Rattle.drive_script.proofs.Names.{sanitized_name}
 use Rattle.drive_script.proofs.Forms.{one_reading, call_adds}
@@ -307,7 +307,7 @@ module _ (lines : List (List ℕ)) (line : List ℕ) (new : ScriptText) (h : Val
         room = h.1.registrations;
       } in
       let fewer : length (registered old) ≤ length (flat_map registered_in (before ++ round ∷ [])) =
-          omega (arith, ap length (registered_push before earlier), ap length (registered_push before round), length-append (flat_map registered_in before) (filter_map registration_of setup), length-append (flat_map registered_in before) (registered_in round), ap length (ap (filter_map registration_of) f ∙ filter_map-append registration_of setup (last ∷ [])), length-append (filter_map registration_of setup) (filter_map registration_of (last ∷ []))) in
+      omega (arith, ap length (registered_push before earlier), ap length (registered_push before round), length-append (flat_map registered_in before) (filter_map registration_of setup), length-append (flat_map registered_in before) (registered_in round), ap length (ap (filter_map registration_of) f ∙ filter_map-append registration_of setup (last ∷ [])), length-append (filter_map registration_of setup) (filter_map registration_of (last ∷ []))) in
       make_last lines line new old (Setup last) h next (omega (arith, few_rounds, same_length before round earlier)) (handles_push [] before earlier parts.0 (All-nil (HasHandle (registered old)))) (omega (arith, few_registered, fewer))
 
   last_round : round.calls ≡ [] → round.setup ≡ [] → Last lines line new

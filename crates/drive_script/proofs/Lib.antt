@@ -4,3 +4,5 @@ pub mod Forms
 pub mod Growth
 pub mod Pieces
 pub mod Steps
+pub mod Scripts
+pub mod Laws

@@ -1,5 +1,5 @@
 -- One step of the progress: the last round with one more line.
-use Rattle.std.proofs.Common.{◌≡◌, ℕ, suc, ◌+◌, ◌-◌, ◌<◌, ◌≤◌, Bool, true, false, List, [], ◌∷◌, ◌++◌, map, length, get_or, set, take, Option, Some, None, refl, sym, ap, subst, ◌∙◌, arith}
+use Rattle.std.proofs.Common.{◌≡◌, ℕ, suc, ◌+◌, ◌-◌, ◌<◌, ◌≤◌, Bool, true, false, List, [], ◌∷◌, ◌++◌, map, length, get_or, set, take, Option, Some, None, refl, sym, ap, ◌∙◌, arith}
 use Rattle.std.specs.Global.{Vec}
 use Rattle.std.specs.Prelude.{slice_get, option_map, Result, Ok, Err, IfOk, OnOk, MatchBool}
 use Rattle.std.proofs.lemmas.List.{take_all, take_more, set_split, drop_all, map_push, same_from_push, length-map, length_push}
@@ -99,8 +99,7 @@ registration_known (Some r) kind e = (r.key, ap (λ k. Some (record r { kind = k
 pub handle_decides : (rs : List Registration) (kinds : List MetricKind) (place : ℕ) (kind wanted : MetricKind) (same : Bool) → kinds ≡ kinds_of rs → place < length kinds → kind ≡ get_or kinds place kind → (same ≡ true → kind ≡ wanted) → (kind ≡ wanted → same ≡ true)
     → (same ≡ true → (key : KeyText) × (slice_get rs place ≡ Some (record { kind = wanted; key = key }))) × ((key : KeyText) × (slice_get rs place ≡ Some (record { kind = wanted; key = key })) → same ≡ true)
 handle_decides rs kinds place kind wanted same knows within at is_call is_same =
-    let here : option_map (λ (r : Registration). r.kind) (slice_get rs place) ≡ Some kind = sym (slice_get-map (λ (r : Registration). r.kind) rs place) ∙ ap (λ ks. slice_get ks place) (sym knows) ∙ slice_get_read kinds (length kinds) place kind refl within at in
-    (
+    let here : option_map (λ (r : Registration). r.kind) (slice_get rs place) ≡ Some kind = sym (slice_get-map (λ (r : Registration). r.kind) rs place) ∙ ap (λ ks. slice_get ks place) (sym knows) ∙ slice_get_read kinds (length kinds) place kind refl within at in (
       λ is. registration_known (slice_get rs place) wanted (here ∙ ap Some (is_call is)),
       λ h. is_same (same_Some kind wanted (sym here ∙ ap (option_map (λ (r : Registration). r.kind)) h.1)),
     )

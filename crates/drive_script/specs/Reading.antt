@@ -1,6 +1,6 @@
 -- What is read from the front of a line, from left to right. That a line is read as what it says, and as nothing
 -- else, is proved.
-use Rattle.std.specs.Prelude.{ℕ, ◌+◌, ◌-◌, ◌^◌, ◌&&◌, nat_le, nat_eq, List, [], ◌∷◌, length, take, drop, Option, Some, None, codes, decimal, bytes_eq, not, ◌==◌, if◌then◌else◌}
+use Rattle.std.specs.Prelude.{ℕ, ◌-◌, ◌^◌, ◌&&◌, nat_le, nat_eq, List, [], ◌∷◌, length, take, drop, Option, Some, None, codes, decimal, bytes_eq, not, ◌==◌, if◌then◌else◌}
 use Rattle.std.specs.Char.{is_ascii_digit}
 use Rattle.std.specs.List.{before_first, starts_with, position_or_len}
 use Rattle.std.specs.Str.Parse.{digits_value}

@@ -1,6 +1,5 @@
 -- The script that a value of the program stands for.
 use Rattle.std.specs.Prelude.{◌≡◌, ℕ, List, map}
-use Rattle.metrics_core.specs.declared.keys.Key.{Key}
 use Rattle.drive_script.specs.Script as text
 use Rattle.drive_script.specs.Valid.{registered, IsValid}
 use Rattle.drive_script.specs.declared.progress.Progress.{Progress}

@@ -28,7 +28,7 @@ pub(crate) enum Line {
 pub(crate) fn read_line(alloc: Global, line: &[u8]) -> Result<Option<Line>, Memory>
     ensures { IfOk result (λ read.
         MatchOption read ((says : ScriptLine) → ¬ IsLine line.now says)
-            (λ says. IsLine line.now (line_of says))) }
+        (λ says. IsLine line.now (line_of says))) }
 {
     if let Some(call) = call_line(line) {
         return Ok(Some(Line::Call(call)));

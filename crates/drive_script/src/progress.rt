@@ -54,7 +54,7 @@ impl Progress {
     pub(crate) fn take_line(&mut self, alloc: Global, line: &[u8]) -> Result<bool, Memory>
         ensures { (lines : List (List ℕ)) → StandsBehind lines self.old → IfOk result (λ taken.
             MatchBool taken (StandsBehind (lines ++ line.now ∷ []) self.new)
-                (¬ AreValidLines (lines ++ line.now ∷ []))) }
+            (¬ AreValidLines (lines ++ line.now ∷ []))) }
     {
         match read_line(alloc, line)? {
             None => Ok(false),

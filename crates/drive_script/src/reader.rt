@@ -42,3 +42,71 @@ fn split_line(bytes: &[u8]) -> (&[u8], &[u8])
     }
     (&bytes[..end], &bytes[end + 1..])
 }
+
+#[cfg(test)]
+mod tests {
+    use super::*;
+    use crate::{Act, Setup};
+    use metrics_core::MetricKind;
+    use std::test::Fail;
+
+    #[test]
+    fn a_counter_and_a_call(rt: HostRuntime) -> Result<(), Fail> {
+        let bytes = b"round 0\nregister counter \"basic_counter\"\n0 inc 0 42\n";
+        let script = read_script(rt.alloc(), bytes)?;
+        assert_eq!(rt; script.rounds.len(), 1);
+        let round = &script.rounds[0];
+        assert_eq!(rt;
+            (round.moment, round.setup.len(), round.calls.len()),
+            (0, 1, 1)
+        );
+        let Setup::Register { kind, key } = &round.setup[0];
+        assert_eq!(rt; *kind, MetricKind::Counter);
+        assert_eq!(rt; (key.name(), key.labels().len()), ("basic_counter", 0));
+        let call = round.calls[0];
+        assert_eq!(rt; (call.lane, call.handle, call.act), (0, 0, Act::Inc(42)));
+        assert_eq!(rt; call.act.kind(), MetricKind::Counter);
+        Ok(())
+    }
+
+    #[test]
+    fn no_line_and_one_line_without_a_newline(rt: HostRuntime) -> Result<(), Fail> {
+        assert_eq!(rt; read_script(rt.alloc(), b"")?.rounds.len(), 0);
+        let script = read_script(rt.alloc(), b"round 18446744073709551615")?;
+        assert_eq!(rt; script.rounds.len(), 1);
+        assert_eq!(rt; script.rounds[0].moment, u64::MAX);
+        Ok(())
+    }
+
+    #[test]
+    fn first_bad_lines(rt: HostRuntime) {
+        for (text, line) in [
+            ("\n", 1),
+            ("round 0\n\nregister counter \"a\"\n", 2),
+            ("round 00\n", 1),
+            ("round 18446744073709551616\n", 1),
+            ("round  0\n", 1),
+            ("round 0 \n", 1),
+            ("round 0\r\n", 1),
+            ("round 0\nround 1\n", 2),
+            ("round 0\nregister counter \"a b\"\n", 2),
+            ("round 0\nregister counter \"1a\"\n", 2),
+            ("round 0\nregister counter \"\"\n", 2),
+            ("round 0\nregister gauge \"g\"\n", 2),
+            ("round 0\n0 inc 0 1\n", 2),
+            ("round 0\nregister counter \"a\"\n0 inc 0", 3),
+            ("round 0\nregister counter \"a\"\n0 inc 4294967296 1\n", 3),
+            ("round 0\nregister counter \"a\"\n1 inc 0 1\n", 3),
+            ("round 0\nregister counter \"a\"\n0 dec 0 1\n", 3),
+            (
+                "round 0\nregister counter \"a\"\n0 inc 0 1\nregister counter \"b\"\n",
+                4,
+            ),
+        ] {
+            let fault = read_script(rt.alloc(), text.as_bytes()).err();
+            assert_eq!(rt; fault, Some(DriveFault::Script { line }), "at {text}");
+        }
+        let fault = read_script(rt.alloc(), &[255]).err();
+        assert_eq!(rt; fault, Some(DriveFault::Script { line: 1 }));
+    }
+}

@@ -13,5 +13,5 @@ pub returns : goal.returns
 returns c =
     let same : c.in_ok-ok.field-0.now ≡ c.args.digits.now = search rules in
     let plain : 1 < length c.args.digits.now → get_or c.args.digits.now 0 0 ≢ 48 =
-        elim c.else-digits-gt1.branch [ else-digits-gt1-via-then-digits-gt1+else-digits-eq48 w ↦ λ _. w.if-digits-eq48.false | else-digits-gt1-via-else-digits-gt1 w ↦ λ long. absurd (omega arith) ] in
+    elim c.else-digits-gt1.branch [ else-digits-gt1-via-then-digits-gt1+else-digits-eq48 w ↦ λ _. w.if-digits-eq48.false | else-digits-gt1-via-else-digits-gt1 w ↦ λ long. absurd (omega arith) ] in
     rw c.ok-2.ensures.value (parsed c.args.digits.now c.parse.result c.requires plain (rw same at c.parse.ensures.value.0))

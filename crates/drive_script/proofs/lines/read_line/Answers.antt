@@ -1,5 +1,4 @@
-use Rattle.std.proofs.Common.{◌≡◌, ◌∙◌, sym, Some, None, rules}
-use Rattle.drive_script.specs.Reading.{round_at, register_at, call_at}
+use Rattle.std.proofs.Common.{sym}
 use Rattle.drive_script.specs.Texts.{call_line_of}
 use Rattle.drive_script.proofs.Forms.{call_takes, round_takes, register_takes, no_reading}
 use Rattle.drive_script.proofs.lines.read_line.Goals as goal

@@ -1,5 +1,5 @@
-use Rattle.std.proofs.Common.{◌≡◌, ◌+◌, ◌-◌, ◌<◌, ◌∷◌, ◌∙◌, sym, ap, take, drop, length, arith}
-use Rattle.std.specs.List.{position_or_len, after_first}
+use Rattle.std.proofs.Common.{◌≡◌, ◌+◌, ◌<◌, ◌∷◌, ◌∙◌, sym, ap, take, drop, length, arith}
+use Rattle.std.specs.List.{position_or_len}
 use Rattle.std.proofs.lemmas.List.{take_rest}
 use Rattle.drive_script.specs.Script.{lines_of}
 use Rattle.drive_script.proofs.Pieces.{ends_line, line_ended, line_unended}

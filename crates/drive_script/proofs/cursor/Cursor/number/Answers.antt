@@ -1,5 +1,4 @@
-use Rattle.std.proofs.Common.{◌≡◌, ◌∙◌, ap, take, drop, arith}
-use Rattle.drive_script.specs.Reading.{digit_count}
+use Rattle.std.proofs.Common.{◌∙◌, ap, take, drop, arith}
 use Rattle.drive_script.proofs.Fields.{digits_front, number_none, number_past, number_read}
 use Rattle.drive_script.proofs.cursor.Cursor.number.Goals as goal
 

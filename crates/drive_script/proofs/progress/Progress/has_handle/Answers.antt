@@ -1,4 +1,4 @@
-use Rattle.std.proofs.Common.{◌≡◌, ◌<◌, ◌≤◌, ◌∙◌, sym, ap, length, get_or, arith, rules, true}
+use Rattle.std.proofs.Common.{◌≡◌, ◌<◌, ◌≤◌, length, get_or, rules}
 use Rattle.drive_script.specs.Script.{kind_of}
 use Rattle.drive_script.specs.Texts.{act_of, script_so_far}
 use Rattle.drive_script.specs.Valid.{registered}

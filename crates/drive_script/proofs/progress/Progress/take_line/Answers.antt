@@ -1,4 +1,3 @@
-use Rattle.std.proofs.Common.{◌≡◌, ◌∙◌, sym, ap}
 use Rattle.drive_script.specs.Script as text
 use Rattle.drive_script.specs.Script.{IsLine}
 use Rattle.drive_script.specs.Texts.{call_line_of}
