@@ -11,6 +11,7 @@ pub mod Units
 pub mod UnitLaws
 pub mod Levels
 pub mod LevelLaws
+pub mod Metadata
 pub mod Kinds
 pub mod Calls
 pub mod Series
