@@ -1,5 +1,6 @@
 pub mod Characters
 pub mod Numbers
+pub mod Fixed
 pub mod Keys
 pub mod Pairs
 pub mod Texts

@@ -5,7 +5,9 @@
 mod adapters;
 mod calls;
 mod devices;
+mod gauge_values;
 mod hashes;
+mod into_fixed;
 mod into_labels;
 mod keys;
 mod kinds;
@@ -24,6 +26,8 @@ mod units;
 pub use adapters::{Reading, Writing};
 pub use calls::SeriesCall;
 pub use devices::{ByteSource, Discard, MemorySink, MemorySource};
+pub use gauge_values::GaugeValue;
+pub use into_fixed::IntoFixed;
 pub use into_labels::IntoLabels;
 pub use keys::{Key, KeyName};
 pub use kinds::{MetricKind, SeriesId};
