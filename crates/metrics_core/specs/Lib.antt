@@ -7,6 +7,7 @@ pub mod Texts
 pub mod TextLaws
 pub mod Lists
 pub mod Hashes
+pub mod KeyHashing
 pub mod KeyLaws
 pub mod Units
 pub mod UnitLaws
