@@ -19,11 +19,11 @@ use Rattle.metrics_core.specs.Numbers.{in_64_bits}
 use Rattle.metrics_core.specs.Hashes.{label_hash, key_hash, hash_bytes}
 use Rattle.metrics_core.specs.Keys.{LabelText, KeyText, label_eq, label_cmp, occurrences, same_multiset, key_eq, SameKey}
 
-both : (a b : Bool) → (a && b) ≡ true → (a ≡ true) × (b ≡ true)
+pub both : (a b : Bool) → (a && b) ≡ true → (a ≡ true) × (b ≡ true)
 both true b h = (refl, h)
 both false b h = (h, absurd (true≢false (sym h)))
 
-and : (a b : Bool) → a ≡ true → b ≡ true → (a && b) ≡ true
+pub and : (a b : Bool) → a ≡ true → b ≡ true → (a && b) ≡ true
 and a b ha hb = ap (λ x. x && b) ha ∙ hb
 
 pub label_eq_is : (a b : LabelText) → Decides (label_eq a b) (a ≡ b)

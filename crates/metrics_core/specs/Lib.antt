@@ -1,6 +1,8 @@
 pub mod Characters
 pub mod Numbers
 pub mod Fixed
+pub mod Sorting
+pub mod SortingLaws
 pub mod Keys
 pub mod Pairs
 pub mod Texts
@@ -9,6 +11,7 @@ pub mod Lists
 pub mod Hashes
 pub mod KeyHashing
 pub mod KeyLaws
+pub mod KeyOrderLaws
 pub mod Units
 pub mod UnitLaws
 pub mod Levels
