@@ -1,20 +1,21 @@
 //! The names and keys of series.
 
 ghost use Rattle.std.specs.Prelude.{◌≡◌, ℕ, ◌^◌, ◌<◌, [], ◌++◌, length, string_bytes, bytes_eq, IfOk, Some, refl};
-ghost use Rattle.std.specs.Cmp.{partial_equiv_from_equiv};
+ghost use Rattle.std.specs.Cmp.{partial_equiv_from_equiv, partial_order_from_agreeing_total};
 ghost use Rattle.std.specs.Cmp.Lexicographic.{slice_cmp, nat_list_eq_equiv, nat_list_cmp_total, texts_po, texts_ties};
 ghost use Rattle.std.specs.Ordering.{nat_cmp};
 ghost use Rattle.std.specs.Hash as fed;
 ghost use Rattle.std.specs.Slice.Iter.{iter_rest};
 ghost use Rattle.std.specs.Iterator.Adapters.{IterYieldsInOrder};
 ghost use Rattle.metrics_core.specs.Texts.{cow_text};
-ghost use Rattle.metrics_core.specs.Keys.{LabelText, key_eq};
+ghost use Rattle.metrics_core.specs.Keys.{LabelText, key_eq, key_cmp};
 ghost use Rattle.metrics_core.specs.Hashes.{key_hash};
+ghost use Rattle.metrics_core.specs.KeyOrderLaws.{key_cmp_total, key_cmp_ties};
 ghost use Rattle.metrics_core.specs.KeyLaws.{key_eq_laws, key_hash_respects};
 ghost use Rattle.metrics_core.specs.TextLaws.{text_hash_input_respects};
 
 use crate::hashes::hash_with_seed;
-use crate::labels::{add_hashes, are_same, clone_all};
+use crate::labels::{add_hashes, are_same, clone_all, compare_in_order};
 use crate::{CowSlice, Label, Memory, SharedString};
 use std::alloc::Global;
 use std::cmp::Ordering;
@@ -313,6 +314,39 @@ impl PartialEq for Key {
 
 impl Eq for Key {
     ghost laws = { key_eq_laws };
+}
+
+impl PartialOrd for Key {
+    ghost partial_cmp = { λ a b. Some (key_cmp a b) };
+
+    ghost laws = { partial_order_from_agreeing_total key_cmp key_cmp_total (λ a b. refl) key_cmp_ties };
+
+    fn partial_cmp(&self, other: &Key) -> Option<Ordering> {
+        Some(self.cmp(other))
+    }
+}
+
+/// Keys are ordered by name, then by the number of labels, then by the labels, each list in the order of labels.
+impl Ord for Key {
+    ghost cmp = { key_cmp };
+
+    ghost total = { key_cmp_total };
+
+    ghost matches_partial_cmp = { λ a b. refl };
+
+    ghost matches_eq = { key_cmp_ties };
+
+    fn cmp(&self, other: &Key) -> Ordering {
+        let labels = self.labels.as_slice();
+        let others = other.labels.as_slice();
+        match self.name.cmp(&other.name) {
+            Ordering::Equal => match labels.len().cmp(&others.len()) {
+                Ordering::Equal => compare_in_order(labels, others),
+                by_number => by_number,
+            },
+            by_name => by_name,
+        }
+    }
 }
 
 impl Hash for Key {
