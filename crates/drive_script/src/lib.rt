@@ -1,10 +1,17 @@
 //! The script of rounds: its types, its grammar, and the reader that finds its first bad line.
 #![tactic(auto)]
 
+mod cursor;
+mod examples;
+mod facts;
 mod faults;
+mod lines;
+mod progress;
 mod reader;
 mod script;
 
+pub use examples::{basic_example, empty_example};
+pub use facts::{beginnings, one_first_bad_line, one_reading};
 pub use faults::DriveFault;
 pub use reader::read_script;
 pub use script::{Act, CallLine, Round, Script, Setup};

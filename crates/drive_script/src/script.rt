@@ -1,5 +1,9 @@
 //! The values that a script is read into. Handles count the register lines of the whole script, from 0.
 
+ghost use Rattle.std.specs.Prelude.{◌≡◌};
+ghost use Rattle.drive_script.specs.Script.{kind_of};
+ghost use Rattle.drive_script.specs.Texts.{act_of};
+
 use metrics_core::{Key, MetricKind};
 
 /// A script: its rounds, in the order in which they are played.
@@ -38,4 +42,15 @@ pub struct CallLine {
 pub enum Act {
     /// Adds to a counter, modulo 2^64.
     Inc(u64),
+}
+
+impl Act {
+    /// The kind of the series that it is a call on.
+    pub fn kind(&self) -> MetricKind
+        ensures { result ≡ kind_of (act_of self.now) }
+    {
+        match self {
+            Act::Inc(_) => MetricKind::Counter,
+        }
+    }
 }

@@ -1,7 +1,7 @@
 -- How what an object tells grows from call to call.
 use Rattle.std.proofs.Common.{◌≡◌, ℕ, List, [], ◌∷◌, ◌++◌, refl, sym, ap, ◌∙◌, append-nil, append_assoc}
 use Rattle.std.specs.Prelude.{Option, Some, None, IfSome}
-use Rattle.metrics_core.specs.Outside.{GrewBy, GrewByFront, WrittenUpTo}
+use Rattle.metrics_core.specs.Outside.{GrewBy, GrewByFront, GrewUpTo, WrittenUpTo}
 
 -- where nothing was written, a front of any bytes was
 pub grew_none : (told : Option (List ℕ)) (whole : List ℕ) → GrewByFront told told whole
@@ -55,3 +55,63 @@ grew_front-longer (Some before) b x y (rest, up) = (
 pub grew_front-whole : (a b : Option (List ℕ)) (x : List ℕ) → GrewBy a b x → GrewByFront a b x
 grew_front-whole None b x h = tt
 grew_front-whole (Some before) b x h = ([], record { front = x; cut = sym (append-nil x); written = h })
+
+-- where nothing was written yet, all is left to write
+pub grew_up_to-start : (told : Option (List ℕ)) (whole : List ℕ) → GrewUpTo told told whole whole
+grew_up_to-start None whole = tt
+grew_up_to-start (Some before) whole = record { front = []; cut = refl; written = ap Some (sym (append-nil before)) }
+
+-- a growth by the next bytes leaves the rest
+pub grew_up_to-append : (a b c : Option (List ℕ)) (whole x rest : List ℕ) → GrewUpTo a b whole (x ++ rest) → GrewBy b c x → GrewUpTo a c whole rest
+grew_up_to-append None b c whole x rest h k = tt
+grew_up_to-append (Some before) b c whole x rest h k = by b h k
+  where
+    by : (b : Option (List ℕ)) → WrittenUpTo before b whole (x ++ rest) → GrewBy b c x → WrittenUpTo before c whole rest
+    by None h k = absurd (impossible h.written)
+      where
+        impossible : {r : List ℕ} → None ≡ Some r → ⊥
+        impossible e = cc
+    by (Some middle) h k = record {
+      front = h.front ++ x;
+      cut = h.cut ∙ sym (append_assoc h.front x rest);
+      written = k ∙ ap (λ m. Some (m ++ x)) (same h.written) ∙ ap Some (append_assoc before h.front x);
+    }
+      where
+        same : {r : List ℕ} → Some middle ≡ Some r → middle ≡ r
+        same e = cc
+
+-- a growth by a front of the next bytes is one by a front of the whole
+pub grew_up_to-front : (a b c : Option (List ℕ)) (whole x rest : List ℕ) → GrewUpTo a b whole (x ++ rest) → GrewByFront b c x → GrewByFront a c whole
+grew_up_to-front None b c whole x rest h k = tt
+grew_up_to-front (Some before) b c whole x rest h k = by b h k
+  where
+    by : (b : Option (List ℕ)) → WrittenUpTo before b whole (x ++ rest) → GrewByFront b c x → (last : List ℕ) × WrittenUpTo before c whole last
+    by None h k = absurd (impossible h.written)
+      where
+        impossible : {r : List ℕ} → None ≡ Some r → ⊥
+        impossible e = cc
+    by (Some middle) h (last, up) = (
+      last ++ rest,
+      record {
+        front = h.front ++ up.front;
+        cut = h.cut ∙ ap (λ m. h.front ++ (m ++ rest)) up.cut ∙ regroup h.front up.front last rest;
+        written = up.written ∙ ap (λ m. Some (m ++ up.front)) (same h.written) ∙ ap Some (append_assoc before h.front up.front);
+      },
+    )
+      where
+        same : {r : List ℕ} → Some middle ≡ Some r → middle ≡ r
+        same e = cc
+
+        regroup : (p q r s : List ℕ) → p ++ ((q ++ r) ++ s) ≡ (p ++ q) ++ (r ++ s)
+        regroup p q r s = simp append_assoc
+
+-- where nothing is left, the whole was written
+pub grew_up_to-end : (a b : Option (List ℕ)) (whole rest : List ℕ) → rest ≡ [] → GrewUpTo a b whole rest → GrewBy a b whole
+grew_up_to-end None b whole rest none h = tt
+grew_up_to-end (Some before) b whole rest none h =
+    h.written ∙ ap (λ m. Some (before ++ m)) (sym (append-nil h.front) ∙ ap (λ r. h.front ++ r) (sym none) ∙ sym h.cut)
+
+-- what was written so far is a front
+pub grew_up_to-so_far : (a b : Option (List ℕ)) (whole rest : List ℕ) → GrewUpTo a b whole rest → GrewByFront a b whole
+grew_up_to-so_far None b whole rest h = tt
+grew_up_to-so_far (Some before) b whole rest h = (rest, h)

@@ -22,6 +22,10 @@ pub record WrittenUpTo (before : List ℕ) (new : Option (List ℕ)) (whole rest
   pub cut : whole ≡ front ++ rest
   pub written : new ≡ Some (before ++ front)
 
+-- what an object tells, where it tells, grew by these bytes but for `rest` at their end
+abbrev pub GrewUpTo : Option (List ℕ) → Option (List ℕ) → List ℕ → List ℕ → Type 0
+GrewUpTo old new whole rest = IfSome old (λ before. WrittenUpTo before new whole rest)
+
 -- what an object tells, where it tells, grew by a front of these bytes, none or all of them included
 abbrev pub GrewByFront : Option (List ℕ) → Option (List ℕ) → List ℕ → Type 0
 GrewByFront old new whole = IfSome old (λ before. (rest : List ℕ) × WrittenUpTo before new whole rest)

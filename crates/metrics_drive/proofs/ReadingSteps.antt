@@ -2,8 +2,12 @@
 use Rattle.std.proofs.Common.{◌≡◌, ℕ, ◌<◌, ◌≤◌, ◌+◌, List, [], ◌++◌, length, take, drop, refl, sym, ap, ◌∙◌, append_assoc, append-nil, arith, length-append}
 use Rattle.std.proofs.lemmas.List.{take-append-drop}
 use Rattle.std.specs.Prelude.{Option, Some, None, IfSome}
-use Rattle.metrics_drive.specs.Answers.{script_limit, IsTooLong}
-use Rattle.metrics_drive.specs.Reading.{IsTaken}
+use Rattle.metrics_core.specs.Outside.{Rose}
+use Rattle.metrics_drive.specs.Headline.{script_limit}
+use Rattle.metrics_drive.specs.Answers.{IsTooLong}
+use Rattle.drive_script.specs.declared.faults.DriveFault.{DriveFault}
+use Rattle.drive_script.specs.declared.faults.DriveFault.TheVariants as faults
+use Rattle.metrics_drive.specs.Reading.{IsTaken, IsPieceFault, IsReadFault}
 
 -- these bytes came first, and the source tells the rest
 pub record IsReadSoFar (all : List ℕ) (left : Option (List ℕ)) (bytes : List ℕ) : Type 0 where
@@ -46,7 +50,13 @@ nothing_left all None left' bytes bytes' n zero so_far taken = absurd (impossibl
   where
     impossible : {r : List ℕ} → None ≡ Some r → ⊥
     impossible e = cc
-nothing_left all (Some rest) left' bytes bytes' n zero so_far taken = ?
+nothing_left all (Some rest) left' bytes bytes' n zero so_far taken =
+    taken.added ∙ ap (λ k. bytes ++ take k rest) zero
+    ∙ ap (λ r. bytes ++ r) (sym (taken.at_the_end zero))
+    ∙ ap (λ r. bytes ++ r) (same so_far.told) ∙ sym so_far.split
+  where
+    same : {r : List ℕ} → Some rest ≡ Some r → rest ≡ r
+    same e = cc
 
 pub read_whole : (first left left' : Option (List ℕ)) (bytes bytes' : List ℕ) (n : ℕ) → n ≡ 0 → ReadSoFar first left bytes
     → IfSome left (λ rest. IsTaken rest left' bytes bytes' n) → IfSome first (λ all. bytes' ≡ all)
@@ -58,3 +68,12 @@ pub read_too_much : (first left : Option (List ℕ)) (bytes : List ℕ) → scri
 read_too_much None left bytes long so_far = tt
 read_too_much (Some all) left bytes long so_far =
     omega (arith, length-append bytes so_far.rest, ap length so_far.split, long)
+
+-- the cause of a piece's fault is one of the whole reading's
+pub piece_fault : (left : Option (List ℕ)) (first before now : ℕ) (fault : DriveFault) → first ≤ before → IsPieceFault (Rose before now) fault
+    → IsReadFault left (Rose first now) fault
+piece_fault left first before now (faults.Script l) le h = h
+piece_fault left first before now faults.TooLong le h = absurd h
+piece_fault left first before now faults.ReadFault le h = omega (arith, le, h)
+piece_fault left first before now faults.WriteFault le h = h
+piece_fault left first before now faults.Memory le h = h

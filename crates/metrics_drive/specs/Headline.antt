@@ -1,5 +1,5 @@
 -- What a run of a script writes.
-use Rattle.std.specs.Prelude.{◌≡◌, ℕ, List, [], ◌∷◌, ◌++◌, Option}
+use Rattle.std.specs.Prelude.{◌≡◌, ℕ, ◌≤◌, List, [], ◌∷◌, ◌++◌, length, Option}
 use Rattle.metrics_core.specs.Outside.{GrewBy, GrewByFront}
 use Rattle.prom_format.specs.Pages.{Family, IsPage}
 use Rattle.drive_script.specs.Script.{ScriptText, CallLine}
@@ -19,18 +19,26 @@ pub record IsPagesOf (script : ScriptText) (bytes : List ℕ) : Type 0 where
   pub legal : AreOrders script orders
   pub pages : ArePages bytes (pages_of script orders)
 
--- the bytes were a valid script, and what the sink tells grew by the pages of its run
+-- the most bytes that a script may have
+abbrev pub script_limit : ℕ
+script_limit = 67108864
+
+-- the bytes are within the limit, and a valid script
+abbrev pub IsGoodScript : List ℕ → ScriptText → Type 0
+IsGoodScript bytes script = (length bytes ≤ script_limit) × IsScriptOf bytes script
+
+-- the bytes are a valid script, and what the sink tells grew by the pages of its run
 pub record IsPlayed (bytes : List ℕ) (written written' : Option (List ℕ)) : Type 0 where
   pub script : ScriptText
-  pub reading : IsScriptOf bytes script
+  pub reading : IsGoodScript bytes script
   pub text : List ℕ
   pub pages : IsPagesOf script text
   pub grew : GrewBy written written' text
 
--- the bytes were a valid script, and what the sink tells grew by a front of the pages of its run
+-- the bytes are a valid script, and what the sink tells grew by a front of the pages of its run
 pub record IsPlayedInPart (bytes : List ℕ) (written written' : Option (List ℕ)) : Type 0 where
   pub script : ScriptText
-  pub reading : IsScriptOf bytes script
+  pub reading : IsGoodScript bytes script
   pub text : List ℕ
   pub pages : IsPagesOf script text
   pub grew : GrewByFront written written' text

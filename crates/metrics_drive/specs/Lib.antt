@@ -1,5 +1,9 @@
 pub mod Play
+pub mod InTurn
 pub mod Headline
 pub mod Answers
 pub mod Reading
+pub mod Player
+pub mod Turns
+pub mod Built
 pub mod Vectors

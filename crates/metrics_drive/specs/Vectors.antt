@@ -4,22 +4,11 @@ use Rattle.std.specs.Fmt.{digits}
 use Rattle.std.specs.Str.{chars}
 use Rattle.metrics_core.specs.Characters.{line}
 use Rattle.prom_format.specs.Pages.{page_text}
-use Rattle.drive_script.specs.Script.{ScriptText, SettingsText, RoundText, CallLine}
+use Rattle.drive_script.specs.Script.{ScriptText}
 use Rattle.drive_script.specs.Vectors.{basic, empty}
-use Rattle.metrics_drive.specs.Play.{PlayState, play_start, after_setup, after_round, calls_on, pages_of}
-use Rattle.metrics_drive.specs.Answers.{report_text, usage_text}
-
--- the orders in which each series' calls stand as in the script
-abbrev pub orders_of : PlayState → RoundText → List (List CallLine)
-orders_of p r = map (calls_on p r) p.prometheus.live
-
-abbrev pub orders_along : SettingsText → PlayState → List RoundText → List (List (List CallLine))
-orders_along settings p [] = []
-orders_along settings p (r ∷ rs) =
-    orders_of (after_setup p r) r ∷ orders_along settings (after_round settings p r (orders_of (after_setup p r) r)) rs
-
-abbrev pub script_orders : ScriptText → List (List (List CallLine))
-script_orders s = orders_along s.settings play_start s.rounds
+use Rattle.metrics_drive.specs.Play.{pages_of}
+use Rattle.metrics_drive.specs.InTurn.{script_orders}
+use Rattle.metrics_drive.specs.Answers.{report_text, report_of}
 
 abbrev pub pages : ScriptText → List (List ℕ)
 pages s = map page_text (pages_of s (script_orders s))
@@ -34,10 +23,10 @@ basic_pages = refl
 pub no_pages : pages empty ≡ []
 no_pages = refl
 
-pub one_page : line (report_text 1) ≡ codes "pages 1 sent 0 unsent 0 dropped 0\n"
+pub one_page : line (report_text (report_of 1)) ≡ codes "pages 1 sent 0 unsent 0 dropped 0\n"
 unfolding digits
 one_page = refl
 
-pub none : line (report_text 0) ≡ codes "pages 0 sent 0 unsent 0 dropped 0\n"
+pub none : line (report_text (report_of 0)) ≡ codes "pages 0 sent 0 unsent 0 dropped 0\n"
 unfolding digits
 none = refl

@@ -3,7 +3,7 @@
 ghost use Rattle.std.specs.Prelude.{◌≡◌, ◌+◌, ◌<◌, ◌≤◌, IfErr, IfOk, IfSome, length, vec_len};
 ghost use Rattle.metrics_core.specs.Outside.{Rose};
 ghost use Rattle.metrics_drive.specs.Reading.{IsTaken, IsPieceFault, IsReadFault};
-ghost use Rattle.metrics_drive.specs.Answers.{script_limit};
+ghost use Rattle.metrics_drive.specs.Headline.{script_limit};
 
 use drive_script::DriveFault;
 use metrics_core::Source;

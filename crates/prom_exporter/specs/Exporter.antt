@@ -1,6 +1,6 @@
 -- An exporter as its contracts see it: what it was built with, and its state.
 use Rattle.std.specs.Prelude.{ℕ, List, [], ◌∷◌, map, pos, None, false}
-use Rattle.prom_format.specs.Pages.{body_text}
+use Rattle.prom_format.specs.Pages.{Family, body_text}
 use Rattle.prom_exporter.specs.State.{PrometheusState, page_step}
 use Rattle.prom_exporter.specs.Families.{ExporterSettings, families_at}
 
@@ -27,6 +27,10 @@ default_settings = record {
 abbrev pub stepped : ℕ → Exporter → Exporter
 stepped moment exporter = record exporter { state = page_step exporter.settings.idle moment exporter.state }
 
--- the body of the page at a moment: the text of the families that the state shows after its page step
+-- the families that the state shows at a moment, after its page step
+abbrev pub page_families : ℕ → Exporter → List Family
+page_families moment exporter = families_at exporter.settings moment (stepped moment exporter).state
+
+-- the body of the page at a moment
 abbrev pub page_body : ℕ → Exporter → List ℕ
-page_body moment exporter = body_text (families_at exporter.settings moment (stepped moment exporter).state)
+page_body moment exporter = body_text (page_families moment exporter)

@@ -34,6 +34,10 @@ abbrev pub braced : List (List ℕ) → List ℕ
 braced [] = []
 braced (first ∷ others) = codes "{" ++ first ++ behind_commas others ++ codes "}"
 
+-- the labels of a row, each as it is printed
+abbrev pub label_texts : List LabelText → List (List ℕ)
+label_texts labels = map (λ l. label_text (shown_label l)) labels
+
 abbrev pub metric_line : List ℕ → Option (List ℕ) → List LabelText → Option (List ℕ × List ℕ) → List ℕ → Option UnitOf → List ℕ
 metric_line name suffix labels additional value unit =
-    line (full_name name unit suffix ++ braced (map (λ l. label_text (shown_label l)) labels ++ additional_text additional) ++ codes " " ++ value)
+    line (full_name name unit suffix ++ braced (label_texts labels ++ additional_text additional) ++ codes " " ++ value)

@@ -1,0 +1,151 @@
+-- What is read from the front of a line is what stands there, and what stands there is read.
+use Rattle.std.proofs.Common.{◌≡◌, ◌≢◌, ℕ, ◌+◌, ◌^◌, ◌<◌, ◌≤◌, Bool, true, false, cond, not, ◌&&◌, leb, List, [], ◌∷◌, ◌++◌, length, get_or, take, drop, Option, Some, None, Result, Ok, Err, refl, sym, ap, subst, ◌∙◌, arith, inl, inr, lit<}
+use Rattle.std.specs.Prelude.{decimal, bytes_eq, position, unwrap_or, MatchOption, MatchResult, IsUtf8}
+use Rattle.std.specs.Result.{result_ok, OkIff}
+use Rattle.std.specs.Char.{is_ascii_digit, digit_value}
+use Rattle.std.specs.List.{position_or_len}
+use Rattle.std.specs.Str.Parse.{AllDigits, digits_value, ParsesUnsigned}
+use Rattle.std.proofs.Math.Numerals.{one-add}
+use Rattle.std.proofs.lemmas.Bool.{cases_lt, cases_eq, lt-ltb, le-ltb, le-leb, lt-leb, leb-true, and_parts}
+use Rattle.std.proofs.lemmas.Bool.Decides.{nat_tests}
+use Rattle.std.proofs.lemmas.Fmt.{decimal_is_IsNumeral, decimal_digit, decimal_nonempty, first_decimal, decimal-digits_value, IsAscii-from_digits}
+use Rattle.std.proofs.lemmas.List.{take_at, drop_at, take-append-drop}
+use Rattle.std.proofs.lemmas.List.Sums.{prefix_len-le-length}
+use Rattle.std.proofs.lemmas.Option.{cond_some, some_pair_parts}
+use Rattle.std.proofs.lemmas.Slice.Eq.{bytes_eq-Decides}
+use Rattle.std.proofs.lemmas.Str.{IsUtf8-from_ascii}
+use Rattle.std.proofs.lemmas.Str.Parse.{digit_from_value, IsNumeralModel, numerals_by_value, tells_digits, parse_digits}
+use Rattle.drive_script.specs.Reading.{◌>>=◌, behind, digit_count, number_of, number_at}
+
+-- the place of the first element that passes, or the length
+pub position_or_length : (p : ℕ → Bool) (xs : List ℕ) → unwrap_or (position p xs) (length xs) ≡ position_or_len p xs
+position_or_length p xs =
+    let within : position_or_len p xs ≤ length xs = prefix_len-le-length (λ x. not (p x)) xs in
+    elim (cases_lt (position_or_len p xs) (length xs)) [
+      | inl lt ↦ rw (lt-ltb (position_or_len p xs) (length xs) lt) refl
+      | inr le ↦ rw (le-ltb (position_or_len p xs) (length xs) le) (omega arith)
+    ]
+
+-- the value of a step that gave one
+pub bind_some : {A B : Type 0} (o : Option A) (f : A → Option B) (y : B) → (o >>= f) ≡ Some y → (x : A) × (o ≡ Some x) × (f x ≡ Some y)
+bind_some None f y e = absurd cc
+bind_some (Some x) f y e = (x, refl, e)
+
+-- ---- literals
+
+pub behind_takes : (literal bytes rest : List ℕ) → behind literal bytes ≡ Some rest → bytes ≡ literal ++ rest
+unfolding behind
+behind_takes literal bytes rest e =
+    let parts = cond_some (bytes_eq literal (take (length literal) bytes)) (drop (length literal) bytes) rest e in
+    let front : literal ≡ take (length literal) bytes = (bytes_eq-Decides literal (take (length literal) bytes)).0 parts.0 in
+    sym (take-append-drop (length literal) bytes) ∙ ap (λ (x : List ℕ). x ++ drop (length literal) bytes) (sym front) ∙ ap (λ (x : List ℕ). literal ++ x) parts.1
+
+pub behind_again : (literal rest : List ℕ) → behind literal (literal ++ rest) ≡ Some rest
+unfolding behind
+behind_again literal rest =
+    let same : bytes_eq literal literal ≡ true = (bytes_eq-Decides literal literal).1 refl in
+    rw (take_at literal rest (length literal) refl, drop_at literal rest (length literal) refl, same) refl
+
+-- ---- numbers
+
+is_digit_value : (b : ℕ) → is_ascii_digit b ≡ true → digit_value b < 10
+is_digit_value b e = grind (arith, nat_tests)
+
+value_is_digit : (b : ℕ) → digit_value b < 10 → is_ascii_digit b ≡ true
+value_is_digit b h =
+    let range = digit_from_value b h in
+    grind (arith, nat_tests)
+
+front_step : (t : Bool) (b n : ℕ) (bytes : List ℕ) → is_ascii_digit b ≡ t → AllDigits 10 (take n bytes) → AllDigits 10 (take (cond (not (not t)) (1 + n) 0) (b ∷ bytes))
+front_step true b n bytes e h = rw one-add (is_digit_value b e, h)
+front_step false b n bytes e h = tt
+
+-- the digits at the front are digits
+pub digits_front : (bytes : List ℕ) → AllDigits 10 (take (digit_count bytes) bytes)
+digits_front [] = tt
+digits_front (b ∷ bytes) = front_step (is_ascii_digit b) b (digit_count bytes) bytes refl (digits_front bytes)
+
+digit_count-append : (digits rest : List ℕ) → AllDigits 10 digits → digit_count rest ≡ 0 → digit_count (digits ++ rest) ≡ length digits
+digit_count-append [] rest h none = none
+digit_count-append (d ∷ digits) rest h none = rw (value_is_digit d h.0, digit_count-append digits rest h.1 none) (omega arith)
+
+-- the digits of a number are read as it
+number_of_decimal : (most n : ℕ) → n < 2 ^ 64 → number_of most (decimal n) ≡ cond (leb n most) (Some n) None
+number_of_decimal most n small =
+    let value : digits_value 10 (decimal n) ≡ n = (decimal_is_IsNumeral n small).1 in
+    let same : bytes_eq (decimal n) (decimal n) ≡ true = (bytes_eq-Decides (decimal n) (decimal n)).1 refl in
+    rw (value, same) refl
+
+-- what is the decimal form of no number is read as none
+number_of_none : (most : ℕ) (digits : List ℕ) → most < 2 ^ 64 → ((n : ℕ) → n < 2 ^ 64 → digits ≢ decimal n) → number_of most digits ≡ None
+number_of_none most digits small none = by (bytes_eq (decimal value) digits && leb value most) refl
+  where
+    value : ℕ
+    value = digits_value 10 digits
+
+    by : (t : Bool) → (bytes_eq (decimal value) digits && leb value most) ≡ t → cond t (Some value) None ≡ None
+    by true e =
+        let parts = and_parts (bytes_eq (decimal value) digits) (leb value most) e in
+        let within : value ≤ most = leb-true value most parts.1 in
+        absurd (none value (omega arith) (sym ((bytes_eq-Decides (decimal value) digits).0 parts.0)))
+    by false e = refl
+
+-- the three ways in which a number is read
+pub number_none : (most : ℕ) (bytes digits : List ℕ) → most < 2 ^ 64 → digits ≡ take (digit_count bytes) bytes → ((n : ℕ) → n < 2 ^ 64 → digits ≢ decimal n) → number_at most bytes ≡ None
+unfolding number_at
+number_none most bytes digits small front none = rw (number_of_none most (take (digit_count bytes) bytes) small (λ n fits e. none n fits (front ∙ e))) refl
+
+pub number_past : (most n : ℕ) (bytes digits : List ℕ) → n < 2 ^ 64 → digits ≡ take (digit_count bytes) bytes → digits ≡ decimal n → most < n → number_at most bytes ≡ None
+unfolding number_at
+number_past most n bytes digits small front is past = rw (sym front ∙ is, number_of_decimal most n small, lt-leb n most past) refl
+
+pub number_read : (most n : ℕ) (bytes digits rest : List ℕ) → n < 2 ^ 64 → digits ≡ take (digit_count bytes) bytes → rest ≡ drop (digit_count bytes) bytes → digits ≡ decimal n → n ≤ most → number_at most bytes ≡ Some (n, rest)
+unfolding number_at
+number_read most n bytes digits rest small front back is within = rw (back, sym front ∙ is, number_of_decimal most n small, le-leb n most within) refl
+
+pub number_takes : (most n : ℕ) (bytes rest : List ℕ) → number_at most bytes ≡ Some (n, rest) → (bytes ≡ decimal n ++ rest) × (n ≤ most)
+unfolding number_at
+number_takes most n bytes rest e =
+    let digits : List ℕ = take (digit_count bytes) bytes in
+    let value : ℕ = digits_value 10 digits in
+    let step = bind_some (number_of most digits) (λ m. Some (m, drop (digit_count bytes) bytes)) (n, rest) e in
+    let tested = cond_some (bytes_eq (decimal value) digits && leb value most) value step.0 step.1 in
+    let parts = and_parts (bytes_eq (decimal value) digits) (leb value most) tested.0 in
+    let given = some_pair_parts step.0 n (drop (digit_count bytes) bytes) rest step.2 in
+    let is : value ≡ n = tested.1 ∙ given.0 in
+    let front : digits ≡ decimal n = sym ((bytes_eq-Decides (decimal value) digits).0 parts.0) ∙ ap decimal is in
+    let within : value ≤ most = leb-true value most parts.1 in
+    (sym (take-append-drop (digit_count bytes) bytes) ∙ ap (λ (x : List ℕ). x ++ drop (digit_count bytes) bytes) front ∙ ap (λ (x : List ℕ). decimal n ++ x) given.1, omega arith)
+
+pub number_again : (most n : ℕ) (rest : List ℕ) → most < 2 ^ 64 → n ≤ most → digit_count rest ≡ 0 → number_at most (decimal n ++ rest) ≡ Some (n, rest)
+number_again most n rest small within none =
+    let count : digit_count (decimal n ++ rest) ≡ length (decimal n) = digit_count-append (decimal n) rest (decimal_is_IsNumeral n (omega arith)).0.1 none in
+    number_read most n (decimal n ++ rest) (decimal n) rest (omega arith) (sym (take_at (decimal n) rest (digit_count (decimal n ++ rest)) (sym count))) (sym (drop_at (decimal n) rest (digit_count (decimal n ++ rest)) (sym count))) refl within
+
+-- ---- what `parse` says of digits
+
+own : IsNumeralModel (AllDigits 10) (digits_value 10)
+own = numerals_by_value (AllDigits 10) tells_digits
+
+pub digits_are_text : {S E : Type 0} (Q : S → Type 0) (P : E → Type 0) (digits : List ℕ) (r : Result S E) → AllDigits 10 digits → MatchResult r Q (λ e. ¬ (IsUtf8 digits) × P e) → result_ok r ≡ None → ⊥
+digits_are_text Q P digits (Ok x) all h e = cc
+digits_are_text Q P digits (Err x) all h e = h.0 (IsUtf8-from_ascii digits (IsAscii-from_digits digits all))
+
+-- no number but 0 has a zero at its front
+pub no_zero_in_front : (n : ℕ) (digits : List ℕ) → n < 2 ^ 64 → 1 < length digits → get_or digits 0 0 ≡ 48 → digits ≡ decimal n → ⊥
+no_zero_in_front n digits small long zero_first is =
+    elim (cases_eq n 0) [
+      | inl e ↦ let one : digits ≡ 48 ∷ [] = is ∙ ap decimal e ∙ decimal_digit 0 (lit< tt) in let len : length digits ≡ 1 = ap length one in omega arith
+      | inr e ↦ let first : 48 < get_or (decimal n) 0 0 = first_decimal n (omega arith) small in let same : get_or digits 0 0 ≡ get_or (decimal n) 0 0 = ap (λ (x : List ℕ). get_or x 0 0) is in omega arith
+    ]
+
+pub parsed : {E : Type 0} (digits : List ℕ) (r : Result ℕ E) → AllDigits 10 digits → (1 < length digits → get_or digits 0 0 ≢ 48) → ParsesUnsigned 64 10 digits r
+    → MatchOption (result_ok r) ((n : ℕ) → n < 2 ^ 64 → digits ≢ decimal n) (λ n. digits ≡ decimal n)
+parsed digits r all plain h = by r (parse_digits own 64 digits r h all)
+  where
+    first : 0 < length digits → get_or digits 0 0 ≡ 48 → length digits ≡ 1
+    first some e = elim (cases_lt 1 (length digits)) [ inl long ↦ absurd (plain long e) | inr short ↦ omega arith ]
+
+    by : {E : Type 0} (r : Result ℕ E) → OkIff r ((0 < length digits) × (digits_value 10 digits < 2 ^ 64)) (digits_value 10 digits) → MatchOption (result_ok r) ((n : ℕ) → n < 2 ^ 64 → digits ≢ decimal n) (λ n. digits ≡ decimal n)
+    by (Ok x) given = sym (decimal-digits_value own digits all given.0.0 (first given.0.0) given.0.1) ∙ ap decimal (sym given.1)
+    by (Err x) given = λ n small is. given (subst (λ (ds : List ℕ). 0 < length ds) (sym is) (decimal_nonempty n small), subst (λ (v : ℕ). v < 2 ^ 64) (sym (ap (digits_value 10) is ∙ (decimal_is_IsNumeral n small).1)) small)

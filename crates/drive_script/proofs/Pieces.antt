@@ -1,0 +1,49 @@
+-- The lines of some bytes, one after the other.
+use Rattle.std.proofs.Common.{◌≡◌, ℕ, ◌+◌, ◌<◌, ◌==◌, Bool, false, not, List, [], ◌∷◌, ◌++◌, length, get_or, take, refl, sym, ap, subst, ◌∙◌, arith}
+use Rattle.std.specs.Prelude.{All}
+use Rattle.std.specs.List.{slice_split, position_or_len, before_first, after_first}
+use Rattle.std.proofs.lemmas.Bool.{not-true}
+use Rattle.std.proofs.lemmas.List.{append_assoc, length-append, length_push, take_at, take-append-le}
+use Rattle.std.proofs.lemmas.List.Elements.{All-from_get_or}
+use Rattle.std.proofs.lemmas.List.Splits.{slice_split_first, slice_split_none, length-slice_split}
+use Rattle.std.proofs.lemmas.List.Sums.{prefix_len_passes}
+use Rattle.metrics_core.specs.Characters.{newline}
+use Rattle.drive_script.specs.Script.{without_empty_last, lines_of}
+use Rattle.drive_script.specs.Valid.{AreValidLines, IsFirstBadLine}
+use Rattle.drive_script.proofs.Growth.{fronts_valid}
+
+abbrev pub ends_line : ℕ → Bool
+ends_line c = c == newline
+
+more_pieces : (piece : List ℕ) (pieces : List (List ℕ)) → 0 < length pieces → without_empty_last (piece ∷ pieces) ≡ piece ∷ without_empty_last pieces
+more_pieces piece [] some = absurd (omega (arith, some))
+more_pieces [] (other ∷ pieces) some = refl
+more_pieces (c ∷ piece) (other ∷ pieces) some = refl
+
+-- a newline ends the first line
+pub line_ended : (bytes : List ℕ) → position_or_len ends_line bytes < length bytes → lines_of bytes ≡ before_first ends_line bytes ∷ lines_of (after_first ends_line bytes)
+line_ended bytes found =
+    ap without_empty_last (slice_split_first ends_line bytes 0 found)
+    ∙ more_pieces (before_first ends_line bytes) (slice_split ends_line (after_first ends_line bytes)) (omega (arith, length-slice_split ends_line (after_first ends_line bytes)))
+
+one_piece : (bytes : List ℕ) → 0 < length bytes → without_empty_last (bytes ∷ []) ≡ bytes ∷ []
+one_piece [] some = absurd (omega (arith, some))
+one_piece (c ∷ bytes) some = refl
+
+-- without a newline the bytes are one line
+pub line_unended : (bytes : List ℕ) → 0 < length bytes → position_or_len ends_line bytes ≡ length bytes → lines_of bytes ≡ bytes ∷ []
+line_unended bytes some none =
+    let no_end : All (λ c. ends_line c ≡ false) bytes = All-from_get_or (λ c. ends_line c ≡ false) bytes 0 (λ i within. not-true (ends_line (get_or bytes i 0)) (prefix_len_passes (λ c. not (ends_line c)) bytes i 0 (omega arith))) in
+    ap without_empty_last (slice_split_none ends_line bytes no_end) ∙ one_piece bytes some
+
+-- where the lines before are a valid script, and with this one they are none, it is the first bad one
+pub first_bad : (bytes : List ℕ) (done : List (List ℕ)) (line : List ℕ) (more : List (List ℕ)) (l : ℕ) → lines_of bytes ≡ done ++ line ∷ more → l ≡ length done + 1 → AreValidLines done → ¬ AreValidLines (done ++ line ∷ []) → IsFirstBadLine bytes l
+first_bad bytes done line more l split count valid bad =
+    let so_far : take l (lines_of bytes) ≡ done ++ line ∷ [] = ap (take l) (split ∙ sym (append_assoc done (line ∷ []) more)) ∙ take_at (done ++ line ∷ []) more l (omega (arith, length_push done line)) in
+    record {
+      is_line = (omega arith, omega (arith, ap length split, length-append done (line ∷ more)));
+      bad = λ v. bad (subst AreValidLines so_far v);
+      first = λ k fewer.
+          let front : take k (lines_of bytes) ≡ take k done = ap (take k) split ∙ take-append-le k done (line ∷ more) (omega arith) in
+          subst AreValidLines (sym front) (fronts_valid k done (omega arith) valid);
+    }

@@ -1,0 +1,123 @@
+-- One step of the progress: the last round with one more line.
+use Rattle.std.proofs.Common.{◌≡◌, ℕ, suc, ◌+◌, ◌-◌, ◌<◌, ◌≤◌, Bool, true, false, List, [], ◌∷◌, ◌++◌, map, length, get_or, set, take, Option, Some, None, refl, sym, ap, ◌∙◌, arith}
+use Rattle.std.specs.Global.{Vec}
+use Rattle.std.specs.Prelude.{slice_get, option_map, Result, Ok, Err, IfOk, OnOk, MatchBool}
+use Rattle.std.proofs.lemmas.List.{take_all, take_more, set_split, drop_all, map_push, same_from_push, length-map, length_push}
+use Rattle.std.proofs.lemmas.Option.{slice_get_read, slice_get-map, slice_get_within, same_Some}
+use Rattle.metrics_core.specs.Keys.{KeyText}
+use Rattle.metrics_core.specs.declared.kinds.MetricKind.{MetricKind}
+use Rattle.drive_script.specs.Script as text
+use Rattle.drive_script.specs.Script.{ScriptText, no_settings, IsLine}
+use Rattle.drive_script.specs.Valid.{Registration, registered, HasHandle, AreValidLines}
+use Rattle.drive_script.specs.Growth.{SetsUp, AddsCall, IsNext}
+use Rattle.drive_script.specs.Texts.{call_line_of, setup_of, round_of, script_so_far, KnowsKinds, StandsBehind}
+use Rattle.drive_script.specs.declared.progress.Progress.{Progress}
+use Rattle.drive_script.specs.declared.script.CallLine.{CallLine}
+use Rattle.drive_script.specs.declared.script.Setup.{Setup}
+use Rattle.drive_script.specs.declared.script.Setup.TheVariants as setups
+use Rattle.drive_script.specs.declared.script.Round.{Round}
+use Rattle.drive_script.proofs.Growth.{one_registered, next_valid, only_next}
+
+abbrev with_rounds : List text.RoundText → ScriptText
+with_rounds rounds = record { settings = no_settings; rounds = rounds }
+
+abbrev round_with : ℕ → List text.SetupLine → List text.CallLine → text.RoundText
+round_with moment setup calls = record { moment = moment; setup = setup; calls = calls }
+
+-- the script of these rounds
+abbrev pub script_with : List Round → ScriptText
+script_with rounds = record { settings = no_settings; rounds = map round_of rounds }
+
+module _ (rounds : List Round) (n : ℕ) (len : n ≡ length rounds) (some : 0 < n) where
+  last_set : (new : Round) → set rounds (n - 1) new ≡ take (n - 1) rounds ++ new ∷ []
+  last_set new = set_split rounds (n - 1) new (omega arith) ∙ ap (λ l. take (n - 1) rounds ++ new ∷ l) (drop_all (suc (n - 1)) rounds (omega arith))
+
+  texts_set : (new : Round) → map round_of (set rounds (n - 1) new) ≡ map round_of (take (n - 1) rounds) ++ round_of new ∷ []
+  texts_set new = ap (map round_of) (last_set new) ∙ map_push round_of (take (n - 1) rounds) new
+
+  module _ (round : Round) (last : round ≡ get_or rounds (n - 1) round) where
+    last_split : rounds ≡ take (n - 1) rounds ++ round ∷ []
+    last_split = sym (take_all (n - 1 + 1) rounds (omega arith)) ∙ take_more rounds (n - 1) round (omega arith) ∙ ap (λ r. take (n - 1) rounds ++ r ∷ []) (sym last)
+
+    texts_split : map round_of rounds ≡ map round_of (take (n - 1) rounds) ++ round_of round ∷ []
+    texts_split = ap (map round_of) last_split ∙ map_push round_of (take (n - 1) rounds) round
+
+    -- one more call line
+    pub call_added : (calls : Vec CallLine) (call : CallLine) → calls.items ≡ round.calls.items ++ call ∷ [] → HasHandle (registered (script_with rounds)) (call_line_of call)
+        → AddsCall (script_with rounds) (call_line_of call) (script_with (set rounds (n - 1) (record { moment = round.moment; setup = round.setup; calls = calls })))
+    call_added calls call e handle =
+        let with_calls = λ (cs : List text.CallLine). with_rounds (map round_of (take (n - 1) rounds) ++ round_with round.moment (map setup_of round.setup.items) cs ∷ []) in
+        record {
+          before = map round_of (take (n - 1) rounds);
+          round = round_of round;
+          last = texts_split;
+          grown = ap with_rounds (texts_set (record { moment = round.moment; setup = round.setup; calls = calls })) ∙ ap with_calls (ap (map call_line_of) e ∙ map_push call_line_of round.calls.items call);
+          handle = handle;
+        }
+
+    -- one more register line
+    module _ (setup : Vec Setup) (kind : MetricKind) (key : KeyText) (e : setup.items ≡ round.setup.items ++ setups.Register kind key ∷ []) (no_call : round.calls.items ≡ []) where
+      grown : script_with (set rounds (n - 1) (record { moment = round.moment; setup = setup; calls = round.calls })) ≡ record { settings = no_settings; rounds = map round_of (take (n - 1) rounds) ++ record (round_of round) { setup = map setup_of round.setup.items ++ text.Register kind key ∷ [] } ∷ [] }
+      grown =
+          let with_setup = λ (ss : List text.SetupLine). with_rounds (map round_of (take (n - 1) rounds) ++ round_with round.moment ss (map call_line_of round.calls.items) ∷ []) in
+          ap with_rounds (texts_set (record { moment = round.moment; setup = setup; calls = round.calls })) ∙ ap with_setup (ap (map setup_of) e ∙ map_push setup_of round.setup.items (setups.Register kind key))
+
+      pub key_registered : registered (script_with (set rounds (n - 1) (record { moment = round.moment; setup = setup; calls = round.calls }))) ≡ registered (script_with rounds) ++ record { kind = kind; key = key } ∷ []
+      key_registered = one_registered (script_with rounds) (script_with (set rounds (n - 1) (record { moment = round.moment; setup = setup; calls = round.calls }))) (map round_of (take (n - 1) rounds)) (round_of round) kind key texts_split grown
+
+      pub register_added : length (registered (script_with rounds)) < 1000000 → SetsUp (script_with rounds) (text.Register kind key) (script_with (set rounds (n - 1) (record { moment = round.moment; setup = setup; calls = round.calls })))
+      register_added room = record {
+        before = map round_of (take (n - 1) rounds);
+        round = round_of round;
+        last = texts_split;
+        no_call = ap (map call_line_of) no_call;
+        grown = grown;
+        room = omega (arith, ap length key_registered, length_push (registered (script_with rounds)) (record { kind = kind; key = key }));
+      }
+
+    -- behind a call line nothing is set up
+    pub calls_stand : (setup : text.SetupLine) (new : ScriptText) → 0 < length round.calls.items → SetsUp (script_with rounds) setup new → ⊥
+    calls_stand setup new some_call h =
+        let same = same_from_push (map round_of (take (n - 1) rounds)) h.before (round_of round) h.round (sym texts_split ∙ h.last) in
+        let none : map call_line_of round.calls.items ≡ [] = ap (λ (r : text.RoundText). r.calls) same.1 ∙ h.no_call in
+        omega (arith, ap length none, length-map round.calls.items call_line_of)
+
+-- 1,000,000 register lines are the most
+pub register_full : (old new : ScriptText) (kind : MetricKind) (key : KeyText) → 1000000 ≤ length (registered old) → SetsUp old (text.Register kind key) new → ⊥
+register_full old new kind key full h = omega (arith, h.room, ap length (one_registered old new h.before h.round kind key h.last h.grown), length_push (registered old) (record { kind = kind; key = key }))
+
+-- ---- the kinds of the register lines
+
+abbrev pub kinds_of : List Registration → List MetricKind
+kinds_of rs = map (λ (r : Registration). r.kind) rs
+
+registration_known : (o : Option Registration) (kind : MetricKind) → option_map (λ (r : Registration). r.kind) o ≡ Some kind → (key : KeyText) × (o ≡ Some (record { kind = kind; key = key }))
+registration_known None kind e = absurd cc
+registration_known (Some r) kind e = (r.key, ap (λ k. Some (record r { kind = k })) (same_Some r.kind kind e))
+
+-- a call's handle is that of a register line of its kind just where the kind at that place is the call's
+pub handle_decides : (rs : List Registration) (kinds : List MetricKind) (place : ℕ) (kind wanted : MetricKind) (same : Bool) → kinds ≡ kinds_of rs → place < length kinds → kind ≡ get_or kinds place kind → (same ≡ true → kind ≡ wanted) → (kind ≡ wanted → same ≡ true)
+    → (same ≡ true → (key : KeyText) × (slice_get rs place ≡ Some (record { kind = wanted; key = key }))) × ((key : KeyText) × (slice_get rs place ≡ Some (record { kind = wanted; key = key })) → same ≡ true)
+handle_decides rs kinds place kind wanted same knows within at is_call is_same =
+    let here : option_map (λ (r : Registration). r.kind) (slice_get rs place) ≡ Some kind = sym (slice_get-map (λ (r : Registration). r.kind) rs place) ∙ ap (λ ks. slice_get ks place) (sym knows) ∙ slice_get_read kinds (length kinds) place kind refl within at in (
+      λ is. registration_known (slice_get rs place) wanted (here ∙ ap Some (is_call is)),
+      λ h. is_same (same_Some kind wanted (sym here ∙ ap (option_map (λ (r : Registration). r.kind)) h.1)),
+    )
+
+-- past the register lines there is no handle
+pub no_handle : (rs : List Registration) (kinds : List MetricKind) (place : ℕ) (wanted : MetricKind) → kinds ≡ kinds_of rs → length kinds ≤ place → (key : KeyText) × (slice_get rs place ≡ Some (record { kind = wanted; key = key })) → ⊥
+no_handle rs kinds place wanted knows past h =
+    let within : place < length rs = slice_get_within rs place (record { kind = wanted; key = h.0 }) h.1 in
+    omega (arith, ap length knows, length-map rs (λ (r : Registration). r.kind))
+
+-- ---- one line
+
+-- what a step says of the script, said of the lines
+pub step_taken : {E : Type 0} (lines : List (List ℕ)) (line : List ℕ) (old new : Progress) (says : text.ScriptLine) (r : Result Bool E) → StandsBehind lines old → IsLine line says → OnOk r (KnowsKinds new)
+    → IfOk r (λ taken. MatchBool taken (IsNext (script_so_far old) says (script_so_far new)) ((t : ScriptText) → ¬ IsNext (script_so_far old) says t))
+    → IfOk r (λ taken. MatchBool taken (StandsBehind (lines ++ line ∷ []) new) (¬ AreValidLines (lines ++ line ∷ [])))
+step_taken lines line old new says (Ok true) h is_line knows next =
+    let valid = next_valid lines line (script_so_far old) (script_so_far new) says (h.script, h.valid) is_line next in
+    record { script = valid.0; valid = valid.1; kinds = knows }
+step_taken lines line old new says (Ok false) h is_line knows none = only_next lines line (script_so_far old) says (h.script, h.valid) is_line none
+step_taken lines line old new says (Err e) h is_line knows next = tt

@@ -1,0 +1,15 @@
+//! Worked examples of scripts, checked against the definitions. Their functions do nothing.
+
+ghost use Rattle.std.specs.Prelude.{[]};
+ghost use Rattle.drive_script.specs.Valid.{IsScriptOf};
+ghost use Rattle.drive_script.specs.Vectors.{basic, basic_bytes, empty};
+
+/// A round line, a register line and a call line are a script of one round.
+pub fn basic_example()
+    ensures { IsScriptOf basic_bytes basic }
+{}
+
+/// No bytes are the script without rounds.
+pub fn empty_example()
+    ensures { IsScriptOf [] empty }
+{}

@@ -1,0 +1,138 @@
+//! What the lines so far say, and whether one more line may stand behind them.
+
+ghost use Rattle.std.specs.Prelude.{
+  ◌≡◌,
+  ℕ,
+  List,
+  [],
+  ◌∷◌,
+  ◌++◌,
+  ◌↔◌,
+  IsTrue,
+  IfOk,
+  OnOk,
+  MatchBool,
+};
+ghost use Rattle.drive_script.specs.Growth.{IsNext};
+ghost use Rattle.drive_script.specs.Script as text;
+ghost use Rattle.drive_script.specs.Texts.{
+  call_line_of,
+  script_of,
+  script_so_far,
+  KnowsKinds,
+  StandsBehind,
+};
+ghost use Rattle.drive_script.specs.Valid.{registered, HasHandle, AreValidLines};
+
+use crate::lines::{Line, read_line};
+use crate::{CallLine, Round, Script, Setup};
+use metrics_core::{Key, Memory, MetricKind};
+use std::alloc::Global;
+
+/// How many register lines a script may have.
+const MAX_REGISTRATIONS: usize = 1_000_000;
+
+/// The rounds so far, and the kind of each register line in them. After an `Err` of a method it is of no use.
+#[derive(Drop)]
+pub(crate) struct Progress {
+    rounds: Vec<Round>,
+    kinds: Vec<MetricKind>,
+}
+
+impl Progress {
+    /// Nothing is said yet.
+    pub(crate) fn new(alloc: Global) -> Progress
+        ensures { StandsBehind [] result }
+    {
+        Progress {
+            rounds: Vec::new(alloc),
+            kinds: Vec::new(alloc),
+        }
+    }
+
+    /// Takes the next line. Answers whether the lines with it are a valid script.
+    pub(crate) fn take_line(&mut self, alloc: Global, line: &[u8]) -> Result<bool, Memory>
+        ensures { (lines : List (List ℕ)) → StandsBehind lines self.old → IfOk result (λ taken.
+            MatchBool taken (StandsBehind (lines ++ line.now ∷ []) self.new)
+            (¬ AreValidLines (lines ++ line.now ∷ []))) }
+    {
+        match read_line(alloc, line)? {
+            None => Ok(false),
+            Some(Line::Round(moment)) => self.begin_round(alloc, moment),
+            Some(Line::Register { kind, key }) => self.register(kind, key),
+            Some(Line::Call(call)) => self.call(call),
+        }
+    }
+
+    /// The script that the lines are.
+    pub(crate) fn into_script(self) -> Script
+        ensures { script_of result ≡ script_so_far self }
+    {
+        let Progress { rounds, kinds: _ } = self;
+        Script { rounds }
+    }
+
+    /// A round begins, if it may.
+    fn begin_round(&mut self, alloc: Global, moment: u64) -> Result<bool, Memory>
+        ensures kinds { KnowsKinds self.old → OnOk result (KnowsKinds self.new) }
+        ensures next { IfOk result (λ taken. MatchBool taken
+            (IsNext (script_so_far self.old) (text.Round moment) (script_so_far self.new))
+            ((new : text.ScriptText) → ¬ IsNext (script_so_far self.old) (text.Round moment) new)) }
+    {
+        if !self.rounds.is_empty() {
+            return Ok(false);
+        }
+        self.rounds.push(Round {
+            moment,
+            setup: Vec::new(alloc),
+            calls: Vec::new(alloc),
+        })?;
+        Ok(true)
+    }
+
+    /// The last round registers a series, if it may.
+    fn register(&mut self, kind: MetricKind, key: Key) -> Result<bool, Memory>
+        ensures kinds { KnowsKinds self.old → OnOk result (KnowsKinds self.new) }
+        ensures next { KnowsKinds self.old → IfOk result (λ taken. MatchBool taken
+            (IsNext (script_so_far self.old) (text.Setup (text.Register kind key)) (script_so_far self.new))
+            ((new : text.ScriptText) → ¬ IsNext (script_so_far self.old) (text.Setup (text.Register kind key)) new)) }
+    {
+        let Some(round) = self.rounds.last_mut() else {
+            return Ok(false);
+        };
+        if !round.calls.is_empty() || self.kinds.len() >= MAX_REGISTRATIONS {
+            return Ok(false);
+        }
+        self.kinds.push(kind)?;
+        round.setup.push(Setup::Register { kind, key })?;
+        Ok(true)
+    }
+
+    /// The last round calls, if it may.
+    fn call(&mut self, call: CallLine) -> Result<bool, Memory>
+        ensures kinds { KnowsKinds self.old → OnOk result (KnowsKinds self.new) }
+        ensures next { KnowsKinds self.old → IfOk result (λ taken. MatchBool taken
+            (IsNext (script_so_far self.old) (text.CallOf (call_line_of call)) (script_so_far self.new))
+            ((new : text.ScriptText) → ¬ IsNext (script_so_far self.old) (text.CallOf (call_line_of call)) new)) }
+    {
+        if !self.has_handle(&call) {
+            return Ok(false);
+        }
+        let Some(round) = self.rounds.last_mut() else {
+            return Ok(false);
+        };
+        round.calls.push(call)?;
+        Ok(true)
+    }
+
+    /// Whether the call's handle is that of a register line, of the call's kind.
+    fn has_handle(&self, call: &CallLine) -> bool
+        ensures { KnowsKinds self.now
+            → IsTrue result ↔ HasHandle (registered (script_so_far self.now)) (call_line_of call.now) }
+    {
+        match self.kinds.get(call.handle as usize) {
+            Some(kind) => *kind == call.act.kind(),
+            None => false,
+        }
+    }
+}

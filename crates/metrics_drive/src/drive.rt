@@ -1,0 +1,61 @@
+//! The run of a script: its source is read whole, its bytes as a script, and the script is played.
+
+ghost use Rattle.std.specs.Prelude.{◌≡◌, IfErr, IfOk, IfSome, OnOk};
+ghost use Rattle.metrics_core.specs.Outside.{Rose};
+ghost use Rattle.metrics_drive.specs.Answers.{
+  end_status,
+  report_of,
+  HasCause,
+  HasDeviceCause,
+  HasRounds,
+  IsComplete,
+  LeavesFront,
+  LeavesUnplayed,
+};
+ghost use Rattle.metrics_drive.specs.Headline.{IsPlayed};
+
+use crate::Report;
+use crate::play::play;
+use crate::reading::read_all;
+use drive_script::{DriveFault, read_script};
+use metrics_core::{Sink, Source};
+use std::alloc::Global;
+
+/// Reads the whole script from the source and plays it: one page for each round goes to `out`, each ended by the line
+/// `# EOF`. Nothing is written before the whole script was read and found valid.
+pub fn drive<S: Source, K: Sink>(
+    alloc: Global,
+    source: &mut S,
+    out: &mut K,
+) -> Result<Report, DriveFault>
+    // What was written is one page per round, each exactly the families of the sequential state, for one order of the calls.
+    ensures played { OnOk result (IfSome (S.left source.old) (λ bytes. IsPlayed bytes (K.written out.old) (K.written out.new))) }
+    ensures rounds { IfOk result (λ report. IfSome (S.left source.old) (λ bytes. HasRounds bytes report.pages)) }
+    ensures none_sent { IfOk result (λ report. report ≡ report_of report.pages) }
+
+    // Each fault comes only by its cause.
+    ensures cause { IfErr result (λ fault. IfSome (S.left source.old) (λ bytes.
+        HasCause bytes (Rose (S.faults source.old) (S.faults source.new)) (Rose (K.faults out.old) (K.faults out.new)) fault)) }
+    ensures device { IfErr result (HasDeviceCause (Rose (S.faults source.old) (S.faults source.new)) (Rose (K.faults out.old) (K.faults out.new))) }
+
+    // What each fault leaves.
+    ensures unplayed { IfErr result (LeavesUnplayed (K.written out.old) (K.written out.new)) }
+    ensures front { IfErr result (λ fault. IfSome (S.left source.old) (λ bytes. LeavesFront bytes (K.written out.old) (K.written out.new) fault)) }
+
+    // Each cause brings its answer.
+    ensures complete { IfSome (S.left source.old) (λ bytes.
+        IsComplete bytes (Rose (S.faults source.old) (S.faults source.new)) (Rose (K.faults out.old) (K.faults out.new)) (end_status result)) }
+{
+    let bytes = match read_all(alloc, source) {
+        Ok(bytes) => bytes,
+        Err(fault) => return Err(fault),
+    };
+    let script = match read_script(alloc, &bytes) {
+        Ok(script) => script,
+        Err(fault) => return Err(fault),
+    };
+    match play(alloc, &script, out) {
+        Ok(report) => Ok(report),
+        Err(fault) => Err(fault),
+    }
+}

@@ -1,0 +1,192 @@
+//! The play of a script: what each round does to the exporter, and the page that it writes.
+
+ghost use Rattle.std.specs.Prelude.{◌≡◌, ◌≤◌, fold, map, length, IfOk, IfErr, OnOk, OnErr};
+ghost use Rattle.metrics_core.specs.Outside.{Rose, GrewBy, GrewByFront};
+ghost use Rattle.drive_script.specs.Script.{no_settings};
+ghost use Rattle.drive_script.specs.Texts.{script_of};
+ghost use Rattle.metrics_drive.specs.Answers.{IsPlayFault, report_of};
+ghost use Rattle.metrics_drive.specs.Built.{AreBuiltRounds};
+ghost use Rattle.metrics_drive.specs.InTurn.{run_text};
+
+use crate::Report;
+use drive_script::{Act, CallLine, DriveFault, Round, Script, Setup};
+use metrics_core::{Memory, MetricKind, SeriesCall, SeriesId, Sink, write_whole};
+use prom_exporter::{BuildError, PrometheusBuilder, PrometheusState};
+use std::alloc::Global;
+
+/// Plays a script: a page for each round goes to the sink, each ended by the line `# EOF`.
+pub fn play<K: Sink>(alloc: Global, script: &Script, out: &mut K) -> Result<Report, DriveFault>
+    requires { AreBuiltRounds script.now.rounds.items }
+    ensures pages { OnOk result (GrewBy (K.written out.old) (K.written out.new) (run_text (script_of script.now))) }
+    ensures counted { IfOk result (λ report. report ≡ report_of (length script.now.rounds.items)) }
+    ensures front { OnErr result (GrewByFront (K.written out.old) (K.written out.new) (run_text (script_of script.now))) }
+    ensures cause { IfErr result (IsPlayFault (Rose (K.faults out.old) (K.faults out.new))) }
+    ensures never_falls { K.faults out.old ≤ K.faults out.new }
+{
+    let mut player = match Player::new(alloc) {
+        Ok(player) => player,
+        Err(Memory) => return Err(DriveFault::Memory),
+    };
+    for round in &script.rounds {
+        match player.play_round(alloc, round, out) {
+            Ok(()) => (),
+            Err(fault) => return Err(fault),
+        }
+    }
+    Ok(Report {
+        pages: script.rounds.len() as u64,
+        sent: 0,
+        unsent: 0,
+        dropped: 0,
+    })
+}
+
+/// The exporter, and the series that each register line so far was given.
+#[derive(Drop)]
+pub struct Player {
+    pub exporter: PrometheusState,
+    pub handles: Vec<SeriesId>,
+}
+
+impl Player {
+    ghost use Rattle.std.specs.Prelude.{◌≡◌, ◌≤◌, fold, map, IfOk, IfErr, OnOk, OnErr};
+    ghost use Rattle.metrics_core.specs.Outside.{Rose, GrewBy, GrewByFront};
+    ghost use Rattle.prom_format.specs.Pages.{page_text};
+    ghost use Rattle.prom_exporter.specs.Exporter.{default_settings, page_families, stepped as exporter_stepped};
+    ghost use Rattle.drive_script.specs.Script.{no_settings};
+    ghost use Rattle.drive_script.specs.Texts.{round_of, setup_of, call_line_of};
+    ghost use Rattle.metrics_drive.specs.Answers.{IsPlayFault};
+    ghost use Rattle.metrics_drive.specs.InTurn.{played, round_text};
+    ghost use Rattle.metrics_drive.specs.Play.{play_start, setup_step, exporter_settings};
+    ghost use Rattle.metrics_drive.specs.Player.{state_of};
+    ghost use Rattle.metrics_drive.specs.Turns.{call_step};
+    ghost use Rattle.metrics_drive.specs.Built.{AreBuiltSetups, IsBuiltSetup};
+
+    /// A player before its first round, over an exporter with the default settings.
+    fn new(alloc: Global) -> Result<Player, Memory>
+        ensures start { IfOk result (λ player. state_of player ≡ play_start) }
+        ensures settings { IfOk result (λ player. player.exporter.settings ≡ default_settings) }
+    {
+        let builder = PrometheusBuilder::new(alloc)?;
+        match builder.build_state(alloc) {
+            Ok(exporter) => Ok(Player {
+                exporter,
+                handles: Vec::new(alloc),
+            }),
+            Err(_) => Err(Memory),
+        }
+    }
+
+    /// Plays a round: its setup, its calls, its page.
+    fn play_round<K: Sink>(
+        &mut self,
+        alloc: Global,
+        round: &Round,
+        out: &mut K,
+    ) -> Result<(), DriveFault>
+        requires settings { self.old.exporter.settings ≡ default_settings }
+        requires built { AreBuiltSetups round.now.setup.items }
+        ensures settings { self.new.exporter.settings ≡ default_settings }
+        ensures played { OnOk result (state_of self.new ≡ played no_settings (state_of self.old) (round_of round.now)) }
+        ensures page { OnOk result (GrewBy (K.written out.old) (K.written out.new) (round_text no_settings (state_of self.old) (round_of round.now))) }
+        ensures front { OnErr result (GrewByFront (K.written out.old) (K.written out.new) (round_text no_settings (state_of self.old) (round_of round.now))) }
+        ensures cause { IfErr result (IsPlayFault (Rose (K.faults out.old) (K.faults out.new))) }
+        ensures never_falls { K.faults out.old ≤ K.faults out.new }
+    {
+        match self.set_up(alloc, &round.setup) {
+            Ok(()) => (),
+            Err(Memory) => return Err(DriveFault::Memory),
+        }
+        match self.make_calls(alloc, round.moment, &round.calls) {
+            Ok(()) => (),
+            Err(Memory) => return Err(DriveFault::Memory),
+        }
+        self.write_page(alloc, round.moment, out)
+    }
+
+    /// Does the setup lines in order.
+    fn set_up(&mut self, alloc: Global, setup: &[Setup]) -> Result<(), Memory>
+        requires { AreBuiltSetups setup.now }
+        ensures settings { self.new.exporter.settings ≡ self.old.exporter.settings }
+        ensures stepped { OnOk result (state_of self.new ≡ fold setup_step (state_of self.old) (map setup_of setup.now)) }
+    {
+        for line in setup {
+            match self.set_up_line(alloc, line) {
+                Ok(()) => (),
+                Err(refused) => return Err(refused),
+            }
+        }
+        Ok(())
+    }
+
+    /// Does one setup line.
+    fn set_up_line(&mut self, alloc: Global, line: &Setup) -> Result<(), Memory>
+        requires { IsBuiltSetup (setup_of line.now) }
+        ensures settings { self.new.exporter.settings ≡ self.old.exporter.settings }
+        ensures stepped { OnOk result (state_of self.new ≡ setup_step (state_of self.old) (setup_of line.now)) }
+    {
+        let Setup::Register { kind, key } = line;
+        let id = match kind {
+            MetricKind::Counter => self.exporter.register_counter(alloc, key)?,
+            MetricKind::Gauge | MetricKind::Histogram => unreachable!(),
+        };
+        self.handles.push(id)?;
+        Ok(())
+    }
+
+    /// Makes the calls of a round at its moment, in nanoseconds, in the script's order.
+    fn make_calls(&mut self, alloc: Global, moment: u64, calls: &[CallLine]) -> Result<(), Memory>
+        ensures settings { self.new.exporter.settings ≡ self.old.exporter.settings }
+        ensures called { OnOk result (state_of self.new ≡ fold (call_step moment) (state_of self.old) (map call_line_of calls.now)) }
+    {
+        for line in calls {
+            match self.make_call(alloc, moment, line) {
+                Ok(()) => (),
+                Err(refused) => return Err(refused),
+            }
+        }
+        Ok(())
+    }
+
+    /// Makes one call. A handle that no register line has names no series.
+    fn make_call(&mut self, alloc: Global, _moment: u64, line: &CallLine) -> Result<(), Memory>
+        ensures settings { self.new.exporter.settings ≡ self.old.exporter.settings }
+        ensures called { OnOk result (state_of self.new ≡ call_step _moment (state_of self.old) (call_line_of line.now)) }
+    {
+        let Some(id) = self.handles.get(line.handle as usize).copied() else {
+            return Ok(());
+        };
+        let call = match line.act {
+            Act::Inc(value) => SeriesCall::Increment(value),
+        };
+        match self.exporter.apply(alloc, id, call) {
+            Ok(_) => Ok(()),
+            Err(refused) => Err(refused),
+        }
+    }
+
+    /// Writes the page at a moment, ended by the line `# EOF`.
+    fn write_page<K: Sink>(
+        &mut self,
+        alloc: Global,
+        moment: u64,
+        out: &mut K,
+    ) -> Result<(), DriveFault>
+        ensures settings { self.new.exporter.settings ≡ self.old.exporter.settings }
+        ensures stepped { OnOk result (state_of self.new ≡ record (state_of self.old) { prometheus = (exporter_stepped moment self.old.exporter).state }) }
+        ensures page { OnOk result (GrewBy (K.written out.old) (K.written out.new) (page_text (page_families moment self.old.exporter))) }
+        ensures front { OnErr result (GrewByFront (K.written out.old) (K.written out.new) (page_text (page_families moment self.old.exporter))) }
+        ensures cause { IfErr result (IsPlayFault (Rose (K.faults out.old) (K.faults out.new))) }
+        ensures never_falls { K.faults out.old ≤ K.faults out.new }
+    {
+        match self.exporter.render_to_write(alloc, moment, out) {
+            Ok(()) => (),
+            Err(BuildError::WriteFault) => return Err(DriveFault::WriteFault),
+            Err(BuildError::Memory) => return Err(DriveFault::Memory),
+        }
+        match write_whole(out, b"# EOF\n") {
+            Ok(()) => Ok(()),
+            Err(_) => Err(DriveFault::WriteFault),
+        }
+    }
+}

@@ -1,0 +1,12 @@
+-- How entries of a map of texts are seen as labels.
+use Rattle.std.specs.Prelude.{List, map, string_bytes}
+use Rattle.std.specs.declared.string.String.{String}
+use Rattle.std.specs.declared.alloc.Global.{Global}
+use Rattle.metrics_core.specs.Keys.{LabelText}
+
+abbrev pub label_of_entry : String Global × String Global → LabelText
+label_of_entry (key, value) = record { key = string_bytes key; value = string_bytes value }
+
+-- the labels of a map's entries, in their order
+abbrev pub labels_of : List (String Global × String Global) → List LabelText
+labels_of entries = map label_of_entry entries
