@@ -10,6 +10,8 @@ mod names;
 mod numbers;
 mod printed;
 mod suffixes;
+#[cfg(test)]
+mod tests;
 
 pub use families::FamilyType;
 pub use labels::{LabelSet, LabelStrings};
