@@ -30,15 +30,33 @@ fn labels_with_global(alloc: Global) -> Result<LabelSet, Memory> {
     LabelSet::from_key_and_global(alloc, &Key::from_parts(name, labels), &global)
 }
 
-/// The labels of one global label.
-fn one_label(alloc: Global, key: &str, value: &str) -> Result<LabelSet, Memory> {
+/// The row of a series with one label, which is a global one.
+fn labelled_row(
+    alloc: Global,
+    label: (&str, &str),
+    name: &str,
+    suffix: Option<&'static str>,
+    additional_label: Option<(&'static str, &str)>,
+    value: &str,
+) -> Result<String, Memory> {
     let mut global = IndexMap::new(alloc);
     global.insert(
-        String::from_str(alloc, key)?,
-        String::from_str(alloc, value)?,
+        String::from_str(alloc, label.0)?,
+        String::from_str(alloc, label.1)?,
     )?;
-    let name = KeyName::from(SharedString::from_borrowed("x"));
-    LabelSet::from_key_and_global(alloc, &Key::from_name(name), &global)
+    let key = Key::from_name(KeyName::from(SharedString::from_borrowed("x")));
+    let labels = LabelSet::from_key_and_global(alloc, &key, &global)?;
+    let mut row = String::new(alloc);
+    write_metric_line(
+        &mut row,
+        name,
+        suffix,
+        &labels,
+        additional_label,
+        value,
+        None,
+    )?;
+    Ok(row)
 }
 
 #[test]
@@ -90,37 +108,56 @@ fn numbers_are_spelled(rt: HostRuntime) -> Result<(), Fail> {
 
 #[test]
 fn lines_are_appended(rt: HostRuntime) -> Result<(), Fail> {
-    let alloc = rt.alloc();
-    let none = LabelSet::empty(alloc);
-    assert!(rt; none.is_empty());
-    let wutang = one_label(alloc, "wutang", "forever")?;
-    let newline = one_label(alloc, "a", "\n")?;
-    let le = Some(("le", "+Inf"));
-    let total = Some("total");
-    let mut page = String::new(alloc);
+    let mut page = String::new(rt.alloc());
     write_help_line(&mut page, "a", None, None, "say \"x\"")?;
     write_type_line(&mut page, "basic_counter", None, None, "counter")?;
-    write_metric_line(&mut page, "basic_gauge", None, &wutang, None, "-3.14", None)?;
-    write_metric_line(&mut page, "h", Some("bucket"), &newline, le, "4", None)?;
+    assert_eq!(rt;
+        page.as_str(),
+        "# HELP a say \"x\"\n# TYPE basic_counter counter\n"
+    );
+    Ok(())
+}
+
+#[test]
+fn rows_have_their_labels(rt: HostRuntime) -> Result<(), Fail> {
+    let alloc = rt.alloc();
+    let gauge = labelled_row(
+        alloc,
+        ("wutang", "forever"),
+        "basic_gauge",
+        None,
+        None,
+        "-3.14",
+    )?;
+    assert_eq!(rt; gauge.as_str(), "basic_gauge{wutang=\"forever\"} -3.14\n");
+    let bucket = labelled_row(
+        alloc,
+        ("a", "\n"),
+        "h",
+        Some("bucket"),
+        Some(("le", "+Inf")),
+        "4",
+    )?;
+    assert_eq!(rt; bucket.as_str(), "h_bucket{a=\"\\n\",le=\"+Inf\"} 4\n");
+    Ok(())
+}
+
+#[test]
+fn units_stand_before_suffixes(rt: HostRuntime) -> Result<(), Fail> {
+    let labels = LabelSet::empty(rt.alloc());
+    assert!(rt; labels.is_empty());
+    let mut row = String::new(rt.alloc());
+    let total = Some("total");
     write_metric_line(
-        &mut page,
+        &mut row,
         "lat_total",
         total,
-        &none,
+        &labels,
         None,
         "5",
         Some(Unit::Seconds),
     )?;
-    let mut lines = page.lines();
-    for line in [
-        "# HELP a say \"x\"",
-        "# TYPE basic_counter counter",
-        "basic_gauge{wutang=\"forever\"} -3.14",
-        "h_bucket{a=\"\\n\",le=\"+Inf\"} 4",
-        "lat_seconds_total 5",
-    ] {
-        assert_eq!(rt; lines.next(), Some(line));
-    }
+    assert_eq!(rt; row.as_str(), "lat_seconds_total 5\n");
     Ok(())
 }
 
