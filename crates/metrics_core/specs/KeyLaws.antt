@@ -5,7 +5,11 @@ use Rattle.std.specs.List.{list_all}
 use Rattle.std.proofs.lemmas.Bool.{eq-eqb, eqb-true}
 use Rattle.std.proofs.lemmas.Slice.Eq.{bytes_eq-Decides}
 use Rattle.std.proofs.lemmas.List.Sums.{sum_by-cons, sum_by-append}
-use Rattle.std.specs.Cmp.{IsEquivalence, decided}
+use Rattle.std.specs.Cmp.{IsEquivalence, IsTotalOrder, then_total, decided}
+use Rattle.std.specs.Cmp.Lexicographic.{on_texts}
+use Rattle.std.specs.Cmp.Rules.{comparing}
+use Rattle.std.specs.Ordering.{eq_by_cmp}
+use Rattle.std.proofs.Common.{rules}
 use Rattle.std.specs.Hash as fed
 use Rattle.std.specs.Prelude.{IsTrue, sum_by, fold, ◌/◌, ◌*◌}
 use Rattle.std.proofs.Math.Nat.{add-mul-mod_self_left, mod-add-div, mod-eq_of_lt}
@@ -13,7 +17,7 @@ use Rattle.std.proofs.lemmas.List.Folds.{list_all-append}
 use Rattle.std.proofs.lemmas.Bool.Decides.{same_from_decides}
 use Rattle.metrics_core.specs.Numbers.{in_64_bits}
 use Rattle.metrics_core.specs.Hashes.{label_hash, key_hash, hash_bytes}
-use Rattle.metrics_core.specs.Keys.{LabelText, KeyText, label_eq, occurrences, same_multiset, key_eq, SameKey}
+use Rattle.metrics_core.specs.Keys.{LabelText, KeyText, label_eq, label_cmp, occurrences, same_multiset, key_eq, SameKey}
 
 both : (a b : Bool) → (a && b) ≡ true → (a ≡ true) × (b ≡ true)
 both true b h = (refl, h)
@@ -77,6 +81,13 @@ list_all_append = list_all-append
 pub label_eq_laws : IsEquivalence label_eq
 label_eq_laws = decided label_eq label_eq_is
 
+-- the order of labels, and that it ties exactly what is equal
+pub label_cmp_total : IsTotalOrder label_cmp
+label_cmp_total = then_total (on_texts (λ (l : LabelText). l.key)) (on_texts (λ (l : LabelText). l.value))
+
+pub label_cmp_ties : (a b : LabelText) → label_eq a b ≡ eq_by_cmp label_cmp a b
+label_cmp_ties = search (comparing, rules)
+
 pub key_eq_laws : IsEquivalence key_eq
 key_eq_laws = record {
   refl = λ k. (key_eq_is k k).1 (refl, λ l. refl);
@@ -99,9 +110,6 @@ key_eq_laws = record {
           λ h. chain b a c (turn a b same) ((key_eq_is a c).0 h),
           λ h. (key_eq_is a c).1 (chain a b c same h),
         ) (key_eq_is b c)
-
-pub name_hash_input_respects : (x y : List ℕ) → IsTrue (bytes_eq x y) → fed.str x ≡ fed.str y
-name_hash_input_respects x y h = ap fed.str ((bytes_eq-Decides x y).0 h)
 
 pub label_hash_input_respects : (x y : LabelText) → IsTrue (label_eq x y) → (fed.str x.key ++ fed.str x.value) ≡ (fed.str y.key ++ fed.str y.value)
 label_hash_input_respects x y h = ap (λ (l : LabelText). fed.str l.key ++ fed.str l.value) ((label_eq_is x y).0 h)

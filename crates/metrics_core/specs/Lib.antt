@@ -1,11 +1,16 @@
 pub mod Characters
 pub mod Numbers
 pub mod Keys
+pub mod Pairs
 pub mod Texts
+pub mod TextLaws
 pub mod Lists
 pub mod Hashes
 pub mod KeyLaws
 pub mod Units
+pub mod UnitLaws
+pub mod Levels
+pub mod LevelLaws
 pub mod Kinds
 pub mod Calls
 pub mod Series

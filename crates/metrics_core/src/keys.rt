@@ -1,26 +1,29 @@
 //! The names and keys of series.
 
-ghost use Rattle.std.specs.Prelude.{◌≡◌, ℕ, ◌^◌, ◌<◌, [], length, string_bytes, bytes_eq, IfOk};
+ghost use Rattle.std.specs.Prelude.{◌≡◌, ℕ, ◌^◌, ◌<◌, [], ◌++◌, length, string_bytes, bytes_eq, IfOk, Some, refl};
 ghost use Rattle.std.specs.Cmp.{partial_equiv_from_equiv};
-ghost use Rattle.std.specs.Cmp.Lexicographic.{nat_list_eq_equiv};
+ghost use Rattle.std.specs.Cmp.Lexicographic.{slice_cmp, nat_list_eq_equiv, nat_list_cmp_total, texts_po, texts_ties};
+ghost use Rattle.std.specs.Ordering.{nat_cmp};
 ghost use Rattle.std.specs.Hash as fed;
 ghost use Rattle.std.specs.Slice.Iter.{iter_rest};
 ghost use Rattle.std.specs.Iterator.Adapters.{IterYieldsInOrder};
 ghost use Rattle.metrics_core.specs.Texts.{cow_text};
 ghost use Rattle.metrics_core.specs.Keys.{LabelText, key_eq};
 ghost use Rattle.metrics_core.specs.Hashes.{key_hash};
-ghost use Rattle.metrics_core.specs.KeyLaws.{name_hash_input_respects, key_eq_laws, key_hash_respects};
+ghost use Rattle.metrics_core.specs.KeyLaws.{key_eq_laws, key_hash_respects};
+ghost use Rattle.metrics_core.specs.TextLaws.{text_hash_input_respects};
 
 use crate::hashes::hash_with_seed;
 use crate::labels::{add_hashes, are_same, clone_all};
 use crate::{CowSlice, Label, Memory, SharedString};
 use std::alloc::Global;
+use std::cmp::Ordering;
 use std::hash::{Hash, Hasher};
 use std::marker::Model;
 use std::slice;
 
 /// The name of a metric: any text. A contract sees it as its UTF-8 bytes.
-#[derive(Drop)]
+#[derive(Debug, Drop)]
 pub struct KeyName {
     text: SharedString,
 }
@@ -35,11 +38,37 @@ impl Model for KeyName {
 }
 
 impl KeyName {
+    /// The name of a text that lives as long as the program.
+    pub fn from_const_str(text: &'static str) -> KeyName
+        ensures text { result ≡ text.now }
+    {
+        KeyName {
+            text: SharedString::const_str(text),
+        }
+    }
+
     /// The text of the name.
     pub fn as_str(&self) -> &str
         ensures text { result.now ≡ self.now }
     {
         self.text.as_str()
+    }
+
+    /// The text of the name, held as the name held it.
+    pub fn into_inner(self) -> SharedString
+        ensures text { cow_text result ≡ self }
+    {
+        let KeyName { text } = self;
+        text
+    }
+
+    /// The same name, held so that a copy of it takes no new text.
+    pub fn to_retained(&self, alloc: Global) -> Result<KeyName, Memory>
+        ensures same { IfOk result (λ copy. copy ≡ self.now) }
+    {
+        Ok(KeyName {
+            text: self.text.to_retained(alloc)?,
+        })
     }
 
     /// The same name.
@@ -84,10 +113,34 @@ impl Eq for KeyName {
     ghost laws = { nat_list_eq_equiv };
 }
 
+impl PartialOrd for KeyName {
+    ghost partial_cmp = { λ a b. Some (slice_cmp nat_cmp a b) };
+
+    ghost laws = { texts_po };
+
+    fn partial_cmp(&self, other: &KeyName) -> Option<Ordering> {
+        Some(self.cmp(other))
+    }
+}
+
+impl Ord for KeyName {
+    ghost cmp = { slice_cmp nat_cmp };
+
+    ghost total = { nat_list_cmp_total };
+
+    ghost matches_partial_cmp = { λ a b. refl };
+
+    ghost matches_eq = { texts_ties };
+
+    fn cmp(&self, other: &KeyName) -> Ordering {
+        self.as_str().cmp(other.as_str())
+    }
+}
+
 impl Hash for KeyName {
     ghost hash_input = { fed.str };
 
-    ghost respects_eq = { name_hash_input_respects };
+    ghost respects_eq = { text_hash_input_respects };
 
     fn hash<H: Hasher>(&self, state: &mut H) {
         self.as_str().hash(state);
@@ -96,7 +149,7 @@ impl Hash for KeyName {
 
 /// The key of a series: its name, and labels in some order. Two keys are equal where their names are and where each
 /// label stands as often in the one as in the other, whatever its place.
-#[derive(Drop)]
+#[derive(Debug, Drop)]
 pub struct Key {
     name: KeyName,
     labels: CowSlice<'static, Label>,
@@ -132,6 +185,30 @@ impl Key {
         }
     }
 
+    /// The key of a series with labels that live as long as the program.
+    pub fn from_static_labels(name: KeyName, labels: &'static [Label]) -> Key
+        ensures parts { result ≡ record { name = name; labels = labels.now } }
+    {
+        Key {
+            name,
+            labels: CowSlice::const_slice(labels),
+        }
+    }
+
+    /// The key of a series without labels, by a name that lives as long as the program.
+    pub fn from_static_name(name: &'static str) -> Key
+        ensures parts { result ≡ record { name = name.now; labels = [] } }
+    {
+        Key::from_name(KeyName::from_const_str(name))
+    }
+
+    /// The key of a series whose name and labels live as long as the program.
+    pub fn from_static_parts(name: &'static str, labels: &'static [Label]) -> Key
+        ensures parts { result ≡ record { name = name.now; labels = labels.now } }
+    {
+        Key::from_static_labels(KeyName::from_const_str(name), labels)
+    }
+
     /// The name of the series.
     pub fn name(&self) -> &str
         ensures text { result.now ≡ self.now.name }
@@ -149,11 +226,49 @@ impl Key {
         self.labels.as_slice().iter()
     }
 
+    /// The name of the series, as a name of its own.
+    pub fn name_shared(&self, alloc: Global) -> Result<KeyName, Memory>
+        ensures name { IfOk result (λ name. name ≡ self.now.name) }
+    {
+        self.name.clone(alloc)
+    }
+
+    /// The name and the labels.
+    pub fn into_parts(self, alloc: Global) -> Result<(KeyName, Vec<Label>), Memory>
+        ensures name { IfOk result (λ parts. parts.0 ≡ self.name) }
+        ensures labels { IfOk result (λ parts. parts.1.items ≡ self.labels) }
+    {
+        let Key { name, labels } = self;
+        Ok((name, labels.into_owned(alloc)?))
+    }
+
+    /// The same key, held so that a copy of it takes no new text and no new list.
+    pub fn to_retained(&self, alloc: Global) -> Result<Key, Memory>
+        ensures same { IfOk result (λ copy. copy ≡ self.now) }
+    {
+        Ok(Key {
+            name: self.name.to_retained(alloc)?,
+            labels: self.labels.to_retained(alloc)?,
+        })
+    }
+
     /// The same key.
     pub fn clone(&self, alloc: Global) -> Result<Key, Memory>
         ensures same { IfOk result (λ copy. copy ≡ self.now) }
     {
-        let labels = clone_all(self.labels.as_slice(), alloc)?;
+        Ok(Key {
+            name: self.name.clone(alloc)?,
+            labels: self.labels.clone(alloc)?,
+        })
+    }
+
+    /// The key with further labels behind its own.
+    pub fn with_extra_labels(&self, alloc: Global, mut extra: Vec<Label>) -> Result<Key, Memory>
+        ensures name { IfOk result (λ key. key.name ≡ self.now.name) }
+        ensures labels { IfOk result (λ key. key.labels ≡ self.now.labels ++ extra.items) }
+    {
+        let mut labels = clone_all(self.labels.as_slice(), alloc)?;
+        labels.append(&mut extra)?;
         Ok(Key::from_parts(self.name.clone(alloc)?, labels))
     }
 
@@ -166,6 +281,23 @@ impl Key {
             hash_with_seed(0, self.name().as_bytes()),
             self.labels.as_slice(),
         )
+    }
+}
+
+impl From<KeyName> for Key {
+    ghost from_gives = { λ name key. key ≡ record { name = name; labels = [] } };
+
+    fn from(name: KeyName) -> Key {
+        Key::from_name(name)
+    }
+}
+
+impl From<(KeyName, Vec<Label>)> for Key {
+    ghost from_gives = { λ parts key. key ≡ record { name = parts.0; labels = parts.1.items } };
+
+    fn from(parts: (KeyName, Vec<Label>)) -> Key {
+        let (name, labels) = parts;
+        Key::from_parts(name, labels)
     }
 }
 

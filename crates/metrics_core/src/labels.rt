@@ -1,23 +1,25 @@
 //! Labels: pairs of texts that tell the series of one name apart.
 
-ghost use Rattle.std.specs.Prelude.{◌≡◌, ◌+◌, ◌++◌, IfOk, nat_eq, sum_by};
+ghost use Rattle.std.specs.Prelude.{◌≡◌, ◌+◌, ◌++◌, List, map, IfOk, Some, nat_eq, sum_by, refl};
 ghost use Rattle.std.specs.List.{list_all};
 ghost use Rattle.std.specs.Hash as fed;
-ghost use Rattle.std.specs.Cmp.{partial_equiv_from_equiv};
+ghost use Rattle.std.specs.Cmp.{partial_equiv_from_equiv, partial_order_from_agreeing_total};
+ghost use Rattle.std.specs.Slice.Iter.{iter_rest};
 ghost use Rattle.metrics_core.specs.Texts.{cow_text};
-ghost use Rattle.metrics_core.specs.Keys.{label_eq, occurrences, same_multiset};
+ghost use Rattle.metrics_core.specs.Keys.{LabelText, label_eq, label_cmp, occurrences, same_multiset};
 ghost use Rattle.metrics_core.specs.Numbers.{in_64_bits};
 ghost use Rattle.metrics_core.specs.Hashes.{label_hash};
-ghost use Rattle.metrics_core.specs.KeyLaws.{label_eq_laws, label_hash_input_respects};
+ghost use Rattle.metrics_core.specs.KeyLaws.{label_eq_laws, label_cmp_total, label_cmp_ties, label_hash_input_respects};
 
 use crate::hashes::hash_with_seed;
 use crate::{Memory, SharedString};
-use std::alloc::Global;
+use std::alloc::{AllocError, Global};
+use std::cmp::Ordering;
 use std::hash::{Hash, Hasher};
 use std::marker::Model;
 
-/// A label: a key and a value.
-#[derive(Drop)]
+/// A label: a key and a value. Labels are ordered by key, then by value.
+#[derive(Debug, Drop)]
 pub struct Label {
     key: SharedString,
     value: SharedString,
@@ -38,6 +40,16 @@ impl Label {
         ensures parts { result ≡ record { key = cow_text key.entry; value = cow_text value.entry } }
     {
         Label { key, value }
+    }
+
+    /// The label of a key and a value that live as long as the program.
+    pub fn from_static_parts(key: &'static str, value: &'static str) -> Label
+        ensures parts { result ≡ record { key = key.now; value = value.now } }
+    {
+        Label {
+            key: SharedString::const_str(key),
+            value: SharedString::const_str(value),
+        }
     }
 
     /// The key of the label.
@@ -64,6 +76,15 @@ impl Label {
         })
     }
 
+    /// The key and the value.
+    pub fn into_parts(self) -> (SharedString, SharedString)
+        ensures key { cow_text result.0 ≡ self.key }
+        ensures value { cow_text result.1 ≡ self.value }
+    {
+        let Label { key, value } = self;
+        (key, value)
+    }
+
     /// The label's part of the hash of a key.
     pub(crate) fn part_of_hash(&self) -> u64
         ensures { result ≡ label_hash self.now }
@@ -84,6 +105,52 @@ impl PartialEq for Label {
 
 impl Eq for Label {
     ghost laws = { label_eq_laws };
+}
+
+impl PartialOrd for Label {
+    ghost partial_cmp = { λ a b. Some (label_cmp a b) };
+
+    ghost laws = { partial_order_from_agreeing_total label_cmp label_cmp_total (λ a b. refl) label_cmp_ties };
+
+    fn partial_cmp(&self, other: &Label) -> Option<Ordering> {
+        Some(self.cmp(other))
+    }
+}
+
+impl Ord for Label {
+    ghost cmp = { label_cmp };
+
+    ghost total = { label_cmp_total };
+
+    ghost matches_partial_cmp = { λ a b. refl };
+
+    ghost matches_eq = { label_cmp_ties };
+
+    fn cmp(&self, other: &Label) -> Ordering {
+        self.key()
+            .cmp(other.key())
+            .then(self.value().cmp(other.value()))
+    }
+}
+
+impl From<(&'static str, &'static str)> for Label {
+    ghost from_gives = { λ pair label. label ≡ record { key = pair.0.now; value = pair.1.now } };
+
+    fn from(pair: (&'static str, &'static str)) -> Label {
+        Label::from_static_parts(pair.0, pair.1)
+    }
+}
+
+/// Owned texts are copied by the allocator that they have.
+impl Clone for Label {
+    ghost is_clone = { λ label copy. copy ≡ label };
+
+    fn clone(&self) -> Result<Label, AllocError> {
+        Ok(Label {
+            key: Clone::clone(&self.key)?,
+            value: Clone::clone(&self.value)?,
+        })
+    }
 }
 
 impl Hash for Label {

@@ -1,2 +1,5 @@
 pub mod ReadingSteps
 pub mod TurnSteps
+pub mod BuiltRounds
+pub mod RunPages
+pub mod DriveSteps

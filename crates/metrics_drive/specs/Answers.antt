@@ -1,5 +1,6 @@
 -- Which status the program ends with, by which cause, and its line on `err` (this project's rules).
-use Rattle.std.specs.Prelude.{◌≡◌, ℕ, ◌<◌, ◌≤◌, ◌⊎◌, List, [], ◌∷◌, ◌++◌, length, Result, Ok, Err, Option, IfSome, codes, decimal}
+use Rattle.std.specs.Prelude.{◌≡◌, ℕ, ◌<◌, ◌≤◌, ◌⊎◌, List, [], ◌∷◌, ◌++◌, length, Result, Ok, Err, Option, IfSome, codes, decimal, map}
+use Rattle.std.specs.Borrow.{Bor}
 use Rattle.metrics_core.specs.Characters.{line}
 use Rattle.metrics_core.specs.Outside.{GrewBy}
 use Rattle.drive_script.specs.Script.{ScriptText}
@@ -11,6 +12,10 @@ use Rattle.metrics_drive.specs.Headline.{IsPlayedInPart, IsGoodScript, script_li
 use Rattle.metrics_drive.specs.declared.report.Report.{Report}
 
 -- ---- causes
+
+-- the texts of words
+abbrev pub texts_of : List (Bor (List ℕ)) → List (List ℕ)
+texts_of words = map (λ word. word.now) words
 
 -- the words of the one form: the command `drive`
 abbrev pub IsDriveWords : List (List ℕ) → Type 0
@@ -71,14 +76,24 @@ pub record IsComplete (bytes : List ℕ) (SourceFailed SinkFailed : Type 0) (sta
   pub bad_script : (l : ℕ) → IsBadScript bytes l → ¬ SourceFailed → (status ≡ 3) ⊎ (status ≡ 8)
   pub good_script : (script : ScriptText) → IsGoodScript bytes script → ¬ SourceFailed → ¬ SinkFailed → (status ≡ 0) ⊎ (status ≡ 8)
 
+-- the statuses after which no page was begun: the words are no form, or the script was refused or not read
+abbrev pub IsUnplayed : ℕ → Type 0
+IsUnplayed status = (status ≡ 2) ⊎ ((status ≡ 3) ⊎ ((status ≡ 5) ⊎ (status ≡ 6)))
+
 -- ---- lines on `err`
 
 abbrev pub usage_text : List ℕ
 usage_text = codes "usage: drive [ADDRESS] | serve COUNT [NETWORK ..] | bench N"
 
--- the report of a run: its pages; payloads sent, payloads not sent and values left out are none
-abbrev pub report_text : ℕ → List ℕ
-report_text pages = codes "pages " ++ decimal pages ++ codes " sent 0 unsent 0 dropped 0"
+-- the report of a run: its pages, payloads sent and not sent, values left out
+abbrev pub report_text : Report → List ℕ
+report_text report =
+    codes "pages " ++ decimal report.pages ++ codes " sent " ++ decimal report.sent ++ codes " unsent " ++ decimal report.unsent
+    ++ codes " dropped " ++ decimal report.dropped
+
+-- a report of so many pages, where nothing is sent yet
+abbrev pub report_of : ℕ → Report
+report_of pages = record { pages = pages; sent = 0; unsent = 0; dropped = 0 }
 
 -- the bytes are a valid script of so many rounds
 pub record HasRounds (bytes : List ℕ) (pages : ℕ) : Type 0 where
@@ -88,7 +103,7 @@ pub record HasRounds (bytes : List ℕ) (pages : ℕ) : Type 0 where
 
 -- the line that each status has; what it says of the script holds where the source tells its bytes
 pub data IsLineOf (left : Option (List ℕ)) : ℕ → List ℕ → Type 0 where
-  done : (pages : ℕ) → IfSome left (λ bytes. HasRounds bytes pages) → IsLineOf left 0 (line (report_text pages))
+  done : (pages : ℕ) → IfSome left (λ bytes. HasRounds bytes pages) → IsLineOf left 0 (line (report_text (report_of pages)))
   usage : IsLineOf left 2 (line usage_text)
   bad_script : (l : ℕ) → IfSome left (λ bytes. IsBadScript bytes l) → IsLineOf left 3 (line (fault_text (faults.Script l)))
   too_long : IsLineOf left 5 (line (fault_text faults.TooLong))
@@ -96,11 +111,15 @@ pub data IsLineOf (left : Option (List ℕ)) : ℕ → List ℕ → Type 0 where
   write_failed : IsLineOf left 7 (line (fault_text faults.WriteFault))
   no_memory : IsLineOf left 8 (line (fault_text faults.Memory))
 
+-- `err` got a text, where it tells and didn't fail
+abbrev pub IsSaidText : Type 0 → Option (List ℕ) → Option (List ℕ) → List ℕ → Type 0
+IsSaidText ErrFailed said said' text = ErrFailed ⊎ GrewBy said said' text
+
 -- `err` got the line of the status, where it tells and didn't fail
 pub record IsSaid (left : Option (List ℕ)) (ErrFailed : Type 0) (said said' : Option (List ℕ)) (status : ℕ) : Type 0 where
   pub text : List ℕ
   pub meant : IsLineOf left status text
-  pub written : ErrFailed ⊎ GrewBy said said' text
+  pub written : IsSaidText ErrFailed said said' text
 
 -- why a play ended before its last page: the sink failed, or memory was wanting
 abbrev pub IsPlayFault : Type 0 → DriveFault → Type 0

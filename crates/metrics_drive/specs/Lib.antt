@@ -5,4 +5,5 @@ pub mod Answers
 pub mod Reading
 pub mod Player
 pub mod Turns
+pub mod Built
 pub mod Vectors

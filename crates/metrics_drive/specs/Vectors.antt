@@ -8,7 +8,7 @@ use Rattle.drive_script.specs.Script.{ScriptText}
 use Rattle.drive_script.specs.Vectors.{basic, empty}
 use Rattle.metrics_drive.specs.Play.{pages_of}
 use Rattle.metrics_drive.specs.InTurn.{script_orders}
-use Rattle.metrics_drive.specs.Answers.{report_text, usage_text}
+use Rattle.metrics_drive.specs.Answers.{report_text, report_of}
 
 abbrev pub pages : ScriptText → List (List ℕ)
 pages s = map page_text (pages_of s (script_orders s))
@@ -23,10 +23,10 @@ basic_pages = refl
 pub no_pages : pages empty ≡ []
 no_pages = refl
 
-pub one_page : line (report_text 1) ≡ codes "pages 1 sent 0 unsent 0 dropped 0\n"
+pub one_page : line (report_text (report_of 1)) ≡ codes "pages 1 sent 0 unsent 0 dropped 0\n"
 unfolding digits
 one_page = refl
 
-pub none : line (report_text 0) ≡ codes "pages 0 sent 0 unsent 0 dropped 0\n"
+pub none : line (report_text (report_of 0)) ≡ codes "pages 0 sent 0 unsent 0 dropped 0\n"
 unfolding digits
 none = refl

@@ -4,6 +4,7 @@ ghost use Rattle.std.specs.Prelude.{◌≡◌, IfErr, IfOk, IfSome, OnOk};
 ghost use Rattle.metrics_core.specs.Outside.{Rose};
 ghost use Rattle.metrics_drive.specs.Answers.{
   end_status,
+  report_of,
   HasCause,
   HasDeviceCause,
   HasRounds,
@@ -30,7 +31,7 @@ pub fn drive<S: Source, K: Sink>(
     // What was written is one page per round, each exactly the families of the sequential state, for one order of the calls.
     ensures played { OnOk result (IfSome (S.left source.old) (λ bytes. IsPlayed bytes (K.written out.old) (K.written out.new))) }
     ensures rounds { IfOk result (λ report. IfSome (S.left source.old) (λ bytes. HasRounds bytes report.pages)) }
-    ensures none_sent { IfOk result (λ report. report ≡ record { pages = report.pages; sent = 0; unsent = 0; dropped = 0 }) }
+    ensures none_sent { IfOk result (λ report. report ≡ report_of report.pages) }
 
     // Each fault comes only by its cause.
     ensures cause { IfErr result (λ fault. IfSome (S.left source.old) (λ bytes.
@@ -53,5 +54,8 @@ pub fn drive<S: Source, K: Sink>(
         Ok(script) => script,
         Err(fault) => return Err(fault),
     };
-    play(alloc, &script, out)
+    match play(alloc, &script, out) {
+        Ok(report) => Ok(report),
+        Err(fault) => Err(fault),
+    }
 }

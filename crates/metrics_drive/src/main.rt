@@ -5,10 +5,11 @@ mod drive;
 mod play;
 mod reading;
 mod report;
-//mod run;
+mod run;
+mod say;
 
 pub use drive::drive;
 pub use report::Report;
-//pub use run::run;
+pub use run::run;
 
 fn main() {}

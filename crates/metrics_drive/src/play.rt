@@ -4,19 +4,21 @@ ghost use Rattle.std.specs.Prelude.{◌≡◌, ◌≤◌, fold, map, length, IfO
 ghost use Rattle.metrics_core.specs.Outside.{Rose, GrewBy, GrewByFront};
 ghost use Rattle.drive_script.specs.Script.{no_settings};
 ghost use Rattle.drive_script.specs.Texts.{script_of};
-ghost use Rattle.metrics_drive.specs.Answers.{IsPlayFault};
+ghost use Rattle.metrics_drive.specs.Answers.{IsPlayFault, report_of};
+ghost use Rattle.metrics_drive.specs.Built.{AreBuiltRounds};
 ghost use Rattle.metrics_drive.specs.InTurn.{run_text};
 
 use crate::Report;
 use drive_script::{Act, CallLine, DriveFault, Round, Script, Setup};
-use metrics_core::{Memory, SeriesCall, SeriesId, Sink, write_whole};
+use metrics_core::{Memory, MetricKind, SeriesCall, SeriesId, Sink, write_whole};
 use prom_exporter::{BuildError, PrometheusBuilder, PrometheusState};
 use std::alloc::Global;
 
 /// Plays a script: a page for each round goes to the sink, each ended by the line `# EOF`.
 pub fn play<K: Sink>(alloc: Global, script: &Script, out: &mut K) -> Result<Report, DriveFault>
+    requires { AreBuiltRounds script.now.rounds.items }
     ensures pages { OnOk result (GrewBy (K.written out.old) (K.written out.new) (run_text (script_of script.now))) }
-    ensures counted { IfOk result (λ report. report ≡ record { pages = length script.now.rounds.items; sent = 0; unsent = 0; dropped = 0 }) }
+    ensures counted { IfOk result (λ report. report ≡ report_of (length script.now.rounds.items)) }
     ensures front { OnErr result (GrewByFront (K.written out.old) (K.written out.new) (run_text (script_of script.now))) }
     ensures cause { IfErr result (IsPlayFault (Rose (K.faults out.old) (K.faults out.new))) }
     ensures never_falls { K.faults out.old ≤ K.faults out.new }
@@ -58,6 +60,7 @@ impl Player {
     ghost use Rattle.metrics_drive.specs.Play.{play_start, setup_step, exporter_settings};
     ghost use Rattle.metrics_drive.specs.Player.{state_of};
     ghost use Rattle.metrics_drive.specs.Turns.{call_step};
+    ghost use Rattle.metrics_drive.specs.Built.{AreBuiltSetups, IsBuiltSetup};
 
     /// A player before its first round, over an exporter with the default settings.
     fn new(alloc: Global) -> Result<Player, Memory>
@@ -81,7 +84,8 @@ impl Player {
         round: &Round,
         out: &mut K,
     ) -> Result<(), DriveFault>
-        requires { self.old.exporter.settings ≡ default_settings }
+        requires settings { self.old.exporter.settings ≡ default_settings }
+        requires built { AreBuiltSetups round.now.setup.items }
         ensures settings { self.new.exporter.settings ≡ default_settings }
         ensures played { OnOk result (state_of self.new ≡ played no_settings (state_of self.old) (round_of round.now)) }
         ensures page { OnOk result (GrewBy (K.written out.old) (K.written out.new) (round_text no_settings (state_of self.old) (round_of round.now))) }
@@ -102,6 +106,7 @@ impl Player {
 
     /// Does the setup lines in order.
     fn set_up(&mut self, alloc: Global, setup: &[Setup]) -> Result<(), Memory>
+        requires { AreBuiltSetups setup.now }
         ensures settings { self.new.exporter.settings ≡ self.old.exporter.settings }
         ensures stepped { OnOk result (state_of self.new ≡ fold setup_step (state_of self.old) (map setup_of setup.now)) }
     {
@@ -116,20 +121,17 @@ impl Player {
 
     /// Does one setup line.
     fn set_up_line(&mut self, alloc: Global, line: &Setup) -> Result<(), Memory>
+        requires { IsBuiltSetup (setup_of line.now) }
         ensures settings { self.new.exporter.settings ≡ self.old.exporter.settings }
         ensures stepped { OnOk result (state_of self.new ≡ setup_step (state_of self.old) (setup_of line.now)) }
     {
-        match line {
-            Setup::RegisterCounter { key } => {
-                let Ok(id) = self.exporter.register_counter(alloc, key) else {
-                    return Err(Memory);
-                };
-                match self.handles.push(id) {
-                    Ok(()) => Ok(()),
-                    Err(_) => Err(Memory),
-                }
-            }
-        }
+        let Setup::Register { kind, key } = line;
+        let id = match kind {
+            MetricKind::Counter => self.exporter.register_counter(alloc, key)?,
+            MetricKind::Gauge | MetricKind::Histogram => unreachable!(),
+        };
+        self.handles.push(id)?;
+        Ok(())
     }
 
     /// Makes the calls of a round at its moment, in nanoseconds, in the script's order.

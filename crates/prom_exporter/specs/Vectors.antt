@@ -12,6 +12,7 @@ use Rattle.prom_exporter.specs.State.{PrometheusState, empty_state, register, de
 use Rattle.prom_exporter.specs.Window.{Sample, window, sample_sum}
 use Rattle.prom_exporter.specs.Native.{NativeText, Positive, native_depth, native_count, zero_count}
 use Rattle.prom_exporter.specs.Families.{ExporterSettings, families_at}
+use Rattle.prom_exporter.specs.Exporter.{default_settings, page_body}
 
 abbrev seconds : ℕ → ℕ
 seconds n = n * 1000000000
@@ -22,7 +23,7 @@ plain = record { quantiles = pos 500000000 ∷ []; buckets = None; buckets_for =
 abbrev label : List ℕ → List ℕ → LabelText
 label k v = record { key = k; value = v }
 
-abbrev key : List ℕ → List LabelText → KeyText
+abbrev pub key : List ℕ → List LabelText → KeyText
 key n ls = record { name = n; labels = ls }
 
 abbrev sampled : ℕ → ℕ → PrometheusState → PrometheusState
@@ -121,3 +122,14 @@ native_schema = refl
 
 pub native_counts : (native_count native four (Positive (pos 0)) ≡ 1) × (native_count native four (Positive (pos 1)) ≡ 3) × (zero_count native four ≡ 0) × (sample_sum four ≡ whole 15)
 native_counts = (refl, refl, refl, refl)
+
+-- one counter, `basic_counter`, incremented by 42
+abbrev pub basic : PrometheusState
+basic = call_on kinds.Counter 0 (Increment 42) (register kinds.Counter (key (codes "basic_counter") []) empty_state)
+
+abbrev pub BasicPage : Type 0
+BasicPage = page_body 0 (record { settings = default_settings; state = basic }) ≡ codes "# TYPE basic_counter counter\nbasic_counter 42\n\n"
+
+pub basic_page : BasicPage
+unfolding digits chars
+basic_page = refl

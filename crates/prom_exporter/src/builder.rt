@@ -32,10 +32,10 @@ impl PrometheusBuilder {
     }
 
     /// An exporter with these settings and no series.
-    pub fn build_state(self, _alloc: Global) -> Result<PrometheusState, BuildError>
+    pub fn build_state(self, alloc: Global) -> Result<PrometheusState, BuildError>
         ensures built { IfOk result (λ exporter. exporter ≡ record { settings = self; state = empty_state }) }
         ensures refused { IfErr result (λ error. error ≡ BuildError.Memory) }
     {
-        Err(BuildError::Memory)
+        Ok(PrometheusState::new(alloc))
     }
 }

@@ -1,6 +1,6 @@
 //! What the exporter refuses.
 
-use metrics_core::Memory;
+use metrics_core::{Failed, Memory};
 use thiserror::Error;
 
 /// A refusal of the exporter.
@@ -22,5 +22,16 @@ impl From<Memory> for BuildError {
 
     fn from(_refused: Memory) -> BuildError {
         BuildError::Memory
+    }
+}
+
+impl From<Failed> for BuildError {
+    ghost use Rattle.std.specs.Prelude.{◌≡◌};
+    ghost use Rattle.prom_exporter.specs.declared.errors.BuildError.TheVariants as errors;
+
+    ghost from_gives = { λ _ error. error ≡ errors.WriteFault };
+
+    fn from(_failed: Failed) -> BuildError {
+        BuildError::WriteFault
     }
 }

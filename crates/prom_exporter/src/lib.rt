@@ -2,9 +2,14 @@
 #![tactic(auto)]
 
 mod builder;
+mod counters;
 mod errors;
+mod families;
+mod laws;
+mod pages;
 mod state;
 
 pub use builder::PrometheusBuilder;
 pub use errors::BuildError;
+pub use laws::basic_page;
 pub use state::PrometheusState;

@@ -54,7 +54,7 @@ printed_walk-end in_label false = refl
 abbrev pub IsPlain : Bool → ℕ → Type 0
 IsPlain in_label c = (c ≢ 92) × (c ≢ 10) × (c ≡ 34 → in_label ≡ false)
 
-plain_escape : (in_label : Bool) (b : ℕ) → IsPlain in_label b → escaped_character in_label b ≡ b ∷ []
+pub plain_escape : (in_label : Bool) (b : ℕ) → IsPlain in_label b → escaped_character in_label b ≡ b ∷ []
 plain_escape in_label b (n92, n10, n34) = grind (arith, nat_tests)
 
 plain_byte : (in_label w : Bool) (b : ℕ) (text : List ℕ) → IsPlain in_label b →

@@ -1,7 +1,8 @@
 //! The labels of a row.
 
-ghost use Rattle.std.specs.Prelude.{◌≡◌, ◌↔◌, [], ◌∷◌, IsTrue, IsNone, IfNone, IfOk, IfSome, OnErr, string_bytes};
-ghost use Rattle.metrics_core.specs.Keys.{LabelText};
+ghost use Rattle.std.specs.Prelude.{◌≡◌, ◌↔◌, [], ◌∷◌, IsTrue, IsNone, IfNone, IfOk, IfSome, OnErr, OnOk, string_bytes};
+ghost use Rattle.metrics_core.specs.Keys.{LabelText, label_set, put_label};
+ghost use Rattle.prom_format.specs.LabelSets.{labels_of};
 ghost use Rattle.prom_format.specs.Lines.{shown_label};
 ghost use Rattle.prom_format.specs.Pages.{label_text};
 
@@ -9,7 +10,7 @@ use crate::names::sanitize_label_key;
 use crate::printed::sanitize_label_value;
 use indexmap::IndexMap;
 use indexmap::map::Slice;
-use metrics_core::Memory;
+use metrics_core::{Key, Memory};
 use std::alloc::Global;
 use std::marker::Model;
 
@@ -37,6 +38,25 @@ impl LabelSet {
         LabelSet {
             labels: IndexMap::new(alloc),
         }
+    }
+
+    /// The global labels in their order, then those of the key. Where two have the same key, the later one's value stands
+    /// in the place of the earlier one.
+    pub fn from_key_and_global(
+        alloc: Global,
+        key: &Key,
+        global: &IndexMap<String, String>,
+    ) -> Result<LabelSet, Memory>
+        ensures labels { IfOk result (λ set. set ≡ label_set (labels_of global.now.entries) key.now.labels) }
+    {
+        let mut labels = IndexMap::new(alloc);
+        for (name, value) in global {
+            put(&mut labels, name.as_str(), value.as_str(), alloc)?;
+        }
+        for label in key.labels() {
+            put(&mut labels, label.key(), label.value(), alloc)?;
+        }
+        Ok(LabelSet { labels })
     }
 
     /// Whether there are no labels.
@@ -87,6 +107,21 @@ impl<'a> LabelStrings<'a> {
         }
         Some(text)
     }
+}
+
+/// Puts a label where its key stands, and otherwise behind the others.
+fn put(
+    labels: &mut IndexMap<String, String>,
+    key: &str,
+    value: &str,
+    alloc: Global,
+) -> Result<(), Memory>
+    ensures { OnOk result (labels_of labels.new.entries ≡ put_label (labels_of labels.old.entries) (record { key = key.now; value = value.now })) }
+{
+    let key = String::from_str(alloc, key)?;
+    let value = String::from_str(alloc, value)?;
+    labels.insert(key, value)?;
+    Ok(())
 }
 
 /// A label as it is printed: its key made a label name, and its printed value in quotes.

@@ -4,6 +4,7 @@
 
 mod families;
 mod labels;
+mod laws;
 mod lines;
 mod names;
 mod numbers;
@@ -12,6 +13,10 @@ mod suffixes;
 
 pub use families::FamilyType;
 pub use labels::{LabelSet, LabelStrings};
+pub use laws::{
+    escapes_tell_their_text, full_names_are_metric_names, names_stay, one_text,
+    printed_alike_where_meant_alike, sanitized_texts_are_names,
+};
 pub use lines::{write_help_line, write_metric_line, write_type_line};
 pub use names::{sanitize_label_key, sanitize_metric_name};
 pub use numbers::{push_count, push_fixed};

@@ -27,7 +27,7 @@ returns-clause-played g c =
     let called : state_of c.make_calls.new.self ≡ fold (call_step c.args.round.now.moment) (state_of c.set_up.new.self) (round_of c.args.round.now).calls
     = c.in-Ok-make_calls.ensures.called ∙ ap (λ s. fold (call_step c.args.round.now.moment) (state_of c.set_up.new.self) (map call_line_of s)) c.deref-2.ensures.value in
     let settings : c.make_calls.new.self.exporter.settings ≡ default_settings
-    = c.in-Ok-make_calls.ensures.settings ∙ c.in-Ok.ensures.settings ∙ c.requires in
+    = c.in-Ok-make_calls.ensures.settings ∙ c.in-Ok.ensures.settings ∙ c.requires.settings in
     let P : PlayState → Type 0 = λ x. OnOk c.write_page.result (state_of c.write_page.new.self ≡ x) in
     subst P (round_played _ _ (round_of c.args.round.now) c.make_calls.new.self.exporter c.make_calls.new.self.handles.items set_up called settings) c.write_page.ensures.stepped
 
@@ -38,7 +38,7 @@ returns-clause-page g c =
     let called : state_of c.make_calls.new.self ≡ fold (call_step c.args.round.now.moment) (state_of c.set_up.new.self) (round_of c.args.round.now).calls
     = c.in-Ok-make_calls.ensures.called ∙ ap (λ s. fold (call_step c.args.round.now.moment) (state_of c.set_up.new.self) (map call_line_of s)) c.deref-2.ensures.value in
     let settings : c.make_calls.new.self.exporter.settings ≡ default_settings
-    = c.in-Ok-make_calls.ensures.settings ∙ c.in-Ok.ensures.settings ∙ c.requires in
+    = c.in-Ok-make_calls.ensures.settings ∙ c.in-Ok.ensures.settings ∙ c.requires.settings in
     let P : List ℕ → Type 0 = λ text. OnOk c.write_page.result (GrewBy (g.K.Sink.written c.args.out.now) (g.K.Sink.written c.write_page.new.out) text) in
     subst P (page_written _ _ (round_of c.args.round.now) c.make_calls.new.self.exporter c.make_calls.new.self.handles.items set_up called settings) c.write_page.ensures.page
 
@@ -49,6 +49,6 @@ returns-clause-front g c =
     let called : state_of c.make_calls.new.self ≡ fold (call_step c.args.round.now.moment) (state_of c.set_up.new.self) (round_of c.args.round.now).calls
     = c.in-Ok-make_calls.ensures.called ∙ ap (λ s. fold (call_step c.args.round.now.moment) (state_of c.set_up.new.self) (map call_line_of s)) c.deref-2.ensures.value in
     let settings : c.make_calls.new.self.exporter.settings ≡ default_settings
-    = c.in-Ok-make_calls.ensures.settings ∙ c.in-Ok.ensures.settings ∙ c.requires in
+    = c.in-Ok-make_calls.ensures.settings ∙ c.in-Ok.ensures.settings ∙ c.requires.settings in
     let P : List ℕ → Type 0 = λ text. OnErr c.write_page.result (GrewByFront (g.K.Sink.written c.args.out.now) (g.K.Sink.written c.write_page.new.out) text) in
     subst P (page_written _ _ (round_of c.args.round.now) c.make_calls.new.self.exporter c.make_calls.new.self.handles.items set_up called settings) c.write_page.ensures.front

@@ -1,0 +1,182 @@
+-- A list in groups by name, and what one more member changes.
+use Rattle.std.proofs.Common.{◌≡◌, ℕ, Bool, true, false, cond, not, ◌||◌, List, [], ◌∷◌, ◌++◌, map, filter, refl, sym, ap, ◌∙◌, append-nil}
+use Rattle.std.specs.Prelude.{String, string_bytes, unwrap_or, bytes_eq, if◌then◌else◌}
+use Rattle.std.specs.String.{string_eq}
+use Rattle.std.specs.Map.{lookup}
+use Rattle.indexmap.specs.IndexMap.{insert_entry}
+use Rattle.std.specs.List.{list_any}
+use Rattle.std.specs.Cmp.Lexicographic.{nat_list_eq_equiv}
+use Rattle.std.proofs.lemmas.Bool.{true≢false, or_parts}
+use Rattle.std.proofs.lemmas.List.{map-append}
+use Rattle.std.proofs.lemmas.List.Elements.{filter-append}
+use Rattle.prom_exporter.specs.Families.{distinct}
+use Rattle.prom_exporter.specs.Counters.{named, grouped}
+
+symm : (a b : List ℕ) → bytes_eq a b ≡ bytes_eq b a
+symm = nat_list_eq_equiv.symm
+
+-- ---- distinct names
+
+-- the names, with one more where it isn't there
+abbrev pub with_name : List (List ℕ) → List ℕ → List (List ℕ)
+with_name [] n = n ∷ []
+with_name (m ∷ ms) n = if bytes_eq n m then m ∷ ms else m ∷ with_name ms n
+
+abbrev others : List ℕ → List (List ℕ) → List (List ℕ)
+others m ms = filter (λ y. not (bytes_eq m y)) ms
+
+-- one more name that is left out
+others_same_step : (m n k : List ℕ) (ms : List (List ℕ)) (b : Bool) → bytes_eq n k ≡ b → others m (with_name ms n) ≡ others m ms → others m (with_name (k ∷ ms) n) ≡ others m (k ∷ ms)
+others_same_step m n k ms true p rest = rw p refl
+others_same_step m n k ms false p rest = rw p (ap (λ l. cond (not (bytes_eq m k)) (k ∷ l) l) rest)
+
+others_same : (m n : List ℕ) (ms : List (List ℕ)) → bytes_eq m n ≡ true → others m (with_name ms n) ≡ others m ms
+others_same m n [] e = rw e refl
+others_same m n (k ∷ ms) e = others_same_step m n k ms (bytes_eq n k) refl (others_same m n ms e)
+
+-- one more name that stays
+others_other_step : (m n k : List ℕ) (ms : List (List ℕ)) (b d : Bool) → bytes_eq n k ≡ b → bytes_eq m k ≡ d → bytes_eq m n ≡ false → others m (with_name ms n) ≡ with_name (others m ms) n
+    → others m (with_name (k ∷ ms) n) ≡ with_name (others m (k ∷ ms)) n
+others_other_step m n k ms true true p q e rest = absurd (true≢false (sym q ∙ symm m k ∙ sym (nat_list_eq_equiv.congr n k m p) ∙ symm n m ∙ e))
+others_other_step m n k ms true false p q e rest = rw (p, q) (rw p refl)
+others_other_step m n k ms false true p q e rest = rw (p, q) rest
+others_other_step m n k ms false false p q e rest = rw (p, q) (rw p (ap (λ l. k ∷ l) rest))
+
+others_other : (m n : List ℕ) (ms : List (List ℕ)) → bytes_eq m n ≡ false → others m (with_name ms n) ≡ with_name (others m ms) n
+others_other m n [] e = rw e refl
+others_other m n (k ∷ ms) e = others_other_step m n k ms (bytes_eq n k) (bytes_eq m k) refl refl e (others_other m n ms e)
+
+others_step : (m n : List ℕ) (ms : List (List ℕ)) (b : Bool) → bytes_eq m n ≡ b → m ∷ others m (with_name ms n) ≡ with_name (m ∷ others m ms) n
+others_step m n ms true e = let s : bytes_eq n m ≡ true = symm n m ∙ e in rw s (ap (λ l. m ∷ l) (others_same m n ms e))
+others_step m n ms false e = let s : bytes_eq n m ≡ false = symm n m ∙ e in rw s (ap (λ l. m ∷ l) (others_other m n ms e))
+
+pub distinct-push : (ns : List (List ℕ)) (n : List ℕ) → distinct (ns ++ n ∷ []) ≡ with_name (distinct ns) n
+distinct-push [] n = refl
+distinct-push (m ∷ ns) n = ap (λ l. m ∷ others m l) (distinct-push ns n) ∙ others_step m n (distinct ns) (bytes_eq m n) refl
+
+-- a name stands among the distinct ones where it stands at all
+any_others_step : (n m k : List ℕ) (ms : List (List ℕ)) (b : Bool) → bytes_eq m k ≡ b → bytes_eq n m ≡ false → list_any (bytes_eq n) (others m ms) ≡ list_any (bytes_eq n) ms
+    → list_any (bytes_eq n) (others m (k ∷ ms)) ≡ list_any (bytes_eq n) (k ∷ ms)
+any_others_step n m k ms true p e rest =
+    let f : bytes_eq n k ≡ false = symm n k ∙ sym (nat_list_eq_equiv.congr m k n p) ∙ symm m n ∙ e in rw (p, f) rest
+any_others_step n m k ms false p e rest = rw p (ap (λ b. bytes_eq n k || b) rest)
+
+any_others : (n m : List ℕ) (ms : List (List ℕ)) → bytes_eq n m ≡ false → list_any (bytes_eq n) (others m ms) ≡ list_any (bytes_eq n) ms
+any_others n m [] e = refl
+any_others n m (k ∷ ms) e = any_others_step n m k ms (bytes_eq m k) refl e (any_others n m ms e)
+
+any_distinct_step : (n m : List ℕ) (ns ds : List (List ℕ)) (b : Bool) → bytes_eq n m ≡ b → list_any (bytes_eq n) ds ≡ list_any (bytes_eq n) ns
+    → list_any (bytes_eq n) (m ∷ others m ds) ≡ list_any (bytes_eq n) (m ∷ ns)
+any_distinct_step n m ns ds true e rest = rw e refl
+any_distinct_step n m ns ds false e rest = rw e (any_others n m ds e ∙ rest)
+
+any_distinct : (n : List ℕ) (ns : List (List ℕ)) → list_any (bytes_eq n) (distinct ns) ≡ list_any (bytes_eq n) ns
+any_distinct n [] = refl
+any_distinct n (m ∷ ns) = any_distinct_step n m ns (distinct ns) (bytes_eq n m) refl (any_distinct n ns)
+
+-- no name is equal to a later one
+abbrev AreApart : List (List ℕ) → Type 0
+AreApart [] = Unit {0}
+AreApart (m ∷ ms) = (list_any (bytes_eq m) ms ≡ false) × AreApart ms
+
+none_filtered : (p test : List ℕ → Bool) (ms : List (List ℕ)) → list_any p ms ≡ false → list_any p (filter test ms) ≡ false
+none_filtered p test [] e = refl
+none_filtered p test (k ∷ ms) e =
+    elim (test k) as (λ b. list_any p (cond b (k ∷ filter test ms) (filter test ms)) ≡ false) [
+      | true ↦ rw (or_parts (p k) (list_any p ms) e).0 (none_filtered p test ms (or_parts (p k) (list_any p ms) e).1)
+      | false ↦ none_filtered p test ms (or_parts (p k) (list_any p ms) e).1
+    ]
+
+apart_filtered : (test : List ℕ → Bool) (ms : List (List ℕ)) → AreApart ms → AreApart (filter test ms)
+apart_filtered test [] a = tt
+apart_filtered test (k ∷ ms) a =
+    elim (test k) as (λ b. AreApart (cond b (k ∷ filter test ms) (filter test ms))) [
+      | true ↦ (none_filtered (bytes_eq k) test ms a.0, apart_filtered test ms a.1)
+      | false ↦ apart_filtered test ms a.1
+    ]
+
+none_others_step : (m k : List ℕ) (ms : List (List ℕ)) (b : Bool) → bytes_eq m k ≡ b → list_any (bytes_eq m) (others m ms) ≡ false → list_any (bytes_eq m) (others m (k ∷ ms)) ≡ false
+none_others_step m k ms true e rest = rw e rest
+none_others_step m k ms false e rest = rw e (rw e rest)
+
+none_others : (m : List ℕ) (ms : List (List ℕ)) → list_any (bytes_eq m) (others m ms) ≡ false
+none_others m [] = refl
+none_others m (k ∷ ms) = none_others_step m k ms (bytes_eq m k) refl (none_others m ms)
+
+distinct-apart : (ns : List (List ℕ)) → AreApart (distinct ns)
+distinct-apart [] = tt
+distinct-apart (m ∷ ns) = (none_others m (distinct ns), apart_filtered (λ y. not (bytes_eq m y)) (distinct ns) (distinct-apart ns))
+
+-- ---- groups
+
+-- the groups, with one more member last in the group of its name, or in a group of its own
+abbrev pub with_member : {X : Type 0} → List (List ℕ × List X) → List ℕ → X → List (List ℕ × List X)
+with_member [] n x = (n, x ∷ []) ∷ []
+with_member (g ∷ gs) n x = if bytes_eq n g.0 then (g.0, g.1 ++ x ∷ []) ∷ gs else g ∷ with_member gs n x
+
+module _ {X : Type 0} (name_of : X → List ℕ) where
+  abbrev gathered : List X → List (List ℕ) → List (List ℕ × List X)
+  gathered xs ns = map (λ n. (n, named name_of xs n)) ns
+
+  named-push : (xs : List X) (x : X) (n : List ℕ) → named name_of (xs ++ x ∷ []) n ≡ named name_of xs n ++ cond (bytes_eq (name_of x) n) (x ∷ []) []
+  named-push xs x n = filter-append (λ y. bytes_eq (name_of y) n) xs (x ∷ [])
+
+  named_none : (n : List ℕ) (xs : List X) → list_any (bytes_eq n) (map name_of xs) ≡ false → named name_of xs n ≡ []
+  named_none n [] e = refl
+  named_none n (x ∷ xs) e =
+      let f : bytes_eq (name_of x) n ≡ false = symm (name_of x) n ∙ (or_parts (bytes_eq n (name_of x)) (list_any (bytes_eq n) (map name_of xs)) e).0 in
+      rw f (named_none n xs (or_parts (bytes_eq n (name_of x)) (list_any (bytes_eq n) (map name_of xs)) e).1)
+
+  gathered_same : (xs : List X) (x : X) (ms : List (List ℕ)) → list_any (bytes_eq (name_of x)) ms ≡ false → gathered (xs ++ x ∷ []) ms ≡ gathered xs ms
+  gathered_same xs x [] e = refl
+  gathered_same xs x (m ∷ ms) e =
+      let parts = or_parts (bytes_eq (name_of x) m) (list_any (bytes_eq (name_of x)) ms) e in
+      let same : named name_of (xs ++ x ∷ []) m ≡ named name_of xs m = named-push xs x m ∙ rw parts.0 (append-nil (named name_of xs m)) in
+      (λ i. (m, same i) ∷ gathered_same xs x ms parts.1 i)
+
+  gathered_step : (xs : List X) (x : X) (m : List ℕ) (ms : List (List ℕ)) (b : Bool) → bytes_eq (name_of x) m ≡ b → list_any (bytes_eq m) ms ≡ false
+      → (b ≡ false → gathered (xs ++ x ∷ []) (with_name ms (name_of x)) ≡ with_member (gathered xs ms) (name_of x) x)
+      → gathered (xs ++ x ∷ []) (with_name (m ∷ ms) (name_of x)) ≡ with_member (gathered xs (m ∷ ms)) (name_of x) x
+  gathered_step xs x m ms true e apart rest =
+      let none : list_any (bytes_eq (name_of x)) ms ≡ false = ap (λ p. list_any p ms) (λ i k. nat_list_eq_equiv.congr (name_of x) m k e i) ∙ apart in
+      let more : named name_of (xs ++ x ∷ []) m ≡ named name_of xs m ++ x ∷ [] = named-push xs x m ∙ rw e refl in
+      rw e (λ i. (m, more i) ∷ gathered_same xs x ms none i)
+  gathered_step xs x m ms false e apart rest =
+      let same : named name_of (xs ++ x ∷ []) m ≡ named name_of xs m = named-push xs x m ∙ rw e (append-nil (named name_of xs m)) in
+      rw e (λ i. (m, same i) ∷ rest refl i)
+
+  gathered-push : (xs : List X) (x : X) (ms : List (List ℕ)) → AreApart ms → (list_any (bytes_eq (name_of x)) ms ≡ false → named name_of xs (name_of x) ≡ [])
+      → gathered (xs ++ x ∷ []) (with_name ms (name_of x)) ≡ with_member (gathered xs ms) (name_of x) x
+  gathered-push xs x [] apart none =
+      ap (λ l. (name_of x, l) ∷ []) (named-push xs x (name_of x) ∙ rw (none refl, nat_list_eq_equiv.refl (name_of x)) refl)
+  gathered-push xs x (m ∷ ms) apart none =
+      gathered_step xs x m ms (bytes_eq (name_of x) m) refl apart.0 (λ e. gathered-push xs x ms apart.1 (λ f. none (rw e f)))
+
+  pub grouped-push : (xs : List X) (x : X) → grouped name_of (xs ++ x ∷ []) ≡ with_member (grouped name_of xs) (name_of x) x
+  grouped-push xs x =
+      ap (λ ns. gathered (xs ++ x ∷ []) (distinct ns)) (map-append name_of xs (x ∷ []))
+      ∙ ap (gathered (xs ++ x ∷ [])) (distinct-push (map name_of xs) (name_of x))
+      ∙ gathered-push xs x (distinct (map name_of xs)) (distinct-apart (map name_of xs)) (λ e. named_none (name_of x) xs (sym (any_distinct (name_of x) (map name_of xs)) ∙ e))
+
+-- ---- groups in a map
+
+-- entries by name: the group of a name takes one more member, or a new one goes last
+module _ {Y V X : Type 0} (view : V → List X) (name : String Y) (group empty : V) (x : X) (none : view empty ≡ []) where
+  abbrev shown : String Y × V → List ℕ × List X
+  shown e = (string_bytes e.0, view e.1)
+
+  entries_step : (e : String Y × V) (es : List (String Y × V)) (b : Bool) → bytes_eq (string_bytes name) (string_bytes e.0) ≡ b
+      → view group ≡ view (unwrap_or (lookup (string_eq name) (e ∷ es)) empty) ++ x ∷ []
+      → (view group ≡ view (unwrap_or (lookup (string_eq name) es) empty) ++ x ∷ [] → map shown (insert_entry string_eq es name group) ≡ with_member (map shown es) (string_bytes name) x)
+      → map shown (insert_entry string_eq (e ∷ es) name group) ≡ with_member (map shown (e ∷ es)) (string_bytes name) x
+  entries_step e es true is more rest = rw is (ap (λ l. (string_bytes e.0, l) ∷ map shown es) (rw is at more))
+  entries_step e es false is more rest = rw is (ap (λ l. shown e ∷ l) (rest (rw is at more)))
+
+  pub entries-insert_entry : (es : List (String Y × V)) → view group ≡ view (unwrap_or (lookup (string_eq name) es) empty) ++ x ∷ []
+      → map shown (insert_entry string_eq es name group) ≡ with_member (map shown es) (string_bytes name) x
+  entries-insert_entry [] more = ap (λ l. (string_bytes name, l) ∷ []) (more ∙ ap (λ l. l ++ x ∷ []) none)
+  entries-insert_entry (e ∷ es) more = entries_step e es (bytes_eq (string_bytes name) (string_bytes e.0)) refl more (entries-insert_entry es)
+
+-- the same of entries that are given by an equation
+pub shown_entries : {K V X : Type 0} (view : K × V → X) (es fs : List (K × V)) (xs : List X) → es ≡ fs → map view fs ≡ xs → map view es ≡ xs
+shown_entries view es fs xs same is = ap (map view) same ∙ is

@@ -1,0 +1,44 @@
+-- Bytes that go to a sink in pieces: what was sent, and what waits.
+use Rattle.std.proofs.Common.{◌≡◌, ℕ, List, [], ◌++◌, refl, sym, ap, subst, ◌∙◌, append-nil, append_assoc}
+use Rattle.std.specs.Prelude.{Option, Some, None}
+use Rattle.metrics_core.specs.Outside.{GrewBy, GrewByFront}
+use Rattle.metrics_core.proofs.Grown.{grew_none, grew-append, grew_front-append, grew_front-longer}
+
+-- of some bytes a front was sent, and the others wait
+pub record IsSent (before now : Option (List ℕ)) (waiting bytes : List ℕ) : Type 0 where
+  pub sent : List ℕ
+  pub grew : GrewBy before now sent
+  pub spelled : bytes ≡ sent ++ waiting
+
+grew_nothing : (told : Option (List ℕ)) → GrewBy told told []
+grew_nothing None = tt
+grew_nothing (Some before) = ap Some (sym (append-nil before))
+
+pub sent_none : (told : Option (List ℕ)) → IsSent told told [] []
+sent_none told = record { sent = []; grew = grew_nothing told; spelled = refl }
+
+module _ (a b : Option (List ℕ)) (waiting bytes : List ℕ) (so_far : IsSent a b waiting bytes) where
+  -- more bytes wait
+  pub sent-append : (more : List ℕ) → IsSent a b (waiting ++ more) (bytes ++ more)
+  sent-append more = record {
+    sent = so_far.sent;
+    grew = so_far.grew;
+    spelled = ap (λ l. l ++ more) so_far.spelled ∙ append_assoc so_far.sent waiting more;
+  }
+
+  module _ (c : Option (List ℕ)) where
+    -- all that waits was sent
+    pub sent_all : GrewBy b c waiting → GrewBy a c bytes
+    sent_all more = subst (GrewBy a c) (sym so_far.spelled) (grew-append a b c so_far.sent waiting so_far.grew more)
+
+    pub sent-again : GrewBy b c waiting → IsSent a c [] bytes
+    sent-again more = record { sent = bytes; grew = sent_all more; spelled = sym (append-nil bytes) }
+
+    -- a front of what waits was sent
+    pub sent_front : GrewByFront b c waiting → (rest : List ℕ) → GrewByFront a c (bytes ++ rest)
+    sent_front more rest =
+        grew_front-longer a c bytes rest (subst (GrewByFront a c) (sym so_far.spelled) (grew_front-append a b c so_far.sent waiting so_far.grew more))
+
+  -- nothing of it was
+  pub sent_nothing : (rest : List ℕ) → GrewByFront a b (bytes ++ rest)
+  sent_nothing rest = sent_front b (grew_none b waiting) rest

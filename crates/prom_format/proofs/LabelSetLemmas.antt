@@ -1,0 +1,41 @@
+-- An entry put into a map is a label put into its list.
+use Rattle.std.proofs.Common.{◌≡◌, ℕ, Bool, true, false, List, [], ◌∷◌, refl, sym, ap, ◌∙◌}
+use Rattle.std.specs.Prelude.{bytes_eq, if◌then◌else◌}
+use Rattle.std.specs.String.{string_eq}
+use Rattle.std.specs.declared.string.String.{String}
+use Rattle.std.specs.declared.alloc.Global.{Global}
+use Rattle.std.proofs.lemmas.Bool.{false≢true, false_from_ne_true, cond-true, cond-false}
+use Rattle.std.proofs.lemmas.Slice.Eq.{bytes_eq-Decides}
+use Rattle.indexmap.specs.IndexMap.{insert_entry}
+use Rattle.metrics_core.specs.Keys.{LabelText, put_label}
+use Rattle.prom_format.specs.LabelSets.{label_of_entry, labels_of}
+
+-- the test by bytes reads both ways
+swapped : (x y : List ℕ) → bytes_eq x y ≡ true → bytes_eq y x ≡ true
+swapped x y same = (bytes_eq-Decides y x).1 (sym ((bytes_eq-Decides x y).0 same))
+
+-- the first entry, given what becomes of those behind it
+first_put : (first label : LabelText) (left others : List LabelText) (same : Bool) → bytes_eq label.key first.key ≡ same →
+    (if same then record { key = first.key; value = label.value } ∷ others else first ∷ left)
+    ≡ (if bytes_eq first.key label.key then label ∷ others else first ∷ left)
+first_put first label left others true same =
+    ap (λ k. record { key = k; value = label.value } ∷ others) (sym ((bytes_eq-Decides label.key first.key).0 same))
+    ∙ sym (cond-true (bytes_eq first.key label.key) (label ∷ others) (first ∷ left) (swapped label.key first.key same))
+first_put first label left others false other =
+    sym (cond-false (bytes_eq first.key label.key) (label ∷ others) (first ∷ left)
+    (false_from_ne_true (bytes_eq first.key label.key) (λ same. false≢true (sym other ∙ swapped first.key label.key same))))
+
+-- the labels of the entries, whichever the test answers
+chosen : (same : Bool) (first : String Global × String Global) (value : String Global) (left others : List (String Global × String Global)) →
+    labels_of (if same then (first.0, value) ∷ others else first ∷ left)
+    ≡ (if same then label_of_entry (first.0, value) ∷ labels_of others else label_of_entry first ∷ labels_of left)
+chosen true first value left others = refl
+chosen false first value left others = refl
+
+pub labels_of-insert : (entries : List (String Global × String Global)) (key value : String Global) →
+    labels_of (insert_entry string_eq entries key value) ≡ put_label (labels_of entries) (label_of_entry (key, value))
+labels_of-insert [] key value = refl
+labels_of-insert (first ∷ entries) key value =
+    chosen (string_eq key first.0) first value (insert_entry string_eq entries key value) entries
+    ∙ ap (λ left. if string_eq key first.0 then label_of_entry (first.0, value) ∷ labels_of entries else label_of_entry first ∷ left) (labels_of-insert entries key value)
+    ∙ first_put (label_of_entry first) (label_of_entry (key, value)) (put_label (labels_of entries) (label_of_entry (key, value))) (labels_of entries) (string_eq key first.0) refl

@@ -1,0 +1,8 @@
+use Rattle.prom_format.proofs.NameLaws.{sanitized_metric_name-is_name, sanitized_label_name-is_name}
+use Rattle.prom_format.proofs.laws.sanitized_texts_are_names.Goals as goal
+
+pub returns-clause-metric : goal.returns-clause-metric
+returns-clause-metric c = sanitized_metric_name-is_name
+
+pub returns-clause-label : goal.returns-clause-label
+returns-clause-label c = sanitized_label_name-is_name
