@@ -13,3 +13,6 @@ pub use builder::PrometheusBuilder;
 pub use errors::BuildError;
 pub use laws::{basic_page, pages_are_read};
 pub use state::PrometheusState;
+
+#[cfg(test)]
+mod tests;
