@@ -177,8 +177,8 @@ families_printable : (settings : ExporterSettings) (t : ℕ) (s : PrometheusStat
 families_printable settings t s =
     all_append IsPrintable _ _
     (all_append IsPrintable _ _
-        (all_mapped (IsNameOf kinds.Counter s) IsPrintable _ (λ name is. family_printable settings s kinds.Counter name (counter_suffix settings) _ (counter_rows settings s) (suffix_named settings) (counter_printable settings s) is) _ (names_are kinds.Counter s))
-        (all_mapped (IsNameOf kinds.Gauge s) IsPrintable _ (λ name is. family_printable settings s kinds.Gauge name None _ (gauge_rows settings s) tt (gauge_printable settings s) is) _ (names_are kinds.Gauge s)))
+    (all_mapped (IsNameOf kinds.Counter s) IsPrintable _ (λ name is. family_printable settings s kinds.Counter name (counter_suffix settings) _ (counter_rows settings s) (suffix_named settings) (counter_printable settings s) is) _ (names_are kinds.Counter s))
+    (all_mapped (IsNameOf kinds.Gauge s) IsPrintable _ (λ name is. family_printable settings s kinds.Gauge name None _ (gauge_rows settings s) tt (gauge_printable settings s) is) _ (names_are kinds.Gauge s)))
     (all_filter_mapped (IsNameOf kinds.Histogram s) IsPrintable _ (λ name is. distribution_printable settings s t name (distribution_of settings name) is) _ (names_are kinds.Histogram s))
 
 -- the text of the families that a state shows at a moment is a page of exactly these families

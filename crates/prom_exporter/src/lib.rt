@@ -11,5 +11,8 @@ mod state;
 
 pub use builder::PrometheusBuilder;
 pub use errors::BuildError;
-pub use laws::basic_page;
+pub use laws::{basic_page, pages_are_read};
 pub use state::PrometheusState;
+
+#[cfg(test)]
+mod tests;
