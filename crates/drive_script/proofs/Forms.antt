@@ -35,6 +35,13 @@ quoted_ascii name named = subst IsAscii (sym (quoted_metric_name name named)) (I
 text_of : (line spelled : List ℕ) → line ≡ spelled → IsAscii spelled → IsUtf8 line
 text_of line spelled e ascii = IsUtf8-from_ascii line (subst IsAscii (sym e) ascii)
 
+-- what is spelled behind a front, and what is spelled with nothing behind it
+behind_front : (bytes front rest spelled : List ℕ) → bytes ≡ front ++ rest → rest ≡ spelled → bytes ≡ front ++ spelled
+behind_front bytes front rest spelled whole e = whole ∙ ap (λ (x : List ℕ). front ++ x) e
+
+all_of_it : (bytes spelled rest : List ℕ) → bytes ≡ spelled ++ rest → rest ≡ [] → bytes ≡ spelled
+all_of_it bytes spelled rest whole none = whole ∙ ap (λ (x : List ℕ). spelled ++ x) none ∙ append-nil spelled
+
 -- ---- round lines
 
 pub round_takes : (line : List ℕ) (moment : ℕ) → round_at line ≡ Some moment → IsLine line (Round moment)
@@ -46,8 +53,8 @@ round_takes line moment e =
     let is : b.0.0 ≡ moment = same_Some b.0.0 moment c.2 in
     let number = number_takes (2 ^ 64 - 1) b.0.0 a.0 b.0.1 b.1 in
     let small : moment < 2 ^ 64 = omega (arith, number.1) in
-    let spelled : line ≡ codes "round " ++ decimal moment =
-    behind_takes (codes "round ") line a.0 a.1 ∙ ap (λ (x : List ℕ). codes "round " ++ x) (number.0 ∙ ap (λ (x : List ℕ). decimal b.0.0 ++ x) (end_takes b.0.1 c.0 c.1) ∙ append-nil (decimal b.0.0) ∙ ap decimal is) in
+    let all : a.0 ≡ decimal b.0.0 = all_of_it a.0 (decimal b.0.0) b.0.1 number.0 (end_takes b.0.1 c.0 c.1) in
+    let spelled : line ≡ codes "round " ++ decimal moment = behind_front line (codes "round ") a.0 (decimal moment) (behind_takes (codes "round ") line a.0 a.1) (subst (λ (n : ℕ). a.0 ≡ decimal n) is all) in
     record {
       words = codes "round" ∷ decimal moment ∷ [];
       formed = (small, refl);
@@ -75,8 +82,8 @@ register_takes line name e =
     let is : b.0.0 ≡ name = same_Some b.0.0 name c.2 in
     let taken = name_takes a.0 b.0.0 b.0.1 b.1 in
     let named : IsMetricName name = subst IsMetricName is taken.1 in
-    let spelled : line ≡ codes "register counter " ++ quoted name =
-    behind_takes (codes "register counter ") line a.0 a.1 ∙ ap (λ (x : List ℕ). codes "register counter " ++ x) (taken.0 ∙ ap (λ (x : List ℕ). quoted b.0.0 ++ x) (end_takes b.0.1 c.0 c.1) ∙ append-nil (quoted b.0.0) ∙ ap quoted is) in
+    let all : a.0 ≡ quoted b.0.0 = all_of_it a.0 (quoted b.0.0) b.0.1 taken.0 (end_takes b.0.1 c.0 c.1) in
+    let spelled : line ≡ codes "register counter " ++ quoted name = behind_front line (codes "register counter ") a.0 (quoted name) (behind_takes (codes "register counter ") line a.0 a.1) (subst (λ (n : List ℕ). a.0 ≡ quoted n) is all) in
     record {
       words = codes "register" ∷ codes "counter" ∷ quoted name ∷ [];
       formed = (named, refl, refl);
@@ -124,10 +131,20 @@ call_spelling_ascii lane handle n lane_fits handle_fits n_fits =
     let act = IsAscii-append (codes " inc ") (decimal handle ++ (codes " " ++ decimal n)) (literal_ascii (codes " inc ") refl) from_handle in
     IsAscii-append (decimal lane) (codes " inc " ++ (decimal handle ++ (codes " " ++ decimal n))) (IsAscii-decimal lane lane_fits) act
 
+-- a line of this spelling says the call
+call_spelled : (line : List ℕ) (call : CallLine) (lane handle n : ℕ) → line ≡ call_spelling lane handle n → lane ≡ 0 → handle < 2 ^ 32 → n < 2 ^ 64 → record { lane = lane; handle = handle; act = Inc n } ≡ call → IsLine line (CallOf call)
+call_spelled line call lane handle n spelled first handle_fits fits made =
+    subst (λ (x : CallLine). IsLine line (CallOf x)) made
+    (record {
+      words = decimal lane ∷ codes "inc" ∷ decimal handle ∷ decimal n ∷ [];
+      formed = (codes "inc" ∷ decimal handle ∷ decimal n ∷ [], (fits, refl), first, handle_fits, refl);
+      spelled = spelled;
+      utf8 = text_of line (call_spelling lane handle n) spelled (call_spelling_ascii lane handle n (omega arith) (omega arith) fits);
+    })
+
 pub call_takes : (line : List ℕ) (call : CallLine) → call_at line ≡ Some call → IsLine line (CallOf call)
 unfolding call_at
 call_takes line call e =
-    let made = λ (lane handle n : ℕ). ◌≡◌ {A = CallLine} (record { lane = lane; handle = handle; act = Inc n }) call in
     let a = bind_some (number_at 0 line) (λ lane. behind (codes " inc ") lane.1 >>= λ act. number_at (2 ^ 32 - 1) act >>= λ handle. behind (codes " ") handle.1 >>= λ space. number_at (2 ^ 64 - 1) space >>= λ value. end_at value.1 >>= λ _. Some (record { lane = lane.0; handle = handle.0; act = Inc value.0 })) call e in
     let b = bind_some (behind (codes " inc ") a.0.1) (λ act. number_at (2 ^ 32 - 1) act >>= λ handle. behind (codes " ") handle.1 >>= λ space. number_at (2 ^ 64 - 1) space >>= λ value. end_at value.1 >>= λ _. Some (record { lane = a.0.0; handle = handle.0; act = Inc value.0 })) call a.2 in
     let c = bind_some (number_at (2 ^ 32 - 1) b.0) (λ handle. behind (codes " ") handle.1 >>= λ space. number_at (2 ^ 64 - 1) space >>= λ value. end_at value.1 >>= λ _. Some (record { lane = a.0.0; handle = handle.0; act = Inc value.0 })) call b.2 in
@@ -137,18 +154,13 @@ call_takes line call e =
     let lane = number_takes 0 a.0.0 line a.0.1 a.1 in
     let handle = number_takes (2 ^ 32 - 1) c.0.0 b.0 c.0.1 c.1 in
     let value = number_takes (2 ^ 64 - 1) f.0.0 d.0 f.0.1 f.1 in
-    let from_value : d.0 ≡ decimal f.0.0 = value.0 ∙ ap (λ (x : List ℕ). decimal f.0.0 ++ x) (end_takes f.0.1 g.0 g.1) ∙ append-nil (decimal f.0.0) in
-    let from_space : c.0.1 ≡ codes " " ++ decimal f.0.0 = behind_takes (codes " ") c.0.1 d.0 d.1 ∙ ap (λ (x : List ℕ). codes " " ++ x) from_value in
-    let from_handle : b.0 ≡ decimal c.0.0 ++ (codes " " ++ decimal f.0.0) = handle.0 ∙ ap (λ (x : List ℕ). decimal c.0.0 ++ x) from_space in
-    let from_act : a.0.1 ≡ codes " inc " ++ (decimal c.0.0 ++ (codes " " ++ decimal f.0.0)) = behind_takes (codes " inc ") a.0.1 b.0 b.1 ∙ ap (λ (x : List ℕ). codes " inc " ++ x) from_handle in
-    let spelled : line ≡ call_spelling a.0.0 c.0.0 f.0.0 = lane.0 ∙ ap (λ (x : List ℕ). decimal a.0.0 ++ x) from_act in
-    subst (λ (x : CallLine). IsLine line (CallOf x)) (same_Some (record { lane = a.0.0; handle = c.0.0; act = Inc f.0.0 }) call g.2)
-    (record {
-      words = decimal a.0.0 ∷ codes "inc" ∷ decimal c.0.0 ∷ decimal f.0.0 ∷ [];
-      formed = (codes "inc" ∷ decimal c.0.0 ∷ decimal f.0.0 ∷ [], (omega (arith, value.1), refl), omega (arith, lane.1), omega (arith, handle.1), refl);
-      spelled = spelled;
-      utf8 = text_of line (call_spelling a.0.0 c.0.0 f.0.0) spelled (call_spelling_ascii a.0.0 c.0.0 f.0.0 (omega (arith, lane.1)) (omega (arith, handle.1)) (omega (arith, value.1)));
-    })
+    let from_value : d.0 ≡ decimal f.0.0 = all_of_it d.0 (decimal f.0.0) f.0.1 value.0 (end_takes f.0.1 g.0 g.1) in
+    let from_space : c.0.1 ≡ codes " " ++ decimal f.0.0 = behind_front c.0.1 (codes " ") d.0 (decimal f.0.0) (behind_takes (codes " ") c.0.1 d.0 d.1) from_value in
+    let from_handle : b.0 ≡ decimal c.0.0 ++ (codes " " ++ decimal f.0.0) = behind_front b.0 (decimal c.0.0) c.0.1 (codes " " ++ decimal f.0.0) handle.0 from_space in
+    let from_act : a.0.1 ≡ codes " inc " ++ (decimal c.0.0 ++ (codes " " ++ decimal f.0.0)) = behind_front a.0.1 (codes " inc ") b.0 (decimal c.0.0 ++ (codes " " ++ decimal f.0.0)) (behind_takes (codes " inc ") a.0.1 b.0 b.1) from_handle in
+    let spelled : line ≡ call_spelling a.0.0 c.0.0 f.0.0 = behind_front line (decimal a.0.0) a.0.1 (codes " inc " ++ (decimal c.0.0 ++ (codes " " ++ decimal f.0.0))) lane.0 from_act in
+    let made : record { lane = a.0.0; handle = c.0.0; act = Inc f.0.0 } ≡ call = same_Some (record { lane = a.0.0; handle = c.0.0; act = Inc f.0.0 }) call g.2 in
+    call_spelled line call a.0.0 c.0.0 f.0.0 spelled (omega (arith, lane.1)) (omega (arith, handle.1)) (omega (arith, value.1)) made
 
 -- what a call line does: it adds to a counter
 pub record Adds (line : List ℕ) (call : CallLine) : Type 0 where

@@ -96,6 +96,13 @@ count_name (c ∷ cs) rest e =
     let parts = and_parts (begins_metric_name c) (list_all stays cs) e in
     rw (begins_no_quote c parts.0, count_stays cs rest parts.1) (omega arith)
 
+-- a name between quotes at the front, from where the quotes stand
+between_quotes : (count : ℕ) (bytes text back name rest : List ℕ) → bytes ≡ codes "\"" ++ text → drop count text ≡ codes "\"" ++ back → IsMetricName (take count text) → ◌≡◌ {A = List ℕ × List ℕ} (take count text, back) (name, rest) → (bytes ≡ quoted name ++ rest) × IsMetricName name
+between_quotes count bytes text back name rest opened closed named given =
+    let split : text ≡ take count text ++ (codes "\"" ++ back) = sym (take-append-drop count text) ∙ ap (λ (x : List ℕ). take count text ++ x) closed in
+    let whole : bytes ≡ quoted (take count text) ++ back = opened ∙ ap (λ (x : List ℕ). codes "\"" ++ x) split ∙ sym (quoted_before (take count text) back named) in
+    subst (λ (x : List ℕ × List ℕ). (bytes ≡ quoted x.0 ++ x.1) × IsMetricName x.0) given (whole, named)
+
 pub name_takes : (bytes name rest : List ℕ) → name_at bytes ≡ Some (name, rest) → (bytes ≡ quoted name ++ rest) × IsMetricName name
 unfolding name_at
 name_takes bytes name rest e =
@@ -107,9 +114,7 @@ name_takes bytes name rest e =
     let closed = bind_some (behind (codes "\"") (drop (position_or_len is_quote text) text)) (last text) (name, rest) opened.2 in
     let given = cond_some (is_name begins_metric_name front) (front, closed.0) (name, rest) closed.2 in
     let behind_name : drop (position_or_len is_quote text) text ≡ codes "\"" ++ closed.0 = behind_takes (codes "\"") (drop (position_or_len is_quote text) text) closed.0 closed.1 in
-    let split : text ≡ front ++ (codes "\"" ++ closed.0) = sym (take-append-drop (position_or_len is_quote text) text) ∙ ap (λ (x : List ℕ). front ++ x) behind_name in
-    let whole : bytes ≡ codes "\"" ++ (front ++ (codes "\"" ++ closed.0)) = behind_takes (codes "\"") bytes text opened.1 ∙ ap (λ (x : List ℕ). codes "\"" ++ x) split in
-    subst (λ (x : List ℕ × List ℕ). (bytes ≡ quoted x.0 ++ x.1) × IsMetricName x.0) given.1 (whole ∙ sym (quoted_before front closed.0 given.0), given.0)
+    between_quotes (position_or_len is_quote text) bytes text closed.0 name rest (behind_takes (codes "\"") bytes text opened.1) behind_name given.0 given.1
 
 pub name_again : (name rest : List ℕ) → IsMetricName name → name_at (quoted name ++ rest) ≡ Some (name, rest)
 name_again name rest named =

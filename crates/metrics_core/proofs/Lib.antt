@@ -1,1 +1,4 @@
 pub mod Grown
+pub mod KeyHasherSteps
+pub mod LeastDiffering
+pub mod ComparedLabels

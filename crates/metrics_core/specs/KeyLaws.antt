@@ -1,12 +1,12 @@
 -- The laws of keys and labels: what the tests of equality decide, that they are equivalences, and that equal keys hash alike.
-use Rattle.std.proofs.Common.{◌≡◌, ℕ, ◌<◌, ◌^◌, ◌%◌, List, [], ◌∷◌, ◌++◌, refl, sym, ap, ◌∙◌, arith, ◌+◌, Bool, true, false, cond, ◌⊎◌, inl, inr, zero-add, add-zero, true≢false}
+use Rattle.std.proofs.Common.{◌≡◌, ℕ, ◌<◌, ◌^◌, ◌%◌, List, [], ◌∷◌, ◌++◌, refl, sym, ap, ◌∙◌, arith, ◌+◌, length, Bool, true, false, cond, ◌⊎◌, inl, inr, zero-add, add-zero, true≢false}
 use Rattle.std.specs.Prelude.{nat_eq, ◌&&◌, bytes_eq, Decides}
 use Rattle.std.specs.List.{list_all}
 use Rattle.std.proofs.lemmas.Bool.{eq-eqb, eqb-true}
 use Rattle.std.proofs.lemmas.Slice.Eq.{bytes_eq-Decides}
 use Rattle.std.proofs.lemmas.List.Sums.{sum_by-cons, sum_by-append}
 use Rattle.std.specs.Cmp.{IsEquivalence, IsTotalOrder, then_total, decided}
-use Rattle.std.specs.Cmp.Lexicographic.{on_texts}
+use Rattle.std.specs.Cmp.Lexicographic.{on_texts, pointwise, pointwise_decides}
 use Rattle.std.specs.Cmp.Rules.{comparing}
 use Rattle.std.specs.Ordering.{eq_by_cmp}
 use Rattle.std.proofs.Common.{rules}
@@ -19,11 +19,11 @@ use Rattle.metrics_core.specs.Numbers.{in_64_bits}
 use Rattle.metrics_core.specs.Hashes.{label_hash, key_hash, hash_bytes}
 use Rattle.metrics_core.specs.Keys.{LabelText, KeyText, label_eq, label_cmp, occurrences, same_multiset, key_eq, SameKey}
 
-both : (a b : Bool) → (a && b) ≡ true → (a ≡ true) × (b ≡ true)
+pub both : (a b : Bool) → (a && b) ≡ true → (a ≡ true) × (b ≡ true)
 both true b h = (refl, h)
 both false b h = (h, absurd (true≢false (sym h)))
 
-and : (a b : Bool) → a ≡ true → b ≡ true → (a && b) ≡ true
+pub and : (a b : Bool) → a ≡ true → b ≡ true → (a && b) ≡ true
 and a b ha hb = ap (λ x. x && b) ha ∙ hb
 
 pub label_eq_is : (a b : LabelText) → Decides (label_eq a b) (a ≡ b)
@@ -185,3 +185,21 @@ wrapping_sum f start (x ∷ xs) small =
     let below : in_64_bits (start + f x) < 2 ^ 64 = omega arith in
     let sum : start + f x + sum_by f xs ≡ start + sum_by f (x ∷ xs) = omega (arith, sum_by-cons f x xs) in
     wrapping_sum f (in_64_bits (start + f x)) xs below ∙ early (start + f x) (sum_by f xs) ∙ ap in_64_bits sum
+
+-- quick answers to whether two lists have the same labels
+
+-- lists with the same labels in the same order do
+pub same_multiset-pointwise : (xs ys : List LabelText) → pointwise label_eq xs ys ≡ true → same_multiset xs ys ≡ true
+same_multiset-pointwise xs ys h =
+    from_counts xs ys (λ l. ap (λ zs. occurrences zs l) ((pointwise_decides label_eq_is xs ys).0 h)) (xs ++ ys)
+
+ones : (xs : List LabelText) → sum_by (λ _. 1) xs ≡ length xs
+ones [] = refl
+ones (x ∷ xs) = omega (arith, sum_by-cons (λ _. 1) x xs, ones xs)
+
+-- lists with the same labels have as many, and the same sum of hashes
+pub length-same_multiset : (xs ys : List LabelText) → same_multiset xs ys ≡ true → length xs ≡ length ys
+length-same_multiset xs ys h = sym (ones xs) ∙ same_sums (λ _. 1) xs ys (to_counts xs ys h) ∙ ones ys
+
+pub hashes-same_multiset : (xs ys : List LabelText) → same_multiset xs ys ≡ true → in_64_bits (0 + sum_by label_hash xs) ≡ in_64_bits (0 + sum_by label_hash ys)
+hashes-same_multiset xs ys h = ap (λ n. in_64_bits (0 + n)) (same_sums label_hash xs ys (to_counts xs ys h))

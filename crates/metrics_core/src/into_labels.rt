@@ -58,3 +58,26 @@ impl IntoLabels for &BTreeMap<&'static str, &'static str> {
         )
     }
 }
+
+#[cfg(test)]
+mod tests {
+    use super::*;
+    use std::test::Fail;
+
+    #[test]
+    fn pairs_entries_and_labels(rt: HostRuntime) -> Result<(), Fail> {
+        let alloc = rt.alloc();
+        let labels = [("b", "2"), ("a", "1")].as_slice().into_labels(alloc)?;
+        assert_eq!(rt; labels.len(), 2);
+        assert_eq!(rt; labels[0].key(), "b");
+        assert!(rt; labels.iter().into_labels(alloc)? == labels);
+        let mut entries = BTreeMap::new(alloc);
+        entries.insert("b", "2")?;
+        entries.insert("a", "1")?;
+        let sorted = (&entries).into_labels(alloc)?;
+        assert_eq!(rt; sorted.len(), 2);
+        assert!(rt; sorted[0] == labels[1] && sorted[0] < labels[0]);
+        assert_eq!(rt; sorted.into_labels(alloc)?.len(), 2);
+        Ok(())
+    }
+}

@@ -1,20 +1,21 @@
 //! The names and keys of series.
 
-ghost use Rattle.std.specs.Prelude.{◌≡◌, ℕ, ◌^◌, ◌<◌, [], ◌++◌, length, string_bytes, bytes_eq, IfOk, Some, refl};
-ghost use Rattle.std.specs.Cmp.{partial_equiv_from_equiv};
+ghost use Rattle.std.specs.Prelude.{◌≡◌, ℕ, ◌^◌, ◌<◌, [], ◌++◌, length, string_bytes, bytes_eq, IfOk, IsTrue, ◌↔◌, Some, refl};
+ghost use Rattle.std.specs.Cmp.{partial_equiv_from_equiv, partial_order_from_agreeing_total};
 ghost use Rattle.std.specs.Cmp.Lexicographic.{slice_cmp, nat_list_eq_equiv, nat_list_cmp_total, texts_po, texts_ties};
 ghost use Rattle.std.specs.Ordering.{nat_cmp};
 ghost use Rattle.std.specs.Hash as fed;
 ghost use Rattle.std.specs.Slice.Iter.{iter_rest};
 ghost use Rattle.std.specs.Iterator.Adapters.{IterYieldsInOrder};
 ghost use Rattle.metrics_core.specs.Texts.{cow_text};
-ghost use Rattle.metrics_core.specs.Keys.{LabelText, key_eq};
+ghost use Rattle.metrics_core.specs.Keys.{LabelText, SameKey, key_eq, key_cmp};
 ghost use Rattle.metrics_core.specs.Hashes.{key_hash};
+ghost use Rattle.metrics_core.specs.KeyOrderLaws.{key_cmp_total, key_cmp_ties};
 ghost use Rattle.metrics_core.specs.KeyLaws.{key_eq_laws, key_hash_respects};
 ghost use Rattle.metrics_core.specs.TextLaws.{text_hash_input_respects};
 
 use crate::hashes::hash_with_seed;
-use crate::labels::{add_hashes, are_same, clone_all};
+use crate::labels::{add_hashes, are_same, clone_all, compare_in_order};
 use crate::{CowSlice, Label, Memory, SharedString};
 use std::alloc::Global;
 use std::cmp::Ordering;
@@ -282,6 +283,13 @@ impl Key {
             self.labels.as_slice(),
         )
     }
+
+    /// Whether the names are equal, and the labels in any order.
+    fn equals(&self, other: &Key) -> bool
+        ensures { result ≡ key_eq self.now other.now }
+    {
+        self.name == other.name && are_same(self.labels.as_slice(), other.labels.as_slice())
+    }
 }
 
 impl From<KeyName> for Key {
@@ -306,13 +314,49 @@ impl PartialEq for Key {
 
     ghost laws = { partial_equiv_from_equiv key_eq_laws };
 
-    fn eq(&self, other: &Key) -> bool {
-        self.name == other.name && are_same(self.labels.as_slice(), other.labels.as_slice())
+    fn eq(&self, other: &Key) -> bool
+        ensures value { result ≡ key_eq self.now other.now }
+        ensures same { IsTrue result ↔ SameKey self.now other.now }
+    {
+        self.equals(other)
     }
 }
 
 impl Eq for Key {
     ghost laws = { key_eq_laws };
+}
+
+impl PartialOrd for Key {
+    ghost partial_cmp = { λ a b. Some (key_cmp a b) };
+
+    ghost laws = { partial_order_from_agreeing_total key_cmp key_cmp_total (λ a b. refl) key_cmp_ties };
+
+    fn partial_cmp(&self, other: &Key) -> Option<Ordering> {
+        Some(self.cmp(other))
+    }
+}
+
+/// Keys are ordered by name, then by the number of labels, then by the labels, each list in the order of labels.
+impl Ord for Key {
+    ghost cmp = { key_cmp };
+
+    ghost total = { key_cmp_total };
+
+    ghost matches_partial_cmp = { λ a b. refl };
+
+    ghost matches_eq = { key_cmp_ties };
+
+    fn cmp(&self, other: &Key) -> Ordering {
+        let labels = self.labels.as_slice();
+        let others = other.labels.as_slice();
+        match self.name.cmp(&other.name) {
+            Ordering::Equal => match labels.len().cmp(&others.len()) {
+                Ordering::Equal => compare_in_order(labels, others),
+                by_number => by_number,
+            },
+            by_name => by_name,
+        }
+    }
 }
 
 impl Hash for Key {
@@ -347,8 +391,8 @@ mod tests {
         let one = key_of(rt.alloc(), [("a", "1"), ("a", "2")])?;
         let other = key_of(rt.alloc(), [("a", "2"), ("a", "1")])?;
         let doubled = key_of(rt.alloc(), [("a", "1"), ("a", "1")])?;
-        assert!(rt; one == other);
-        assert!(rt; one != doubled);
+        assert!(rt; one == other && one.cmp(&other) == Ordering::Equal);
+        assert!(rt; one != doubled && doubled < one && doubled < other);
         assert_eq!(rt; one.get_hash(), other.get_hash());
         assert!(rt; one.clone(rt.alloc())? == one);
         assert_eq!(rt; one.labels().len(), 2);
@@ -365,5 +409,23 @@ mod tests {
             let key = Key::from_name(KeyName::from(SharedString::from_borrowed(name)));
             assert_eq!(rt; key.get_hash(), hash);
         }
+    }
+
+    #[test]
+    fn a_key_is_shown_and_taken_apart(rt: HostRuntime) -> Result<(), Fail> {
+        let alloc = rt.alloc();
+        let key = key_of(alloc, [("a", "1"), ("b", "2")])?.to_retained(alloc)?;
+        assert_eq!(rt;
+            format!(in alloc; "{key}")?.as_str(),
+            "Key(x, [a = 1, b = 2])"
+        );
+        let mut extra = Vec::new(alloc);
+        extra.push(Label::from_static_parts("", ""))?;
+        let longer = Key::from_static_name("").with_extra_labels(alloc, extra)?;
+        assert_eq!(rt; longer.get_hash(), 0xcbf29ce484222328);
+        let (name, labels) = longer.into_parts(alloc)?;
+        assert!(rt; name == KeyName::from_const_str("") && labels.len() == 1);
+        assert_eq!(rt; key.name_shared(alloc)?.into_inner().as_str(), "x");
+        Ok(())
     }
 }

@@ -1,12 +1,13 @@
 //! Labels: pairs of texts that tell the series of one name apart.
 
-ghost use Rattle.std.specs.Prelude.{◌≡◌, ◌+◌, ◌++◌, List, map, IfOk, Some, nat_eq, sum_by, refl};
+ghost use Rattle.std.specs.Prelude.{◌≡◌, ◌+◌, ◌++◌, length, IfOk, Some, option_copied, fold, true, nat_eq, sum_by, refl};
 ghost use Rattle.std.specs.List.{list_all};
 ghost use Rattle.std.specs.Hash as fed;
+ghost use Rattle.std.specs.Cmp.Lexicographic.{slice_cmp};
 ghost use Rattle.std.specs.Cmp.{partial_equiv_from_equiv, partial_order_from_agreeing_total};
-ghost use Rattle.std.specs.Slice.Iter.{iter_rest};
 ghost use Rattle.metrics_core.specs.Texts.{cow_text};
-ghost use Rattle.metrics_core.specs.Keys.{LabelText, label_eq, label_cmp, occurrences, same_multiset};
+ghost use Rattle.metrics_core.specs.Sorting.{sorted_by, lesser_differing};
+ghost use Rattle.metrics_core.specs.Keys.{label_eq, label_cmp, occurrences, same_multiset};
 ghost use Rattle.metrics_core.specs.Numbers.{in_64_bits};
 ghost use Rattle.metrics_core.specs.Hashes.{label_hash};
 ghost use Rattle.metrics_core.specs.KeyLaws.{label_eq_laws, label_cmp_total, label_cmp_ties, label_hash_input_respects};
@@ -180,12 +181,75 @@ fn counts_agree(labels: &[Label], others: &[Label], among: &[Label]) -> bool
         .all(|label| count(labels, label) == count(others, label))
 }
 
-/// Whether each label stands as often in the one list as in the other.
-#[tactic(auto, using(crate::specs::KeyLaws::list_all_append))]
+/// Whether two lists may have the same labels: they have as many, and the same hash.
+fn may_be_same(labels: &[Label], others: &[Label]) -> bool
+    ensures { same_multiset labels.now others.now ≡ true → result ≡ true }
+{
+    labels.len() == others.len() && add_hashes(0, labels) == add_hashes(0, others)
+}
+
+/// Whether each label stands as often in the one list as in the other. It takes no memory. Lists in the same order, of
+/// another length or with another hash cost a pass over both; the others a pass over both for each label.
 pub(crate) fn are_same(labels: &[Label], others: &[Label]) -> bool
     ensures { result ≡ same_multiset labels.now others.now }
 {
-    counts_agree(labels, others, labels) && counts_agree(labels, others, others)
+    labels == others
+        || may_be_same(labels, others)
+            && counts_agree(labels, others, labels)
+            && counts_agree(labels, others, others)
+}
+
+/// The label found so far that is least among those that don't stand as often in the one list as in the other, after
+/// one more label.
+fn lesser_of<'a>(
+    labels: &[Label],
+    others: &[Label],
+    found: Option<&'a Label>,
+    label: &'a Label,
+) -> Option<&'a Label>
+    ensures { option_copied result
+        ≡ lesser_differing label_cmp label_eq labels.now others.now (option_copied found.entry) label.now }
+{
+    if count(labels, label) == count(others, label) {
+        return found;
+    }
+    match found {
+        Some(least) if *label >= *least => found,
+        _ => Some(label),
+    }
+}
+
+/// The least of some labels and of one found before that doesn't stand as often in the one list as in the other.
+fn least_differing<'a>(
+    labels: &[Label],
+    others: &[Label],
+    among: &'a [Label],
+    found: Option<&'a Label>,
+) -> Option<&'a Label>
+    ensures { option_copied result
+        ≡ fold (lesser_differing label_cmp label_eq labels.now others.now) (option_copied found.entry) among.now }
+{
+    let mut least = found;
+    for label in among {
+        least = lesser_of(labels, others, least, label);
+    }
+    least
+}
+
+/// How two lists of as many labels compare, each in order. It takes no memory: the first label in order that they don't
+/// have equally often decides.
+pub(crate) fn compare_in_order(labels: &[Label], others: &[Label]) -> Ordering
+    requires { length labels.now ≡ length others.now }
+    ensures { result ≡ slice_cmp label_cmp (sorted_by label_cmp labels.now) (sorted_by label_cmp others.now) }
+{
+    if labels == others {
+        return Ordering::Equal;
+    }
+    let found = least_differing(labels, others, labels, None);
+    match least_differing(labels, others, others, found) {
+        None => Ordering::Equal,
+        Some(label) => count(others, label).cmp(&count(labels, label)),
+    }
 }
 
 /// Copies of the labels, in their order.

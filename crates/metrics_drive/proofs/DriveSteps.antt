@@ -4,7 +4,7 @@ use Rattle.std.specs.Prelude.{Option, Some, None, IfSome, take}
 use Rattle.metrics_core.specs.Outside.{GrewBy, GrewByFront}
 use Rattle.drive_script.specs.Script.{ScriptText, lines_of}
 use Rattle.drive_script.specs.Valid.{IsScriptOf, IsFirstBadLine}
-use Rattle.drive_script.proofs.Growth.{fronts_valid}
+use Rattle.drive_script.proofs.Laws.{beginnings}
 use Rattle.drive_script.specs.Faults.{IsScriptFault}
 use Rattle.drive_script.specs.declared.faults.DriveFault.{DriveFault}
 use Rattle.drive_script.specs.declared.faults.DriveFault.TheVariants as faults
@@ -16,7 +16,7 @@ use Rattle.metrics_drive.proofs.RunPages.{run_is_pages}
 
 -- bytes that are a valid script have no bad line
 pub good_not_bad : (bytes : List ℕ) (script : ScriptText) (l : ℕ) → IsGoodScript bytes script → IsBadScript bytes l → ⊥
-good_not_bad bytes script l good bad = bad.1.bad (fronts_valid l (lines_of bytes) bad.1.is_line.1 (script, good.1.0, good.1.1))
+good_not_bad bytes script l good bad = bad.1.bad (beginnings (lines_of bytes) l (script, good.1.0, good.1.1))
 
 good_not_long : (bytes : List ℕ) (script : ScriptText) → IsGoodScript bytes script → IsTooLong bytes → ⊥
 good_not_long bytes script good long = omega (arith, good.0, long)

@@ -3,3 +3,5 @@ pub mod TurnSteps
 pub mod BuiltRounds
 pub mod RunPages
 pub mod DriveSteps
+pub mod Sayings
+pub mod WordSteps

@@ -1,5 +1,6 @@
 -- Which status the program ends with, by which cause, and its line on `err` (this project's rules).
-use Rattle.std.specs.Prelude.{◌≡◌, ℕ, ◌<◌, ◌≤◌, ◌⊎◌, List, [], ◌∷◌, ◌++◌, length, Result, Ok, Err, Option, IfSome, codes, decimal, map, Bor}
+use Rattle.std.specs.Prelude.{◌≡◌, ℕ, ◌<◌, ◌≤◌, ◌⊎◌, List, [], ◌∷◌, ◌++◌, length, Result, Ok, Err, Option, IfSome, codes, decimal, map}
+use Rattle.std.specs.Borrow.{Bor}
 use Rattle.metrics_core.specs.Characters.{line}
 use Rattle.metrics_core.specs.Outside.{GrewBy}
 use Rattle.drive_script.specs.Script.{ScriptText}

@@ -2,14 +2,68 @@
 #![tactic(auto)]
 
 mod drive;
+mod examples;
 mod play;
 mod reading;
 mod report;
 mod run;
 mod say;
+#[cfg(test)]
+mod tests;
 
 pub use drive::drive;
+use drive_script::DriveFault;
+pub use examples::{basic_example, empty_example};
+use metrics_core::{Memory, Reading, Sink, Source, Writing};
 pub use report::Report;
 pub use run::run;
+use std::alloc::Global;
+use std::env;
+use std::env::Args;
+use std::io::ErrorKind;
+use std::process::ExitCode;
+use std::rt::Env;
 
-fn main() {}
+/// Makes the real source and sinks, calls `run`, and ends with its status.
+fn main(rt: HostRuntime) -> ExitCode {
+    let alloc = rt.alloc();
+    let mut source = Reading::new(rt.stdin());
+    let mut out = Writing::new(rt.stdout());
+    let mut err = Writing::new(rt.stderr());
+    match run_words(&rt, alloc, &mut source, &mut out, &mut err) {
+        Ok(status) => ExitCode::from(status),
+        Err(Memory) => {
+            say::say_fault(&mut err, DriveFault::Memory);
+            ExitCode::from(8)
+        }
+    }
+}
+
+/// Calls `run` with the words after the program's name. Words that aren't text are no form of words.
+fn run_words<R: Env + AllocGlobal, S: Source, K: Sink, E: Sink>(
+    rt: &R,
+    alloc: Global,
+    source: &mut S,
+    out: &mut K,
+    err: &mut E,
+) -> Result<u8, Memory> {
+    let words = match env::args(rt) {
+        Ok(arguments) => texts(alloc, arguments)?,
+        Err(error) if error.kind() == ErrorKind::OutOfMemory => return Err(Memory),
+        Err(_) => Vec::new(alloc),
+    };
+    let mut views = Vec::new(alloc);
+    for word in &words {
+        views.push(word.as_str())?;
+    }
+    Ok(run(alloc, &views, source, out, err))
+}
+
+/// The words after the program's name.
+fn texts(alloc: Global, arguments: Args<Global>) -> Result<Vec<String>, Memory> {
+    let mut words = Vec::new(alloc);
+    for word in arguments.skip(1) {
+        words.push(word)?;
+    }
+    Ok(words)
+}

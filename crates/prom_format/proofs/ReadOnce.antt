@@ -57,3 +57,17 @@ span_told kind (a ∷ x) [] c d r s hx hy hc hd e =
 span_told kind (a ∷ x) (b ∷ y) c d r s hx hy hc hd e =
     let behind = span_told kind x y c d r s (and_parts (kind a) (list_all kind x) hx).1 (and_parts (kind b) (list_all kind y) hy).1 hc hd (others_same a b (x ++ c ∷ r) (y ++ d ∷ s) e) in
     (ap (λ z. z ∷ x) (first_same a b (x ++ c ∷ r) (y ++ d ∷ s) e) ∙ ap (λ zs. b ∷ zs) behind.0, behind.1)
+
+-- a text that begins with a character of another kind
+pub record Stops (kind : ℕ → Bool) (text : List ℕ) : Type 0 where
+  pub first : ℕ
+  pub others : List ℕ
+  pub split : text ≡ first ∷ others
+  pub stops : kind first ≡ false
+
+pub spans_told : (kind : ℕ → Bool) (x y r s : List ℕ) → list_all kind x ≡ true → list_all kind y ≡ true →
+    Stops kind r → Stops kind s → x ++ r ≡ y ++ s → (x ≡ y) × (r ≡ s)
+spans_told kind x y r s hx hy hr hs e =
+    let whole = ap (λ t. x ++ t) (sym hr.split) ∙ e ∙ ap (λ t. y ++ t) hs.split in
+    let told = span_told kind x y hr.first hs.first hr.others hs.others hx hy hr.stops hs.stops whole in
+    (told.0, hr.split ∙ told.1 ∙ sym hs.split)

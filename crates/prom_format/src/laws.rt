@@ -3,7 +3,7 @@
 ghost use Rattle.std.specs.Prelude.{◌≡◌, ◌↔◌, ℕ, List, [], ◌∷◌, Option, IfSome, All, codes};
 ghost use Rattle.metrics_core.specs.declared.units.Unit.{Unit as UnitOf};
 ghost use Rattle.prom_format.specs.Names.{IsMetricName, IsLabelName, sanitized_metric_name, sanitized_label_name, full_name};
-ghost use Rattle.prom_format.specs.Pages.{Family, IsBody, IsPage, IsPrintable, body_text, page_text};
+ghost use Rattle.prom_format.specs.Pages.{Family, AreInRange, IsBody, IsPage, IsPrintable, body_text, page_text};
 ghost use Rattle.prom_format.specs.Printed.{canonical_label_value, canonical_description, escaped_label_value, escaped_description, printed_label_value, printed_description};
 
 /// What sanitizing makes of any text is a name.
@@ -43,4 +43,9 @@ pub fn one_text()
     ensures body_read { (families : List Family) → All IsPrintable families → IsBody (body_text families) families }
     ensures page { (bytes : List ℕ) (families : List Family) → IsPage bytes families → bytes ≡ page_text families }
     ensures page_read { (families : List Family) → All IsPrintable families → IsPage (page_text families) families }
+{}
+
+/// A page is read in one way: bytes are a page of one list of families at most, where the values have 128 bits.
+pub fn one_reading()
+    ensures page { (bytes : List ℕ) (families others : List Family) → AreInRange families → AreInRange others → IsPage bytes families → IsPage bytes others → families ≡ others }
 {}

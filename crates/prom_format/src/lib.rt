@@ -10,11 +10,13 @@ mod names;
 mod numbers;
 mod printed;
 mod suffixes;
+#[cfg(test)]
+mod tests;
 
 pub use families::FamilyType;
 pub use labels::{LabelSet, LabelStrings};
 pub use laws::{
-    escapes_tell_their_text, full_names_are_metric_names, names_stay, one_text,
+    escapes_tell_their_text, full_names_are_metric_names, names_stay, one_reading, one_text,
     printed_alike_where_meant_alike, sanitized_texts_are_names,
 };
 pub use lines::{write_help_line, write_metric_line, write_type_line};

@@ -1,0 +1,18 @@
+use Rattle.std.proofs.Common.{List, ℕ, [], ◌∷◌, refl, subst}
+use Rattle.std.specs.Fmt.{digits}
+use Rattle.std.specs.Str.{chars}
+use Rattle.drive_script.specs.Vectors.{basic}
+use Rattle.metrics_drive.specs.Headline.{IsPagesOf}
+use Rattle.metrics_drive.specs.Vectors.{basic_pages, one_page}
+use Rattle.metrics_drive.proofs.RunPages.{run_is_pages}
+use Rattle.metrics_drive.proofs.examples.basic_example.Goals as goal
+
+pub returns-clause-computed : goal.returns-clause-computed
+returns-clause-computed c = basic_pages
+
+pub returns-clause-run : goal.returns-clause-run
+unfolding digits chars
+returns-clause-run c = run_is_pages basic
+
+pub returns-clause-report : goal.returns-clause-report
+returns-clause-report c = one_page
