@@ -1,23 +1,22 @@
 -- The families that a state shows can stand on a page.
-use Rattle.std.proofs.Common.{◌≡◌, ℕ, ◌+◌, ◌<◌, ◌≤◌, List, [], ◌∷◌, ◌++◌, length, refl, sym, ap, ◌∙◌, arith, Bool, true, false, map, length-append, subst, rules}
-use Rattle.std.specs.Prelude.{Option, Some, None, IfSome, filter, filter_map, flat_map, not, ℤ, pos, bytes_eq, codes, All, IsTrue, if◌then◌else◌}
+use Rattle.std.proofs.Common.{◌≡◌, ℕ, ◌<◌, List, [], ◌∷◌, ◌++◌, length, refl, sym, arith, Bool, true, false, map, length-append, subst, rules}
+use Rattle.std.specs.Prelude.{Option, Some, None, IfSome, filter, filter_map, flat_map, not, ℤ, pos, bytes_eq, codes, if◌then◌else◌}
 use Rattle.std.specs.List.{AllByRecursion, cons_option}
 use Rattle.std.proofs.lemmas.Slice.Eq.{bytes_eq-Decides}
 use Rattle.std.proofs.lemmas.List.Elements.{All-from_recursion}
 use Rattle.metrics_core.specs.declared.kinds.MetricKind.{MetricKind}
 use Rattle.metrics_core.specs.declared.kinds.MetricKind.TheVariants as kinds
 use Rattle.metrics_core.specs.Keys.{LabelText}
-use Rattle.metrics_core.specs.Numbers.{page_number, whole}
-use Rattle.metrics_core.specs.Kinds.{kind_eq}
-use Rattle.prom_format.specs.Names.{IsMetricName, IsLabelName, sanitized_metric_name, full_name}
+use Rattle.metrics_core.specs.Numbers.{page_number}
+use Rattle.prom_format.specs.Names.{IsMetricName, IsLabelName, sanitized_metric_name}
 use Rattle.prom_format.specs.Lines.{shown_label}
-use Rattle.prom_format.specs.Pages.{Row, Family, IsPrintable, IsPrintableRow, IsPage, page_text}
+use Rattle.prom_format.specs.Pages.{Row, IsPrintable, IsPrintableRow, IsPage, page_text}
 use Rattle.prom_format.specs.declared.families.FamilyType.{FamilyType}
 use Rattle.prom_format.proofs.NameLaws.{sanitized_metric_name-is_name, sanitized_label_name-is_name, full_name-is_name}
 use Rattle.prom_format.proofs.PageText.{page_read}
 use Rattle.prom_exporter.specs.State.{Series, PrometheusState}
-use Rattle.prom_exporter.specs.Families.{ExporterSettings, families_at, family_of, row_of, one_label, shown_unit, counter_suffix, counter_rows, gauge_rows, histogram_rows, summary_rows, sum_and_count_rows, distinct, names_of_kind, series_named, series_of_kind, distribution_of, distribution_family, Distribution, NativeHistogram, Histogram, Summary, window_of}
-use Rattle.prom_exporter.specs.Window.{clamped, quantile_of, bucket_count, sample_count}
+use Rattle.prom_exporter.specs.Families.{ExporterSettings, families_at, family_of, row_of, one_label, shown_unit, counter_suffix, counter_rows, gauge_rows, histogram_rows, summary_rows, sum_and_count_rows, distinct, names_of_kind, series_named, series_of_kind, distribution_of, distribution_family, Distribution, NativeHistogram, Histogram, Summary}
+use Rattle.prom_exporter.specs.Window.{clamped}
 
 -- ---- lists
 
