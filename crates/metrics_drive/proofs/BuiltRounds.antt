@@ -1,10 +1,10 @@
 -- The rounds of a script that was read have lines of the forms that are built.
-use Rattle.std.proofs.Common.{◌≡◌, ℕ, List, [], ◌∷◌, ◌++◌, refl, map}
+use Rattle.std.proofs.Common.{ℕ, List, [], ◌∷◌, ◌++◌, map}
 use Rattle.std.specs.Prelude.{flat_map}
 use Rattle.std.specs.List.{AllZip, AllByRecursion}
 use Rattle.std.proofs.lemmas.List.Elements.{All-from_recursion}
 use Rattle.metrics_core.specs.declared.kinds.MetricKind.TheVariants as kinds
-use Rattle.drive_script.specs.Script.{ScriptLine, Round, Setup, CallOf, Register, Describe, IsLine, RoundText, round_lines}
+use Rattle.drive_script.specs.Script.{ScriptLine, Round, Setup, CallOf, Register, Describe, IsLine, round_lines}
 use Rattle.drive_script.specs.Texts.{script_of, round_of, setup_of}
 use Rattle.drive_script.specs.Valid.{IsScriptOf}
 use Rattle.drive_script.specs.declared.script.Script.{Script}

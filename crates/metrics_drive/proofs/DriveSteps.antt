@@ -1,16 +1,16 @@
 -- From the parts of a run to what it says as a whole.
-use Rattle.std.proofs.Common.{◌≡◌, ℕ, ◌<◌, ◌≤◌, ◌⊎◌, inl, inr, List, length, refl, sym, ap, subst, arith, Result, Ok, Err}
-use Rattle.std.specs.Prelude.{Option, Some, None, IfSome, take}
+use Rattle.std.proofs.Common.{◌≡◌, ℕ, ◌≤◌, ◌⊎◌, inl, inr, List, length, refl, subst, arith}
+use Rattle.std.specs.Prelude.{Option, Some, None, IfSome}
 use Rattle.metrics_core.specs.Outside.{GrewBy, GrewByFront}
 use Rattle.drive_script.specs.Script.{ScriptText, lines_of}
-use Rattle.drive_script.specs.Valid.{IsScriptOf, IsFirstBadLine}
+use Rattle.drive_script.specs.Valid.{IsScriptOf}
 use Rattle.drive_script.proofs.Laws.{beginnings}
 use Rattle.drive_script.specs.Faults.{IsScriptFault}
 use Rattle.drive_script.specs.declared.faults.DriveFault.{DriveFault}
 use Rattle.drive_script.specs.declared.faults.DriveFault.TheVariants as faults
 use Rattle.metrics_drive.specs.Headline.{IsPlayed, IsPlayedInPart, IsGoodScript, script_limit}
 use Rattle.metrics_drive.specs.InTurn.{run_text}
-use Rattle.metrics_drive.specs.Answers.{HasCause, IsComplete, IsBadScript, IsTooLong, IsPlayFault, LeavesFront, end_status, fault_status}
+use Rattle.metrics_drive.specs.Answers.{IsComplete, IsBadScript, IsTooLong, IsPlayFault, LeavesFront, fault_status}
 use Rattle.metrics_drive.specs.Reading.{IsReadFault}
 use Rattle.metrics_drive.proofs.RunPages.{run_is_pages}
 

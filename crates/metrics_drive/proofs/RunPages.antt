@@ -1,12 +1,11 @@
 -- What a play in turn writes are the pages of a run.
-use Rattle.std.proofs.Common.{◌≡◌, ℕ, List, [], ◌∷◌, ◌++◌, refl, map}
+use Rattle.std.proofs.Common.{List, [], ◌∷◌, refl, map}
 use Rattle.std.specs.List.{AllZip}
-use Rattle.prom_format.specs.Pages.{page_text}
 use Rattle.prom_exporter.proofs.Printable.{page_reads}
 use Rattle.drive_script.specs.Script.{ScriptText, SettingsText, RoundText}
 use Rattle.metrics_drive.specs.Headline.{IsPagesOf, ArePages}
-use Rattle.metrics_drive.specs.InTurn.{orders_of, orders_in_turn, orders_along, script_orders, played, round_text, rounds_text, run_text}
-use Rattle.metrics_drive.specs.Play.{PlayState, play_start, after_setup, after_round, calls_on, IsOrderOf, AreOrdersAlong, exporter_settings, pages_along}
+use Rattle.metrics_drive.specs.InTurn.{orders_along, script_orders, played, round_text, rounds_text, run_text}
+use Rattle.metrics_drive.specs.Play.{PlayState, play_start, after_setup, calls_on, IsOrderOf, AreOrdersAlong, exporter_settings, pages_along}
 
 each_of_map : {A B : Type 0} (R : A → B → Type 0) (f : A → B) → ((x : A) → R x (f x)) → (xs : List A) → AllZip R xs (map f xs)
 each_of_map R f h [] = tt

@@ -1,11 +1,11 @@
 -- What is said of a fault and of a run is the line of its status.
-use Rattle.std.proofs.Common.{◌≡◌, ℕ, List, [], ◌∷◌, ◌++◌, refl, sym, ap, ◌∙◌, subst, append_assoc}
-use Rattle.std.specs.Prelude.{Option, Some, None, IfSome, codes, decimal}
+use Rattle.std.proofs.Common.{◌≡◌, ℕ, List, [], ◌∷◌, ◌++◌, sym, ap, ◌∙◌, subst, append_assoc}
+use Rattle.std.specs.Prelude.{Option, IfSome, codes, decimal}
 use Rattle.metrics_core.specs.Characters.{line, newline}
 use Rattle.drive_script.specs.Faults.{fault_text}
 use Rattle.drive_script.specs.declared.faults.DriveFault.{DriveFault}
 use Rattle.drive_script.specs.declared.faults.DriveFault.TheVariants as faults
-use Rattle.metrics_drive.specs.Answers.{IsSaidText, IsLineOf, IsSaid, HasCause, HasRounds, report_text, report_of, fault_status, done, bad_script, too_long, read_failed, write_failed, no_memory}
+use Rattle.metrics_drive.specs.Answers.{IsSaidText, IsLineOf, HasCause, HasRounds, report_text, report_of, fault_status, done, bad_script, too_long, read_failed, write_failed, no_memory}
 use Rattle.metrics_drive.specs.declared.report.Report.{Report}
 
 -- a text that is the line of a fault, said of that fault

@@ -4,7 +4,7 @@ use Rattle.std.specs.Prelude.{Option, Some, None, filter, zip, slice_get, if◌t
 use Rattle.metrics_core.specs.declared.kinds.SeriesId.{SeriesId}
 use Rattle.metrics_core.specs.Calls.{Call}
 use Rattle.prom_format.specs.Pages.{page_text}
-use Rattle.prom_exporter.specs.State.{Series, PrometheusState, with_call, call_on, page_step}
+use Rattle.prom_exporter.specs.State.{Series, PrometheusState, with_call, page_step}
 use Rattle.prom_exporter.specs.Families.{families_at}
 use Rattle.prom_exporter.specs.Exporter.{Exporter, default_settings, page_families, stepped}
 use Rattle.drive_script.specs.Script.{CallLine, RoundText, call_of, no_settings}

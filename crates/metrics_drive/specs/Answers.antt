@@ -4,7 +4,7 @@ use Rattle.std.specs.Borrow.{Bor}
 use Rattle.metrics_core.specs.Characters.{line}
 use Rattle.metrics_core.specs.Outside.{GrewBy}
 use Rattle.drive_script.specs.Script.{ScriptText}
-use Rattle.drive_script.specs.Valid.{IsScriptOf, IsFirstBadLine}
+use Rattle.drive_script.specs.Valid.{IsFirstBadLine}
 use Rattle.drive_script.specs.Faults.{fault_text}
 use Rattle.drive_script.specs.declared.faults.DriveFault.{DriveFault}
 use Rattle.drive_script.specs.declared.faults.DriveFault.TheVariants as faults

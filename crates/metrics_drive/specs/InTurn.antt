@@ -1,9 +1,8 @@
 -- The run in which the lanes of a round take turns, so that each series' calls stand in the script's order.
-use Rattle.std.specs.Prelude.{◌≡◌, ℕ, List, [], ◌∷◌, map, flat_map}
+use Rattle.std.specs.Prelude.{ℕ, List, [], ◌∷◌, map, flat_map}
 use Rattle.prom_format.specs.Pages.{page_text}
-use Rattle.prom_exporter.specs.Families.{ExporterSettings}
 use Rattle.drive_script.specs.Script.{ScriptText, SettingsText, RoundText, CallLine}
-use Rattle.metrics_drive.specs.Play.{PlayState, play_start, after_setup, after_round, calls_on, pages_along, pages_of, page_of}
+use Rattle.metrics_drive.specs.Play.{PlayState, play_start, after_setup, after_round, calls_on, pages_along, page_of}
 
 -- the orders in which each series' calls stand as in the script
 abbrev pub orders_of : PlayState → RoundText → List (List CallLine)

@@ -1,5 +1,5 @@
 -- The calls of a round, one after another.
-use Rattle.std.specs.Prelude.{ℕ, List, Option, Some, None, slice_get}
+use Rattle.std.specs.Prelude.{ℕ, Option, Some, None, slice_get}
 use Rattle.metrics_core.specs.declared.kinds.SeriesId.{SeriesId}
 use Rattle.metrics_core.specs.Calls.{Call}
 use Rattle.prom_exporter.specs.State.{PrometheusState, call_on}

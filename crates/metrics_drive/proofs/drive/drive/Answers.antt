@@ -4,7 +4,7 @@ use Rattle.metrics_core.specs.Outside.{Rose}
 use Rattle.drive_script.specs.Texts.{script_of}
 use Rattle.metrics_drive.specs.Headline.{script_limit}
 use Rattle.metrics_drive.proofs.BuiltRounds.{script_built}
-use Rattle.metrics_drive.proofs.DriveSteps.{played_whole, played_front, good_answers, play_faults, refused_answers, unread_answers}
+use Rattle.metrics_drive.proofs.DriveSteps.{played_whole, played_front, good_answers, play_faults, refused_answers}
 use Rattle.metrics_drive.proofs.drive.drive.Goals as goal
 
 pub play-requires : goal.play-requires

@@ -1,8 +1,6 @@
-use Rattle.std.proofs.Common.{List, ℕ, [], ◌∷◌, refl, subst}
 use Rattle.std.specs.Fmt.{digits}
 use Rattle.std.specs.Str.{chars}
 use Rattle.drive_script.specs.Vectors.{basic}
-use Rattle.metrics_drive.specs.Headline.{IsPagesOf}
 use Rattle.metrics_drive.specs.Vectors.{basic_pages, one_page}
 use Rattle.metrics_drive.proofs.RunPages.{run_is_pages}
 use Rattle.metrics_drive.proofs.examples.basic_example.Goals as goal

@@ -1,9 +1,9 @@
-use Rattle.std.proofs.Common.{◌≡◌, ◌<◌, ◌≤◌, ◌+◌, length, get_or, ℕ, List, ◌++◌, subst, sym, ap, ◌∙◌, map, drop, arith}
+use Rattle.std.proofs.Common.{◌≡◌, ◌<◌, ◌+◌, length, get_or, ℕ, List, subst, sym, ap, ◌∙◌, map, drop, arith}
 use Rattle.metrics_core.specs.Outside.{GrewUpTo}
 use Rattle.metrics_core.proofs.Grown.{grew_none, grew_up_to-append, grew_up_to-front}
 use Rattle.drive_script.specs.Script.{no_settings}
 use Rattle.drive_script.specs.Texts.{script_of, round_of}
-use Rattle.metrics_drive.specs.InTurn.{run_text, rounds_text, round_text, played}
+use Rattle.metrics_drive.specs.InTurn.{run_text, rounds_text}
 use Rattle.metrics_drive.specs.Play.{PlayState}
 use Rattle.metrics_drive.specs.Player.{state_of}
 use Rattle.metrics_drive.proofs.TurnSteps.{next_round}

@@ -1,4 +1,4 @@
-use Rattle.std.proofs.Common.{rules, refl, arith, ◌∙◌, sym}
+use Rattle.std.proofs.Common.{rules, arith}
 use Rattle.metrics_drive.proofs.ReadingSteps.{nothing_read, read_more, read_whole, read_too_much, piece_fault}
 use Rattle.metrics_drive.proofs.reading.read_all.Goals as goal
 

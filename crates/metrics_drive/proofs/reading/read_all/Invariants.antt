@@ -1,5 +1,4 @@
-use Rattle.std.proofs.Common.{◌≡◌, ◌≤◌, vec_len, length}
-use Rattle.std.specs.Prelude.{IfSome}
+use Rattle.std.proofs.Common.{◌≡◌, ◌≤◌, vec_len}
 use Rattle.metrics_drive.specs.Headline.{script_limit}
 use Rattle.metrics_drive.proofs.ReadingSteps.{ReadSoFar}
 use Rattle.metrics_drive.proofs.reading.read_all.Given as goal

@@ -1,12 +1,9 @@
-use Rattle.std.proofs.Common.{◌≡◌, List, ℕ, subst, sym, ◌∙◌, ap, map, fold}
+use Rattle.std.proofs.Common.{◌≡◌, List, ℕ, subst, ◌∙◌, ap, map, fold}
 use Rattle.std.specs.Prelude.{OnOk, OnErr}
 use Rattle.metrics_core.specs.Outside.{GrewBy, GrewByFront}
 use Rattle.metrics_core.proofs.Grown.{grew_none}
-use Rattle.prom_format.specs.Pages.{page_text}
-use Rattle.prom_exporter.specs.Exporter.{default_settings, page_families}
-use Rattle.drive_script.specs.Script.{no_settings}
+use Rattle.prom_exporter.specs.Exporter.{default_settings}
 use Rattle.drive_script.specs.Texts.{round_of, setup_of, call_line_of}
-use Rattle.metrics_drive.specs.InTurn.{played, round_text}
 use Rattle.metrics_drive.specs.Play.{PlayState, after_setup, setup_step}
 use Rattle.metrics_drive.specs.Player.{state_of}
 use Rattle.metrics_drive.specs.Turns.{call_step}
