@@ -17,7 +17,7 @@ Stands is_pass may_follow (Some cell) before call after = is_pass cell after × 
 
 -- a call with a value in range is made; without one it is refused, and the pass is as before
 abbrev pub Tells : {F P : Type 0} → (F → P → Type 0) → (F → P → Call → P → Type 0) → Option F → P → P → Option Call → Result (Unit {0}) OutOfRange → Type 0
-Tells is_pass may_follow handle before after None answer = (answer ≡ Err (record { })) × (after ≡ before)
+Tells is_pass may_follow handle before after None answer = (answer ≡ Err (record {})) × (after ≡ before)
 Tells is_pass may_follow handle before after (Some call) answer = (answer ≡ Ok tt) × Stands is_pass may_follow handle before call after
 
 -- after a call that was refused the pass is one of the cell that tells what it told before; a handle without a cell
