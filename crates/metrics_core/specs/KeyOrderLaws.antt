@@ -14,6 +14,7 @@ use Rattle.metrics_core.specs.Keys.{LabelText, KeyText, label_eq, label_cmp, occ
 use Rattle.metrics_core.specs.KeyLaws.{label_cmp_total, label_cmp_ties, label_eq_is, key_eq_is, both, and}
 
 pub key_cmp_total : IsTotalOrder key_cmp
+unfolding key_cmp
 key_cmp_total =
     then_total (on_texts (λ (k : KeyText). k.name)) (then_total (on_total (λ (k : KeyText). length k.labels) nat_cmp_total) (on_total (λ (k : KeyText). sorted_by label_cmp k.labels) (lists_total label_cmp_total)))
 
@@ -52,6 +53,7 @@ abbrev by_labels : KeyText → KeyText → Ordering
 by_labels a b = slice_cmp label_cmp (in_order a.labels) (in_order b.labels)
 
 key_cmp_is : (a b : KeyText) → Decides (eq_by_cmp key_cmp a b) (SameKey a b)
+unfolding key_cmp
 key_cmp_is a b = (λ h. split (parts h), λ (name, labels). join name (same_in_order a.labels b.labels labels))
   where
     parts : eq_by_cmp key_cmp a b ≡ true → (is_eq (by_name a b) ≡ true) × ((is_eq (by_number a b) && is_eq (by_labels a b)) ≡ true)

@@ -346,6 +346,7 @@ impl Ord for Key {
 
     ghost matches_eq = { key_cmp_ties };
 
+    #[tactic(auto, unfolding(crate::specs::Keys::key_cmp))]
     fn cmp(&self, other: &Key) -> Ordering {
         let labels = self.labels.as_slice();
         let others = other.labels.as_slice();
@@ -386,16 +387,23 @@ mod tests {
         Ok(Key::from_parts(name, list))
     }
 
+    fn compared(one: &Key, other: &Key) -> (bool, Ordering) {
+        (one == other, one.cmp(other))
+    }
+
+    fn shown(alloc: Global, key: &Key) -> Result<String, Fail> {
+        Ok(format!(in alloc; "{key}")?)
+    }
+
     #[test]
     fn labels_count_and_their_order_is_free(rt: HostRuntime) -> Result<(), Fail> {
         let one = key_of(rt.alloc(), [("a", "1"), ("a", "2")])?;
         let other = key_of(rt.alloc(), [("a", "2"), ("a", "1")])?;
         let doubled = key_of(rt.alloc(), [("a", "1"), ("a", "1")])?;
-        assert!(rt; one == other && one.cmp(&other) == Ordering::Equal);
-        assert!(rt; one != doubled && doubled < one && doubled < other);
+        assert_eq!(rt; compared(&one, &other), (true, Ordering::Equal));
+        assert_eq!(rt; compared(&doubled, &one), (false, Ordering::Less));
+        assert_eq!(rt; compared(&other, &doubled), (false, Ordering::Greater));
         assert_eq!(rt; one.get_hash(), other.get_hash());
-        assert!(rt; one.clone(rt.alloc())? == one);
-        assert_eq!(rt; one.labels().len(), 2);
         Ok(())
     }
 
@@ -412,20 +420,31 @@ mod tests {
     }
 
     #[test]
-    fn a_key_is_shown_and_taken_apart(rt: HostRuntime) -> Result<(), Fail> {
+    fn a_key_is_shown(rt: HostRuntime) -> Result<(), Fail> {
         let alloc = rt.alloc();
-        let key = key_of(alloc, [("a", "1"), ("b", "2")])?.to_retained(alloc)?;
+        let key = key_of(alloc, [("a", "1"), ("b", "2")])?;
+        assert_eq!(rt; shown(alloc, &key)?.as_str(), "Key(x, [a = 1, b = 2])");
         assert_eq!(rt;
-            format!(in alloc; "{key}")?.as_str(),
-            "Key(x, [a = 1, b = 2])"
+            shown(alloc, &Key::from_static_name("x"))?.as_str(),
+            "Key(x)"
         );
+        Ok(())
+    }
+
+    fn with_empty_label(alloc: Global, name: &'static str) -> Result<Key, Memory> {
         let mut extra = Vec::new(alloc);
         extra.push(Label::from_static_parts("", ""))?;
-        let longer = Key::from_static_name("").with_extra_labels(alloc, extra)?;
-        assert_eq!(rt; longer.get_hash(), 0xcbf29ce484222328);
-        let (name, labels) = longer.into_parts(alloc)?;
-        assert!(rt; name == KeyName::from_const_str("") && labels.len() == 1);
-        assert_eq!(rt; key.name_shared(alloc)?.into_inner().as_str(), "x");
+        Key::from_static_name(name).with_extra_labels(alloc, extra)
+    }
+
+    #[test]
+    fn a_key_is_taken_apart(rt: HostRuntime) -> Result<(), Fail> {
+        let alloc = rt.alloc();
+        let key = with_empty_label(alloc, "")?.to_retained(alloc)?;
+        assert_eq!(rt; key.get_hash(), 0xcbf29ce484222328);
+        let (name, labels) = key.into_parts(alloc)?;
+        assert_eq!(rt; name.into_inner().as_str(), "");
+        assert_eq!(rt; labels.len(), 1);
         Ok(())
     }
 }

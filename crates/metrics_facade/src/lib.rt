@@ -3,7 +3,18 @@
 #![tactic(auto)]
 
 mod cells;
+mod faults;
+mod handles;
 mod noop_cell;
+mod noop_recorder;
+mod once;
+mod recorder;
 
 pub use cells::{CounterFn, GaugeFn, HistogramFn};
+pub use faults::{OutOfRange, RecordFault};
+pub use handles::{Counter, Gauge, Histogram};
 pub use noop_cell::NoopCell;
+pub use noop_recorder::NoopRecorder;
+pub use once::{RecorderOnceCell, SetRecorderError};
+pub use once_cell::race::Note;
+pub use recorder::Recorder;

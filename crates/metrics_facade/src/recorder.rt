@@ -1,0 +1,418 @@
+//! Recorders: what takes descriptions of metrics and hands out handles of them.
+
+use metrics_core::{Key, KeyName, Memory, Metadata, SharedString, Unit};
+use std::alloc::Global;
+use std::sync::{Arc, Wait};
+
+/// What takes descriptions of metrics and hands out handles of them. What a description does, and what a second one of
+/// the same name does, is the recorder's own to say.
+pub trait Recorder {
+    ghost use Rattle.std.specs.Prelude.{⊤, IfOk, OnErr};
+    ghost use Rattle.metrics_core.specs.Keys.{KeyText};
+    ghost use Rattle.metrics_core.specs.Metadata.{MetadataText};
+
+    /// What is handed out for a counter.
+    type Counter;
+
+    /// What is handed out for a gauge.
+    type Gauge;
+
+    /// What is handed out for a histogram.
+    type Histogram;
+
+    /// This may be handed out for the counter of a key.
+    ghost counter_of: { Self → KeyText → MetadataText → Self.Counter → Type 0 } = { λ _ _ _ _. ⊤ };
+
+    /// This may be handed out for the gauge of a key.
+    ghost gauge_of: { Self → KeyText → MetadataText → Self.Gauge → Type 0 } = { λ _ _ _ _. ⊤ };
+
+    /// This may be handed out for the histogram of a key.
+    ghost histogram_of: { Self → KeyText → MetadataText → Self.Histogram → Type 0 } = { λ _ _ _ _. ⊤ };
+
+    /// The recorder may be refused memory.
+    ghost may_refuse: { Self → Type 0 } = { λ _. ⊤ };
+
+    /// Describes the counters of a name.
+    fn describe_counter<R: Wait>(
+        &self,
+        rt: &R,
+        alloc: Global,
+        key: KeyName,
+        unit: Option<Unit>,
+        description: SharedString,
+    ) -> Result<(), Memory>
+        ensures { OnErr result (may_refuse self.now) };
+
+    /// Describes the gauges of a name.
+    fn describe_gauge<R: Wait>(
+        &self,
+        rt: &R,
+        alloc: Global,
+        key: KeyName,
+        unit: Option<Unit>,
+        description: SharedString,
+    ) -> Result<(), Memory>
+        ensures { OnErr result (may_refuse self.now) };
+
+    /// Describes the histograms of a name.
+    fn describe_histogram<R: Wait>(
+        &self,
+        rt: &R,
+        alloc: Global,
+        key: KeyName,
+        unit: Option<Unit>,
+        description: SharedString,
+    ) -> Result<(), Memory>
+        ensures { OnErr result (may_refuse self.now) };
+
+    /// Hands out the counter of a key.
+    fn register_counter<R: Wait>(
+        &self,
+        rt: &R,
+        alloc: Global,
+        key: &Key,
+        metadata: &Metadata<'_>,
+    ) -> Result<Self::Counter, Memory>
+        ensures answer { IfOk result (counter_of self.now key.now metadata.now) }
+        ensures refused { OnErr result (may_refuse self.now) };
+
+    /// Hands out the gauge of a key.
+    fn register_gauge<R: Wait>(
+        &self,
+        rt: &R,
+        alloc: Global,
+        key: &Key,
+        metadata: &Metadata<'_>,
+    ) -> Result<Self::Gauge, Memory>
+        ensures answer { IfOk result (gauge_of self.now key.now metadata.now) }
+        ensures refused { OnErr result (may_refuse self.now) };
+
+    /// Hands out the histogram of a key.
+    fn register_histogram<R: Wait>(
+        &self,
+        rt: &R,
+        alloc: Global,
+        key: &Key,
+        metadata: &Metadata<'_>,
+    ) -> Result<Self::Histogram, Memory>
+        ensures answer { IfOk result (histogram_of self.now key.now metadata.now) }
+        ensures refused { OnErr result (may_refuse self.now) };
+}
+
+impl<T: Recorder> Recorder for &T {
+    type Counter = T::Counter;
+
+    type Gauge = T::Gauge;
+
+    type Histogram = T::Histogram;
+
+    ghost counter_of = { λ it. T.counter_of it.now };
+
+    ghost gauge_of = { λ it. T.gauge_of it.now };
+
+    ghost histogram_of = { λ it. T.histogram_of it.now };
+
+    ghost may_refuse = { λ it. T.may_refuse it.now };
+
+    fn describe_counter<R: Wait>(
+        &self,
+        rt: &R,
+        alloc: Global,
+        key: KeyName,
+        unit: Option<Unit>,
+        description: SharedString,
+    ) -> Result<(), Memory> {
+        (**self).describe_counter(rt, alloc, key, unit, description)
+    }
+
+    fn describe_gauge<R: Wait>(
+        &self,
+        rt: &R,
+        alloc: Global,
+        key: KeyName,
+        unit: Option<Unit>,
+        description: SharedString,
+    ) -> Result<(), Memory> {
+        (**self).describe_gauge(rt, alloc, key, unit, description)
+    }
+
+    fn describe_histogram<R: Wait>(
+        &self,
+        rt: &R,
+        alloc: Global,
+        key: KeyName,
+        unit: Option<Unit>,
+        description: SharedString,
+    ) -> Result<(), Memory> {
+        (**self).describe_histogram(rt, alloc, key, unit, description)
+    }
+
+    fn register_counter<R: Wait>(
+        &self,
+        rt: &R,
+        alloc: Global,
+        key: &Key,
+        metadata: &Metadata<'_>,
+    ) -> Result<T::Counter, Memory> {
+        (**self).register_counter(rt, alloc, key, metadata)
+    }
+
+    fn register_gauge<R: Wait>(
+        &self,
+        rt: &R,
+        alloc: Global,
+        key: &Key,
+        metadata: &Metadata<'_>,
+    ) -> Result<T::Gauge, Memory> {
+        (**self).register_gauge(rt, alloc, key, metadata)
+    }
+
+    fn register_histogram<R: Wait>(
+        &self,
+        rt: &R,
+        alloc: Global,
+        key: &Key,
+        metadata: &Metadata<'_>,
+    ) -> Result<T::Histogram, Memory> {
+        (**self).register_histogram(rt, alloc, key, metadata)
+    }
+}
+
+impl<T: Recorder> Recorder for &mut T {
+    type Counter = T::Counter;
+
+    type Gauge = T::Gauge;
+
+    type Histogram = T::Histogram;
+
+    ghost counter_of = { λ it. T.counter_of it.now };
+
+    ghost gauge_of = { λ it. T.gauge_of it.now };
+
+    ghost histogram_of = { λ it. T.histogram_of it.now };
+
+    ghost may_refuse = { λ it. T.may_refuse it.now };
+
+    fn describe_counter<R: Wait>(
+        &self,
+        rt: &R,
+        alloc: Global,
+        key: KeyName,
+        unit: Option<Unit>,
+        description: SharedString,
+    ) -> Result<(), Memory> {
+        (**self).describe_counter(rt, alloc, key, unit, description)
+    }
+
+    fn describe_gauge<R: Wait>(
+        &self,
+        rt: &R,
+        alloc: Global,
+        key: KeyName,
+        unit: Option<Unit>,
+        description: SharedString,
+    ) -> Result<(), Memory> {
+        (**self).describe_gauge(rt, alloc, key, unit, description)
+    }
+
+    fn describe_histogram<R: Wait>(
+        &self,
+        rt: &R,
+        alloc: Global,
+        key: KeyName,
+        unit: Option<Unit>,
+        description: SharedString,
+    ) -> Result<(), Memory> {
+        (**self).describe_histogram(rt, alloc, key, unit, description)
+    }
+
+    fn register_counter<R: Wait>(
+        &self,
+        rt: &R,
+        alloc: Global,
+        key: &Key,
+        metadata: &Metadata<'_>,
+    ) -> Result<T::Counter, Memory> {
+        (**self).register_counter(rt, alloc, key, metadata)
+    }
+
+    fn register_gauge<R: Wait>(
+        &self,
+        rt: &R,
+        alloc: Global,
+        key: &Key,
+        metadata: &Metadata<'_>,
+    ) -> Result<T::Gauge, Memory> {
+        (**self).register_gauge(rt, alloc, key, metadata)
+    }
+
+    fn register_histogram<R: Wait>(
+        &self,
+        rt: &R,
+        alloc: Global,
+        key: &Key,
+        metadata: &Metadata<'_>,
+    ) -> Result<T::Histogram, Memory> {
+        (**self).register_histogram(rt, alloc, key, metadata)
+    }
+}
+
+impl<T: Recorder> Recorder for Box<T> {
+    type Counter = T::Counter;
+
+    type Gauge = T::Gauge;
+
+    type Histogram = T::Histogram;
+
+    ghost counter_of = { λ it. T.counter_of it.value };
+
+    ghost gauge_of = { λ it. T.gauge_of it.value };
+
+    ghost histogram_of = { λ it. T.histogram_of it.value };
+
+    ghost may_refuse = { λ it. T.may_refuse it.value };
+
+    fn describe_counter<R: Wait>(
+        &self,
+        rt: &R,
+        alloc: Global,
+        key: KeyName,
+        unit: Option<Unit>,
+        description: SharedString,
+    ) -> Result<(), Memory> {
+        (**self).describe_counter(rt, alloc, key, unit, description)
+    }
+
+    fn describe_gauge<R: Wait>(
+        &self,
+        rt: &R,
+        alloc: Global,
+        key: KeyName,
+        unit: Option<Unit>,
+        description: SharedString,
+    ) -> Result<(), Memory> {
+        (**self).describe_gauge(rt, alloc, key, unit, description)
+    }
+
+    fn describe_histogram<R: Wait>(
+        &self,
+        rt: &R,
+        alloc: Global,
+        key: KeyName,
+        unit: Option<Unit>,
+        description: SharedString,
+    ) -> Result<(), Memory> {
+        (**self).describe_histogram(rt, alloc, key, unit, description)
+    }
+
+    fn register_counter<R: Wait>(
+        &self,
+        rt: &R,
+        alloc: Global,
+        key: &Key,
+        metadata: &Metadata<'_>,
+    ) -> Result<T::Counter, Memory> {
+        (**self).register_counter(rt, alloc, key, metadata)
+    }
+
+    fn register_gauge<R: Wait>(
+        &self,
+        rt: &R,
+        alloc: Global,
+        key: &Key,
+        metadata: &Metadata<'_>,
+    ) -> Result<T::Gauge, Memory> {
+        (**self).register_gauge(rt, alloc, key, metadata)
+    }
+
+    fn register_histogram<R: Wait>(
+        &self,
+        rt: &R,
+        alloc: Global,
+        key: &Key,
+        metadata: &Metadata<'_>,
+    ) -> Result<T::Histogram, Memory> {
+        (**self).register_histogram(rt, alloc, key, metadata)
+    }
+}
+
+impl<T: Recorder> Recorder for Arc<T> {
+    ghost use Rattle.std.specs.Arc.{arc_value};
+
+    type Counter = T::Counter;
+
+    type Gauge = T::Gauge;
+
+    type Histogram = T::Histogram;
+
+    ghost counter_of = { λ it. T.counter_of (arc_value it) };
+
+    ghost gauge_of = { λ it. T.gauge_of (arc_value it) };
+
+    ghost histogram_of = { λ it. T.histogram_of (arc_value it) };
+
+    ghost may_refuse = { λ it. T.may_refuse (arc_value it) };
+
+    fn describe_counter<R: Wait>(
+        &self,
+        rt: &R,
+        alloc: Global,
+        key: KeyName,
+        unit: Option<Unit>,
+        description: SharedString,
+    ) -> Result<(), Memory> {
+        (**self).describe_counter(rt, alloc, key, unit, description)
+    }
+
+    fn describe_gauge<R: Wait>(
+        &self,
+        rt: &R,
+        alloc: Global,
+        key: KeyName,
+        unit: Option<Unit>,
+        description: SharedString,
+    ) -> Result<(), Memory> {
+        (**self).describe_gauge(rt, alloc, key, unit, description)
+    }
+
+    fn describe_histogram<R: Wait>(
+        &self,
+        rt: &R,
+        alloc: Global,
+        key: KeyName,
+        unit: Option<Unit>,
+        description: SharedString,
+    ) -> Result<(), Memory> {
+        (**self).describe_histogram(rt, alloc, key, unit, description)
+    }
+
+    fn register_counter<R: Wait>(
+        &self,
+        rt: &R,
+        alloc: Global,
+        key: &Key,
+        metadata: &Metadata<'_>,
+    ) -> Result<T::Counter, Memory> {
+        (**self).register_counter(rt, alloc, key, metadata)
+    }
+
+    fn register_gauge<R: Wait>(
+        &self,
+        rt: &R,
+        alloc: Global,
+        key: &Key,
+        metadata: &Metadata<'_>,
+    ) -> Result<T::Gauge, Memory> {
+        (**self).register_gauge(rt, alloc, key, metadata)
+    }
+
+    fn register_histogram<R: Wait>(
+        &self,
+        rt: &R,
+        alloc: Global,
+        key: &Key,
+        metadata: &Metadata<'_>,
+    ) -> Result<T::Histogram, Memory> {
+        (**self).register_histogram(rt, alloc, key, metadata)
+    }
+}
