@@ -9,6 +9,7 @@ mod noop_cell;
 mod noop_recorder;
 mod once;
 mod recorder;
+mod scope;
 
 pub use cells::{CounterFn, GaugeFn, HistogramFn};
 pub use faults::{OutOfRange, RecordFault};
@@ -18,3 +19,6 @@ pub use noop_recorder::NoopRecorder;
 pub use once::{RecorderOnceCell, SetRecorderError};
 pub use once_cell::race::Note;
 pub use recorder::Recorder;
+pub use scope::{
+    LocalRecorderGuard, RecorderScope, set_default_local_recorder, with_local_recorder,
+};
