@@ -20,5 +20,6 @@ pub use once::{RecorderOnceCell, SetRecorderError};
 pub use once_cell::race::Note;
 pub use recorder::Recorder;
 pub use scope::{
-    LocalRecorderGuard, RecorderScope, set_default_local_recorder, with_local_recorder,
+    Current, LocalRecorderGuard, RecorderScope, set_default_local_recorder, set_global_recorder,
+    with_local_recorder, with_recorder,
 };
