@@ -10,6 +10,8 @@ mod noop_recorder;
 mod once;
 mod recorder;
 mod scope;
+#[cfg(test)]
+mod tests;
 
 pub use cells::{CounterFn, GaugeFn, HistogramFn};
 pub use faults::{OutOfRange, RecordFault};
