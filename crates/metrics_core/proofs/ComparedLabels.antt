@@ -1,13 +1,13 @@
 -- How two lists of labels compare in order, from the least label that they don't have equally often.
 use Rattle.std.proofs.Common.{◌≡◌, List, ◌++◌, length, sym, ap, subst, ◌∙◌}
-use Rattle.std.specs.Prelude.{Option, Some, None, fold}
+use Rattle.std.specs.Prelude.{Option, Some, None}
 use Rattle.std.specs.Ordering.{nat_cmp}
 use Rattle.std.specs.declared.cmp.Ordering.TheVariants.{Equal}
 use Rattle.std.specs.Cmp.{tied_itself}
 use Rattle.std.specs.Cmp.Lexicographic.{slice_cmp, lists_total}
-use Rattle.metrics_core.specs.Sorting.{sorted_by, lesser_differing}
+use Rattle.metrics_core.specs.Sorting.{sorted_by}
 use Rattle.metrics_core.specs.SortingLaws.{same_sorted, compare_sorted}
-use Rattle.metrics_core.specs.Keys.{LabelText, label_eq, label_cmp, occurrences}
+use Rattle.metrics_core.specs.Keys.{LabelText, label_cmp, occurrences}
 use Rattle.metrics_core.specs.KeyLaws.{label_cmp_total, label_cmp_ties, label_eq_is}
 use Rattle.metrics_core.proofs.LeastDiffering.{IsLeast, found_by, found_by_is, none_differs, least_differs, same_below}
 

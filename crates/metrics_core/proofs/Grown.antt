@@ -1,6 +1,6 @@
 -- How what an object tells grows from call to call.
-use Rattle.std.proofs.Common.{◌≡◌, ℕ, List, [], ◌∷◌, ◌++◌, refl, sym, ap, ◌∙◌, append-nil, append_assoc}
-use Rattle.std.specs.Prelude.{Option, Some, None, IfSome}
+use Rattle.std.proofs.Common.{◌≡◌, ℕ, List, [], ◌++◌, refl, sym, ap, ◌∙◌, append-nil, append_assoc}
+use Rattle.std.specs.Prelude.{Option, Some, None}
 use Rattle.metrics_core.specs.Outside.{GrewBy, GrewByFront, GrewUpTo, WrittenUpTo}
 
 -- where nothing was written, a front of any bytes was

@@ -1,12 +1,12 @@
 -- What a hasher stands for, from call to call.
-use Rattle.std.proofs.Common.{◌≡◌, ℕ, List, [], ◌∷◌, ◌++◌, refl, sym, ap, ◌∙◌, append-nil, append_assoc}
+use Rattle.std.proofs.Common.{◌≡◌, ℕ, List, [], ◌∷◌, ◌++◌, sym, ap, ◌∙◌, append-nil, append_assoc}
 use Rattle.std.specs.Prelude.{fold, flat_map, bit_xor}
 use Rattle.std.specs.Int.{w64, to_le_bytes}
 use Rattle.std.proofs.lemmas.List.Sums.{fold-append}
 use Rattle.metrics_core.specs.declared.key_hasher.Progress.{Progress}
 use Rattle.metrics_core.specs.declared.key_hasher.Progress.TheVariants.{Nothing, Number, Bytes}
 use Rattle.metrics_core.specs.Hashes.{hash_step, hash_bytes}
-use Rattle.metrics_core.specs.KeyHashing.{HashCall, OfBytes, OfNumber, StandsFor, answer_of, answer_from, bytes_of, hashed}
+use Rattle.metrics_core.specs.KeyHashing.{HashCall, OfBytes, StandsFor, answer_of, answer_from, bytes_of, hashed}
 
 -- the answer of a hasher that stands for calls is the answer to them
 pub finishes : (hasher seen : Progress) (calls : List HashCall) → hasher ≡ seen → StandsFor hasher calls → answer_from seen [] ≡ answer_of calls

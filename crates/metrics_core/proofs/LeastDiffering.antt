@@ -1,8 +1,8 @@
 -- The least item that two lists don't have equally often, found in one pass over both.
-use Rattle.std.proofs.Common.{◌≡◌, ◌≢◌, ℕ, ◌+◌, List, [], ◌∷◌, ◌++◌, refl, sym, ap, subst, ◌∙◌, arith, Bool, true, false, cond, true≢false, ◌⊎◌, inl, inr, append-nil, append_assoc, zero-add}
-use Rattle.std.specs.Prelude.{Option, Some, None, sum_by, count_by, nat_eq, fold, Decides, ◌||◌, ◌&&◌, not, MatchOption}
+use Rattle.std.proofs.Common.{◌≡◌, ◌≢◌, ◌+◌, List, [], ◌∷◌, ◌++◌, refl, sym, ap, subst, ◌∙◌, arith, Bool, true, false, cond, true≢false, ◌⊎◌, inl, inr, append-nil, append_assoc, zero-add}
+use Rattle.std.specs.Prelude.{Option, Some, None, count_by, nat_eq, fold, Decides, ◌||◌, not}
 use Rattle.std.specs.List.{list_all}
-use Rattle.std.specs.Ordering.{is_lt, is_eq, eq_by_cmp, ordering_reverse}
+use Rattle.std.specs.Ordering.{is_lt, ordering_reverse}
 use Rattle.std.specs.declared.cmp.Ordering.{Ordering}
 use Rattle.std.specs.declared.cmp.Ordering.TheVariants.{Less, Equal, Greater}
 use Rattle.std.specs.Cmp.{IsTotalOrder}

@@ -1,5 +1,5 @@
 -- Values of the program, and what stands for them.
-use Rattle.std.specs.Prelude.{ℕ, ◌*◌, ◌^◌, nat_lt, if◌then◌else◌, Option, Some, None, ℤ, pos, ◌*ℤ◌}
+use Rattle.std.specs.Prelude.{ℕ, ◌^◌, nat_lt, if◌then◌else◌, Option, Some, None, ℤ, pos, ◌*ℤ◌}
 use Rattle.metrics_core.specs.declared.numbers.Fixed.{Fixed as FixedOf}
 use Rattle.metrics_core.specs.declared.gauge_values.GaugeValue.{GaugeValue as GaugeValueOf}
 use Rattle.metrics_core.specs.declared.gauge_values.GaugeValue.TheVariants.{Absolute, Increment, Decrement}

@@ -1,16 +1,15 @@
 -- The order of keys is total, and ties exactly the keys that are equal.
-use Rattle.std.proofs.Common.{◌≡◌, ℕ, List, length, refl, sym, ap, ◌∙◌, Bool, true, false, true≢false}
-use Rattle.std.specs.Prelude.{Decides, ◌&&◌, bytes_eq}
+use Rattle.std.proofs.Common.{◌≡◌, ℕ, List, length, sym, ap, ◌∙◌, true}
+use Rattle.std.specs.Prelude.{Decides, ◌&&◌}
 use Rattle.std.specs.Ordering.{eq_by_cmp, is_eq, nat_cmp, ordering_then}
 use Rattle.std.specs.declared.cmp.Ordering.{Ordering}
-use Rattle.std.specs.declared.cmp.Ordering.TheVariants.{Equal}
 use Rattle.std.specs.Cmp.{IsTotalOrder, on_total, then_total, tied_then, nat_cmp_total, unsigned_ties, unsigned_Decides}
 use Rattle.std.specs.Cmp.Lexicographic.{slice_cmp, lists_total, lists_ties, on_texts, texts_ties, pointwise_decides}
 use Rattle.std.proofs.lemmas.Slice.Eq.{bytes_eq-Decides}
 use Rattle.std.proofs.lemmas.Bool.Decides.{same_from_decides}
 use Rattle.metrics_core.specs.Sorting.{sorted_by}
 use Rattle.metrics_core.specs.SortingLaws.{same_sorted, counts_from_sorted, length-sorted_by}
-use Rattle.metrics_core.specs.Keys.{LabelText, KeyText, label_eq, label_cmp, occurrences, key_eq, key_cmp, SameKey}
+use Rattle.metrics_core.specs.Keys.{LabelText, KeyText, label_cmp, occurrences, key_eq, key_cmp, SameKey}
 use Rattle.metrics_core.specs.KeyLaws.{label_cmp_total, label_cmp_ties, label_eq_is, key_eq_is, both, and}
 
 pub key_cmp_total : IsTotalOrder key_cmp

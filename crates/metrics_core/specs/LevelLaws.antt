@@ -1,6 +1,6 @@
 -- A level is found by its words, and by no others.
 use Rattle.std.proofs.Common.{◌≡◌, ℕ, List, [], ◌∷◌, refl, sym, ap, ◌∙◌, Bool, true, false, cond, ◌⊎◌, inl, inr}
-use Rattle.std.specs.Prelude.{bytes_eq, ◌||◌, find, Option, Some, None, IfSome}
+use Rattle.std.specs.Prelude.{bytes_eq, ◌||◌, find, Option, Some, IfSome}
 use Rattle.std.proofs.lemmas.Slice.Eq.{bytes_eq-Decides}
 use Rattle.metrics_core.specs.declared.levels.Level.{Level as LevelOf}
 use Rattle.metrics_core.specs.declared.levels.Level.TheVariants.{Trace, Debug, Info, Warn, Error}

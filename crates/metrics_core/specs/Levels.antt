@@ -1,5 +1,5 @@
 -- The words of levels (those of the `metrics` crate, version 0.24), and what a text that names none is answered.
-use Rattle.std.specs.Prelude.{◌≡◌, ℕ, ◌⊎◌, Bool, ◌||◌, List, [], ◌∷◌, ◌++◌, codes, bytes_eq, find, Option, string_bytes}
+use Rattle.std.specs.Prelude.{◌≡◌, ℕ, ◌⊎◌, Bool, ◌||◌, List, ◌++◌, codes, bytes_eq, string_bytes}
 use Rattle.metrics_core.specs.declared.levels.Level.{Level as LevelOf}
 use Rattle.metrics_core.specs.declared.levels.Level.TheVariants.{Trace, Debug, Info, Warn, Error}
 use Rattle.metrics_core.specs.declared.levels.LevelFault.{LevelFault as FaultOf}

@@ -1,5 +1,5 @@
 -- Lists put in order, and the first item that two lists don't have equally often.
-use Rattle.std.specs.Prelude.{ℕ, List, [], ◌∷◌, Bool, count_by, nat_eq, Option, Some, None, if◌then◌else◌}
+use Rattle.std.specs.Prelude.{List, [], ◌∷◌, Bool, count_by, nat_eq, Option, Some, None, if◌then◌else◌}
 use Rattle.std.specs.Ordering.{is_lt}
 use Rattle.std.specs.declared.cmp.Ordering.{Ordering}
 

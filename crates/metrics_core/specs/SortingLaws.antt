@@ -1,15 +1,13 @@
 -- What the lists of an order keep: how often each item stands in them, and that two lists with the same items are one list in order.
-use Rattle.std.proofs.Common.{◌≡◌, ◌≢◌, ℕ, ◌<◌, ◌≤◌, ◌+◌, List, [], ◌∷◌, ◌++◌, length, refl, sym, ap, subst, ◌∙◌, arith, Bool, true, false, cond, true≢false, ◌⊎◌, inl, inr, append-nil, append_assoc, zero-add}
-use Rattle.std.specs.Prelude.{Option, Some, None, sum_by, count_by, nat_eq, fold, Decides, ◌||◌, ◌&&◌, not, suc}
-use Rattle.std.specs.List.{list_all}
+use Rattle.std.proofs.Common.{◌≡◌, ◌≢◌, ℕ, ◌<◌, ◌+◌, List, [], ◌∷◌, length, refl, sym, ap, ◌∙◌, arith, Bool, true, false, cond, true≢false, zero-add}
+use Rattle.std.specs.Prelude.{sum_by, count_by, Decides, suc}
 use Rattle.std.specs.Ordering.{is_lt, is_eq, is_gt, eq_by_cmp, nat_cmp, ordering_then, ordering_reverse, MatchOrdering}
 use Rattle.std.specs.declared.cmp.Ordering.{Ordering}
 use Rattle.std.specs.declared.cmp.Ordering.TheVariants.{Less, Equal, Greater}
 use Rattle.std.specs.Cmp.{IsTotalOrder, upto, alike_right, nat_cmp_is, ranks}
 use Rattle.std.specs.Cmp.Lexicographic.{slice_cmp}
-use Rattle.std.proofs.lemmas.Bool.{eq-eqb, eqb-true}
-use Rattle.std.proofs.lemmas.List.Sums.{sum_by-cons, sum_by-append}
-use Rattle.metrics_core.specs.Sorting.{insert_by, sorted_by, lesser, lesser_differing}
+use Rattle.std.proofs.lemmas.List.Sums.{sum_by-cons}
+use Rattle.metrics_core.specs.Sorting.{insert_by, sorted_by}
 
 nat_cmp-shift : (k a b : ℕ) → nat_cmp (k + a) (k + b) ≡ nat_cmp a b
 nat_cmp-shift k a b = sym (nat_cmp_is (k + a) (k + b) (nat_cmp a b) (shifted (nat_cmp a b) (ranks a b)))

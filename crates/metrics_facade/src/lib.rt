@@ -9,6 +9,9 @@ mod noop_cell;
 mod noop_recorder;
 mod once;
 mod recorder;
+mod scope;
+#[cfg(test)]
+mod tests;
 
 pub use cells::{CounterFn, GaugeFn, HistogramFn};
 pub use faults::{OutOfRange, RecordFault};
@@ -18,3 +21,7 @@ pub use noop_recorder::NoopRecorder;
 pub use once::{RecorderOnceCell, SetRecorderError};
 pub use once_cell::race::Note;
 pub use recorder::Recorder;
+pub use scope::{
+    Current, LocalRecorderGuard, RecorderScope, set_default_local_recorder, set_global_recorder,
+    with_local_recorder, with_recorder,
+};

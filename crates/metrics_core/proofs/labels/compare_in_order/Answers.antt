@@ -1,5 +1,5 @@
 use Rattle.std.proofs.Common.{◌≡◌, ◌∙◌, sym, ap}
-use Rattle.std.specs.Prelude.{option_copied, fold, None, Some}
+use Rattle.std.specs.Prelude.{option_copied, fold}
 use Rattle.std.specs.Ordering.{nat_cmp}
 use Rattle.std.specs.Cmp.Lexicographic.{pointwise_decides}
 use Rattle.metrics_core.specs.Sorting.{sorted_by, lesser_differing}

@@ -1,4 +1,4 @@
-use Rattle.std.proofs.Common.{◌≡◌, ◌∙◌, sym, ap, arith}
+use Rattle.std.proofs.Common.{◌∙◌, sym}
 use Rattle.std.proofs.lemmas.Bool.{eq-eqb}
 use Rattle.metrics_core.specs.KeyLaws.{hashes-same_multiset, length-same_multiset}
 use Rattle.metrics_core.proofs.labels.may_be_same.Goals as goal

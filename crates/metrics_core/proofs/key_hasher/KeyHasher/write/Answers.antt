@@ -1,6 +1,5 @@
 use Rattle.std.proofs.Common.{◌≡◌, [], ◌∷◌, ◌++◌, subst}
 use Rattle.std.specs.Prelude.{fold}
-use Rattle.metrics_core.specs.declared.key_hasher.Progress.{Progress}
 use Rattle.metrics_core.specs.declared.key_hasher.Progress.TheVariants.{Bytes}
 use Rattle.metrics_core.specs.Hashes.{hash_step}
 use Rattle.metrics_core.specs.KeyHashing.{OfBytes, StandsFor, hashed}

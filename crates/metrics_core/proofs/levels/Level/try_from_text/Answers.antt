@@ -1,8 +1,7 @@
-use Rattle.std.proofs.Common.{◌≡◌, sym, ◌∙◌, subst}
+use Rattle.std.proofs.Common.{sym, ◌∙◌, subst}
 use Rattle.std.specs.Prelude.{IfSome}
-use Rattle.std.specs.Str.{trim}
 use Rattle.metrics_core.specs.Levels.{IsWordOf}
-use Rattle.metrics_core.specs.LevelLaws.{level_of, word-level_of}
+use Rattle.metrics_core.specs.LevelLaws.{word-level_of}
 use Rattle.metrics_core.proofs.levels.Level.try_from_text.Goals as goal
 
 -- the level that was found has the word, and the word is the trimmed text
