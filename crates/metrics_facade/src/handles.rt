@@ -1,6 +1,6 @@
 //! Handles of cells: what a service holds and calls. A handle without a cell does nothing.
 
-ghost use Rattle.std.specs.Prelude.{◌≡◌, Some, None, IfOk, option_map};
+ghost use Rattle.std.specs.Prelude.{◌≡◌, Some, None, IfOk, IsOk, option_map};
 ghost use Rattle.std.specs.Arc.{arc_value};
 ghost use Rattle.metrics_core.specs.Calls.{Increment, Absolute, Add, Subtract, Set, Record};
 ghost use Rattle.metrics_facade.specs.Handles.{Fits, Stands, Tells, Records};
@@ -45,7 +45,8 @@ impl<F> Counter<F> {
 impl<F: Drop> Counter<F> {
     /// A handle of the same cell.
     pub fn clone(&self) -> Result<Counter<F>, Memory>
-        ensures { IfOk result (λ copy. copy ≡ self.now) }
+        ensures same { IfOk result (λ copy. copy ≡ self.now) }
+        ensures no_memory { self.now ≡ None → IsOk result }
     {
         match &self.cell {
             Some(cell) => Ok(Counter {
@@ -120,7 +121,8 @@ impl<F> Gauge<F> {
 impl<F: Drop> Gauge<F> {
     /// A handle of the same cell.
     pub fn clone(&self) -> Result<Gauge<F>, Memory>
-        ensures { IfOk result (λ copy. copy ≡ self.now) }
+        ensures same { IfOk result (λ copy. copy ≡ self.now) }
+        ensures no_memory { self.now ≡ None → IsOk result }
     {
         match &self.cell {
             Some(cell) => Ok(Gauge {
@@ -211,7 +213,8 @@ impl<F> Histogram<F> {
 impl<F: Drop> Histogram<F> {
     /// A handle of the same cell.
     pub fn clone(&self) -> Result<Histogram<F>, Memory>
-        ensures { IfOk result (λ copy. copy ≡ self.now) }
+        ensures same { IfOk result (λ copy. copy ≡ self.now) }
+        ensures no_memory { self.now ≡ None → IsOk result }
     {
         match &self.cell {
             Some(cell) => Ok(Histogram {

@@ -7,7 +7,12 @@ use std::sync::{Arc, Wait};
 /// What takes descriptions of metrics and hands out handles of them. What a description does, and what a second one of
 /// the same name does, is the recorder's own to say.
 pub trait Recorder {
-    ghost use Rattle.std.specs.Prelude.{⊤, IfOk, OnErr};
+    ghost use Rattle.std.specs.Prelude.{⊤, ℕ, List, Option, Result, IfOk, OnErr};
+    ghost use Rattle.metrics_core.specs.declared.kinds.MetricKind.{MetricKind};
+    ghost use Rattle.metrics_core.specs.declared.kinds.MetricKind.TheVariants as kinds;
+    ghost use Rattle.metrics_core.specs.declared.memory.Memory.{Memory as MemoryOf};
+    ghost use Rattle.metrics_core.specs.declared.units.Unit.{Unit as UnitOf};
+    ghost use Rattle.metrics_core.specs.Texts.{cow_text};
     ghost use Rattle.metrics_core.specs.Keys.{KeyText};
     ghost use Rattle.metrics_core.specs.Metadata.{MetadataText};
 
@@ -29,6 +34,9 @@ pub trait Recorder {
     /// This may be handed out for the histogram of a key.
     ghost histogram_of: { Self → KeyText → MetadataText → Self.Histogram → Type 0 } = { λ _ _ _ _. ⊤ };
 
+    /// This may be answered to the description of a name, by its kind, unit and text.
+    ghost describes: { Self → MetricKind → List ℕ → Option UnitOf → List ℕ → Result (Unit {0}) MemoryOf → Type 0 } = { λ _ _ _ _ _ _. ⊤ };
+
     /// The recorder may be refused memory.
     ghost may_refuse: { Self → Type 0 } = { λ _. ⊤ };
 
@@ -41,7 +49,8 @@ pub trait Recorder {
         unit: Option<Unit>,
         description: SharedString,
     ) -> Result<(), Memory>
-        ensures { OnErr result (may_refuse self.now) };
+        ensures answer { describes self.now kinds.Counter key unit (cow_text description.entry) result }
+        ensures refused { OnErr result (may_refuse self.now) };
 
     /// Describes the gauges of a name.
     fn describe_gauge<R: Wait>(
@@ -52,7 +61,8 @@ pub trait Recorder {
         unit: Option<Unit>,
         description: SharedString,
     ) -> Result<(), Memory>
-        ensures { OnErr result (may_refuse self.now) };
+        ensures answer { describes self.now kinds.Gauge key unit (cow_text description.entry) result }
+        ensures refused { OnErr result (may_refuse self.now) };
 
     /// Describes the histograms of a name.
     fn describe_histogram<R: Wait>(
@@ -63,7 +73,8 @@ pub trait Recorder {
         unit: Option<Unit>,
         description: SharedString,
     ) -> Result<(), Memory>
-        ensures { OnErr result (may_refuse self.now) };
+        ensures answer { describes self.now kinds.Histogram key unit (cow_text description.entry) result }
+        ensures refused { OnErr result (may_refuse self.now) };
 
     /// Hands out the counter of a key.
     fn register_counter<R: Wait>(
@@ -111,6 +122,8 @@ impl<T: Recorder> Recorder for &T {
     ghost gauge_of = { λ it. T.gauge_of it.now };
 
     ghost histogram_of = { λ it. T.histogram_of it.now };
+
+    ghost describes = { λ it. T.describes it.now };
 
     ghost may_refuse = { λ it. T.may_refuse it.now };
 
@@ -191,6 +204,8 @@ impl<T: Recorder> Recorder for &mut T {
 
     ghost histogram_of = { λ it. T.histogram_of it.now };
 
+    ghost describes = { λ it. T.describes it.now };
+
     ghost may_refuse = { λ it. T.may_refuse it.now };
 
     fn describe_counter<R: Wait>(
@@ -269,6 +284,8 @@ impl<T: Recorder> Recorder for Box<T> {
     ghost gauge_of = { λ it. T.gauge_of it.value };
 
     ghost histogram_of = { λ it. T.histogram_of it.value };
+
+    ghost describes = { λ it. T.describes it.value };
 
     ghost may_refuse = { λ it. T.may_refuse it.value };
 
@@ -350,6 +367,8 @@ impl<T: Recorder> Recorder for Arc<T> {
     ghost gauge_of = { λ it. T.gauge_of (arc_value it) };
 
     ghost histogram_of = { λ it. T.histogram_of (arc_value it) };
+
+    ghost describes = { λ it. T.describes (arc_value it) };
 
     ghost may_refuse = { λ it. T.may_refuse (arc_value it) };
 
