@@ -65,7 +65,7 @@ pub digits_front : (bytes : List ℕ) → AllDigits 10 (take (digit_count bytes)
 digits_front [] = tt
 digits_front (b ∷ bytes) = front_step (is_ascii_digit b) b (digit_count bytes) bytes refl (digits_front bytes)
 
-digit_count-append : (digits rest : List ℕ) → AllDigits 10 digits → digit_count rest ≡ 0 → digit_count (digits ++ rest) ≡ length digits
+pub digit_count-append : (digits rest : List ℕ) → AllDigits 10 digits → digit_count rest ≡ 0 → digit_count (digits ++ rest) ≡ length digits
 digit_count-append [] rest h none = none
 digit_count-append (d ∷ digits) rest h none = rw (value_is_digit d h.0, digit_count-append digits rest h.1 none) (omega arith)
 
@@ -124,7 +124,7 @@ number_again most n rest small within none =
 
 -- ---- what `parse` says of digits
 
-own : IsNumeralModel (AllDigits 10) (digits_value 10)
+pub own : IsNumeralModel (AllDigits 10) (digits_value 10)
 own = numerals_by_value (AllDigits 10) tells_digits
 
 pub digits_are_text : {S E : Type 0} (Q : S → Type 0) (P : E → Type 0) (digits : List ℕ) (r : Result S E) → AllDigits 10 digits → MatchResult r Q (λ e. ¬ (IsUtf8 digits) × P e) → result_ok r ≡ None → ⊥

@@ -1,223 +1,337 @@
 -- A line is read as what it says, and so it says at most one thing.
-use Rattle.std.proofs.Common.{◌≡◌, ℕ, ◌-◌, ◌^◌, ◌<◌, true, ltb, List, [], ◌∷◌, ◌++◌, get_or, Some, None, refl, sym, ap, subst, ◌∙◌, arith, lit<}
-use Rattle.std.specs.Prelude.{codes, decimal, IsUtf8, IsAscii}
-use Rattle.std.specs.List.{list_all}
-use Rattle.std.proofs.lemmas.Bool.{and_parts, ltb-true}
-use Rattle.std.proofs.lemmas.Fmt.{IsAscii-decimal, decimal_digit}
+use Rattle.std.proofs.Common.{◌≡◌, ℕ, ◌+◌, ◌-◌, ◌^◌, ◌<◌, ◌≤◌, ◌==◌, List, [], ◌∷◌, ◌++◌, map, Option, Some, None, refl, sym, ap, subst, ◌∙◌, append_assoc, arith, inl, inr, ◌⊎◌, lit<}
+use Rattle.std.specs.Prelude.{codes, decimal, All, flat_map, ℤ, if◌then◌else◌}
+use Rattle.std.proofs.lemmas.Bool.Decides.{nat_tests}
+use Rattle.std.proofs.lemmas.Fmt.{decimal_digit}
 use Rattle.std.proofs.lemmas.List.{append-nil}
 use Rattle.std.proofs.lemmas.Option.{same_Some}
-use Rattle.std.proofs.lemmas.Str.{IsUtf8-from_ascii, IsAscii-append}
-use Rattle.std.proofs.lemmas.Str.Ascii.{IsAscii-nil, IsAscii-cons}
-use Rattle.metrics_core.specs.Keys.{LabelText}
+use Rattle.metrics_core.specs.Keys.{LabelText, KeyText}
+use Rattle.metrics_core.specs.Kinds.{kind_text}
+use Rattle.metrics_core.specs.declared.kinds.MetricKind.{MetricKind}
 use Rattle.metrics_core.specs.declared.kinds.MetricKind.TheVariants as kinds
-use Rattle.prom_format.specs.Names.{IsMetricName}
-use Rattle.drive_script.specs.Words.{spaced, quoted}
-use Rattle.drive_script.specs.Script.{SetupLine, Register, Describe, Act, Inc, CallLine, ScriptLine, Round, Setup, CallOf, IsLine, AreActWords}
-use Rattle.drive_script.specs.Reading.{◌>>=◌, behind, number_at, name_at, end_at, round_at, register_at, call_at}
-use Rattle.drive_script.proofs.Fields.{bind_some, behind_takes, behind_again, number_takes, number_again}
-use Rattle.drive_script.proofs.Names.{name_takes, name_again, quoted_metric_name, metric_name_is_ascii}
+use Rattle.drive_script.specs.Words.{spaced, quoted, label_word, IsDec, IsLabelUtf8, IsKeyUtf8}
+use Rattle.drive_script.specs.Script.{SetupLine, Register, Describe, Act, Inc, Abs, Add, Sub, Set, Rec, RecN, CallLine, ScriptLine, Global, Round, Setup, CallOf, IsLine, IsRegistered, AreActWords}
+use Rattle.drive_script.specs.Reading.{◌>>=◌, ◌or◌, Reader, both, seen, after, behind, standing, whole, number_at, fixed_at, text_at, labels_at, verb_at, registered_kind_at, argument_at, global_at, round_at, Registered, register_at, CallParts, call_parts_at, call_of_parts, call_at}
+use Rattle.drive_script.specs.declared.lines.Verb.{Verb}
+use Rattle.drive_script.specs.declared.lines.Verb.TheVariants as verbs
+use Rattle.drive_script.proofs.Fields.{behind_again}
+use Rattle.drive_script.proofs.Readers.{IsReader, Ends, Anywhere, stops_less, SpellsBoth, both_reads, SpellsSeen, seen_reads, SpellsAfter, after_reads, standing_takes, or_some, whole_takes, whole_again}
+use Rattle.drive_script.proofs.Decimals.{NoDigit, SpellsNumber, number_reads, fixed_reads}
+use Rattle.drive_script.proofs.TextFields.{SpellsText, text_reads, SpellsTexts, label_spelled, label_spells, label_seen_reads, spaced_labels, SpellsLabels, labels_read}
 
-end_takes : (bytes : List ℕ) (x : Unit {0}) → end_at bytes ≡ Some x → bytes ≡ []
-end_takes [] x e = refl
-end_takes (b ∷ bytes) x e = absurd cc
+-- ---- global lines
 
--- a literal is ASCII
-literal_ascii : (bytes : List ℕ) → list_all (λ b. ltb b 128) bytes ≡ true → IsAscii bytes
-literal_ascii [] e = IsAscii-nil
-literal_ascii (b ∷ bytes) e =
-    let parts = and_parts (ltb b 128) (list_all (λ b. ltb b 128) bytes) e in
-    IsAscii-cons b bytes (ltb-true b 128 parts.0) (literal_ascii bytes parts.1)
+pub global_takes : (line : List ℕ) (label : LabelText) → global_at line ≡ Some label → IsLine line (Global label)
+unfolding global_at
+global_takes line label e =
+    let read = after_reads (codes "global ") _ _ Anywhere (label_seen_reads (codes " ")) in
+    let (front, spelled, split) = whole_takes _ _ Anywhere read line label e in
+    let is = label_spelled (codes " ") label front spelled in
+    record { words = codes "global" ∷ quoted label.key ∷ quoted label.value ∷ []; formed = (is.0, refl); spelled = split ∙ ap (λ l. codes "global " ++ l) is.1 }
 
-quoted_ascii : (name : List ℕ) → IsMetricName name → IsAscii (quoted name)
-quoted_ascii name named = subst IsAscii (sym (quoted_metric_name name named)) (IsAscii-append (codes "\"" ++ name) (codes "\"") (IsAscii-append (codes "\"") name (literal_ascii (codes "\"") refl) (metric_name_is_ascii name named)) (literal_ascii (codes "\"") refl))
-
--- a text that a line is equal to is ASCII, so the line is text
-text_of : (line spelled : List ℕ) → line ≡ spelled → IsAscii spelled → IsUtf8 line
-text_of line spelled e ascii = IsUtf8-from_ascii line (subst IsAscii (sym e) ascii)
-
--- what is spelled behind a front, and what is spelled with nothing behind it
-behind_front : (bytes front rest spelled : List ℕ) → bytes ≡ front ++ rest → rest ≡ spelled → bytes ≡ front ++ spelled
-behind_front bytes front rest spelled whole e = whole ∙ ap (λ (x : List ℕ). front ++ x) e
-
-all_of_it : (bytes spelled rest : List ℕ) → bytes ≡ spelled ++ rest → rest ≡ [] → bytes ≡ spelled
-all_of_it bytes spelled rest whole none = whole ∙ ap (λ (x : List ℕ). spelled ++ x) none ∙ append-nil spelled
+pub global_again : (line : List ℕ) (label : LabelText) → IsLine line (Global label) → global_at line ≡ Some label
+unfolding global_at
+global_again line label h =
+    let read = after_reads (codes "global ") _ _ Anywhere (label_seen_reads (codes " ")) in
+    let front : List ℕ = quoted label.key ++ (codes " " ++ quoted label.value) in
+    whole_again _ _ Anywhere read tt line label (front, label_spells (codes " ") label front h.formed.0 refl, h.spelled ∙ ap spaced h.formed.1)
 
 -- ---- round lines
+
+number_to_end : (most : ℕ) → most < 2 ^ 64 → IsReader (number_at most) (SpellsNumber most) Ends
+number_to_end most small = stops_less (number_at most) (SpellsNumber most) NoDigit Ends (number_reads most small) (λ rest stop. subst NoDigit (sym stop) refl)
+
+round_reads : IsReader (after (codes "round ") (number_at (2 ^ 64 - 1))) (SpellsAfter (codes "round ") (SpellsNumber (2 ^ 64 - 1))) Ends
+round_reads = after_reads (codes "round ") (number_at (2 ^ 64 - 1)) (SpellsNumber (2 ^ 64 - 1)) Ends (number_to_end (2 ^ 64 - 1) (lit< tt))
 
 pub round_takes : (line : List ℕ) (moment : ℕ) → round_at line ≡ Some moment → IsLine line (Round moment)
 unfolding round_at
 round_takes line moment e =
-    let a = bind_some (behind (codes "round ") line) (λ rest. number_at (2 ^ 64 - 1) rest >>= λ n. end_at n.1 >>= λ _. Some n.0) moment e in
-    let b = bind_some (number_at (2 ^ 64 - 1) a.0) (λ n. end_at n.1 >>= λ _. Some n.0) moment a.2 in
-    let c = bind_some (end_at b.0.1) (λ _. Some b.0.0) moment b.2 in
-    let is : b.0.0 ≡ moment = same_Some b.0.0 moment c.2 in
-    let number = number_takes (2 ^ 64 - 1) b.0.0 a.0 b.0.1 b.1 in
-    let small : moment < 2 ^ 64 = omega (arith, number.1) in
-    let all : a.0 ≡ decimal b.0.0 = all_of_it a.0 (decimal b.0.0) b.0.1 number.0 (end_takes b.0.1 c.0 c.1) in
-    let spelled : line ≡ codes "round " ++ decimal moment = behind_front line (codes "round ") a.0 (decimal moment) (behind_takes (codes "round ") line a.0 a.1) (subst (λ (n : ℕ). a.0 ≡ decimal n) is all) in
-    record {
-      words = codes "round" ∷ decimal moment ∷ [];
-      formed = (small, refl);
-      spelled = spelled;
-      utf8 = text_of line (codes "round " ++ decimal moment) spelled (IsAscii-append (codes "round ") (decimal moment) (literal_ascii (codes "round ") refl) (IsAscii-decimal moment small));
-    }
-
-round_spelled : (line : List ℕ) (moment : ℕ) → IsLine line (Round moment) → line ≡ codes "round " ++ decimal moment
-round_spelled line moment h = h.spelled ∙ ap spaced h.formed.1
+    let (front, number, split) = whole_takes _ _ Ends round_reads line moment e in
+    record { words = codes "round" ∷ decimal moment ∷ []; formed = (omega (arith, number.1), refl); spelled = split ∙ ap (λ l. codes "round " ++ l) number.0 }
 
 pub round_again : (line : List ℕ) (moment : ℕ) → IsLine line (Round moment) → round_at line ≡ Some moment
 unfolding round_at
-round_again line moment h =
-    let number : number_at (2 ^ 64 - 1) (decimal moment) ≡ Some (moment, []) = ap (number_at (2 ^ 64 - 1)) (sym (append-nil (decimal moment))) ∙ number_again (2 ^ 64 - 1) moment [] (lit< tt) (omega (arith, h.formed.0)) refl in
-    ap round_at (round_spelled line moment h) ∙ rw (behind_again (codes "round ") (decimal moment), number) refl
+round_again line moment h = whole_again _ _ Ends round_reads refl line moment (decimal moment, (refl, omega (arith, h.formed.0)), h.spelled ∙ ap spaced h.formed.1)
 
 -- ---- register lines
 
-pub register_takes : (line name : List ℕ) → register_at line ≡ Some name → IsLine line (Setup (Register kinds.Counter (record { name = name; labels = [] })))
+abbrev register_text : MetricKind → List ℕ
+register_text kind = codes "register " ++ (kind_text kind ++ codes " ")
+
+abbrev SpellsKind : MetricKind → List ℕ → Type 0
+SpellsKind kind front = IsRegistered kind × (front ≡ register_text kind)
+
+kind_takes : (bytes : List ℕ) (kind : MetricKind) (rest : List ℕ) → registered_kind_at bytes ≡ Some (kind, rest) → (front : List ℕ) × SpellsKind kind front × (bytes ≡ front ++ rest)
+unfolding registered_kind_at
+kind_takes bytes kind rest e =
+    elim (or_some (standing (codes "register counter ") kinds.Counter bytes) (standing (codes "register gauge ") kinds.Gauge bytes) (kind, rest) e) [
+      | inl f ↦ let h = standing_takes (codes "register counter ") kinds.Counter kind bytes rest f in subst (λ k. (front : List ℕ) × SpellsKind k front × (bytes ≡ front ++ rest)) h.0 (codes "register counter ", (tt, refl), h.1)
+      | inr f ↦ let h = standing_takes (codes "register gauge ") kinds.Gauge kind bytes rest f in subst (λ k. (front : List ℕ) × SpellsKind k front × (bytes ≡ front ++ rest)) h.0 (codes "register gauge ", (tt, refl), h.1)
+    ]
+
+kind_again : (kind : MetricKind) (front rest : List ℕ) → SpellsKind kind front → Anywhere rest → registered_kind_at (front ++ rest) ≡ Some (kind, rest)
+unfolding registered_kind_at behind
+kind_again kinds.Counter front rest h stop = ap (λ l. registered_kind_at (l ++ rest)) h.1
+kind_again kinds.Gauge front rest h stop = ap (λ l. registered_kind_at (l ++ rest)) h.1
+kind_again kinds.Histogram front rest h stop = absurd h.0
+
+kind_reads : IsReader registered_kind_at SpellsKind Anywhere
+kind_reads = record { takes = kind_takes; again = kind_again }
+
+abbrev SpellsKey : List ℕ × List LabelText → List ℕ → Type 0
+SpellsKey = SpellsBoth SpellsText (λ _. SpellsLabels)
+
+abbrev SpellsRegistered : Registered → List ℕ → Type 0
+SpellsRegistered = SpellsBoth SpellsKind (λ _. SpellsKey)
+
+key_reads : IsReader (both text_at (λ _. labels_at)) SpellsKey Ends
+key_reads = both_reads text_at (λ _. labels_at) SpellsText (λ _. SpellsLabels) Anywhere Ends text_reads (λ _. labels_read) (λ a b y rest h stop. tt)
+
+register_reads : IsReader (both registered_kind_at (λ _. both text_at (λ _. labels_at))) SpellsRegistered Ends
+register_reads = both_reads registered_kind_at (λ _. both text_at (λ _. labels_at)) SpellsKind (λ _. SpellsKey) Anywhere Ends kind_reads (λ _. key_reads) (λ a b y rest h stop. tt)
+
+abbrev pub key_of : Registered → KeyText
+key_of registered = record { name = registered.1.0; labels = registered.1.1 }
+
+-- words behind a first one
+spaced_words : (first : List ℕ) (labels : List LabelText) → spaced (first ∷ map label_word labels) ≡ first ++ spaced_labels labels
+spaced_words first [] = sym (append-nil first)
+spaced_words first (label ∷ labels) =
+    ap (λ l. first ++ (codes " " ++ l)) (spaced_words (label_word label) labels)
+    ∙ ap (λ l. first ++ l) (sym (append_assoc (codes " ") (label_word label) (spaced_labels labels)))
+
+register_spaced : (kind : MetricKind) (name : List ℕ) (labels : List LabelText) → spaced (codes "register" ∷ kind_text kind ∷ quoted name ∷ map label_word labels) ≡ register_text kind ++ (quoted name ++ spaced_labels labels)
+register_spaced kind name labels =
+    ap (λ l. codes "register " ++ (kind_text kind ++ (codes " " ++ l))) (spaced_words (quoted name) labels)
+    ∙ ap (λ l. codes "register " ++ l) (sym (append_assoc (kind_text kind) (codes " ") (quoted name ++ spaced_labels labels)))
+
+pub register_takes : (line : List ℕ) (kind : MetricKind) (key : KeyText) → register_at line ≡ Some (kind, (key.name, key.labels)) → IsLine line (Setup (Register kind key))
 unfolding register_at
-register_takes line name e =
-    let a = bind_some (behind (codes "register counter ") line) (λ rest. name_at rest >>= λ n. end_at n.1 >>= λ _. Some n.0) name e in
-    let b = bind_some (name_at a.0) (λ n. end_at n.1 >>= λ _. Some n.0) name a.2 in
-    let c = bind_some (end_at b.0.1) (λ _. Some b.0.0) name b.2 in
-    let is : b.0.0 ≡ name = same_Some b.0.0 name c.2 in
-    let taken = name_takes a.0 b.0.0 b.0.1 b.1 in
-    let named : IsMetricName name = subst IsMetricName is taken.1 in
-    let all : a.0 ≡ quoted b.0.0 = all_of_it a.0 (quoted b.0.0) b.0.1 taken.0 (end_takes b.0.1 c.0 c.1) in
-    let spelled : line ≡ codes "register counter " ++ quoted name = behind_front line (codes "register counter ") a.0 (quoted name) (behind_takes (codes "register counter ") line a.0 a.1) (subst (λ (n : List ℕ). a.0 ≡ quoted n) is all) in
+register_takes line kind key e =
+    let (x, y, is_kind, is_key, split) = whole_takes _ _ Ends register_reads line (kind, (key.name, key.labels)) e in
+    let (u, v, is_name, are_labels, key_split) = is_key in
     record {
-      words = codes "register" ∷ codes "counter" ∷ quoted name ∷ [];
-      formed = (named, refl, refl);
-      spelled = spelled;
-      utf8 = text_of line (codes "register counter " ++ quoted name) spelled (IsAscii-append (codes "register counter ") (quoted name) (literal_ascii (codes "register counter ") refl) (quoted_ascii name named));
+      words = codes "register" ∷ kind_text kind ∷ quoted key.name ∷ map label_word key.labels;
+      formed = (is_kind.0, (is_name.0, are_labels.0), refl);
+      spelled = split ∙ (λ j. is_kind.1 j ++ (key_split ∙ (λ k. is_name.1 k ++ are_labels.1 k)) j) ∙ sym (register_spaced kind key.name key.labels);
     }
 
-register_again : (line name : List ℕ) → line ≡ codes "register counter " ++ quoted name → IsMetricName name → register_at line ≡ Some name
+pub register_again : (line : List ℕ) (kind : MetricKind) (key : KeyText) → IsLine line (Setup (Register kind key)) → register_at line ≡ Some (kind, (key.name, key.labels))
 unfolding register_at
-register_again line name spelled named =
-    let read : name_at (quoted name) ≡ Some (name, []) = ap name_at (sym (append-nil (quoted name))) ∙ name_again name [] named in
-    ap register_at spelled ∙ rw (behind_again (codes "register counter ") (quoted name), read) refl
-
--- what a setup line sets up: a counter under a metric name
-pub record Registers (line : List ℕ) (setup : SetupLine) : Type 0 where
-  pub name : List ℕ
-  pub is : setup ≡ Register kinds.Counter (record { name = name; labels = [] })
-  pub spelled : line ≡ codes "register counter " ++ quoted name
-  pub read : register_at line ≡ Some name
-  pub named : IsMetricName name
-
-pub setup_registers : (line : List ℕ) (setup : SetupLine) → IsLine line (Setup setup) → Registers line setup
-setup_registers line (Register kinds.Counter key) h =
-    let spelled : line ≡ codes "register counter " ++ quoted key.name = h.spelled ∙ ap spaced h.formed.2 in
-    record {
-      name = key.name;
-      is = ap (λ (labels : List LabelText). Register kinds.Counter (record { name = key.name; labels = labels })) h.formed.1;
-      spelled = spelled;
-      read = register_again line key.name spelled h.formed.0;
-      named = h.formed.0;
-    }
-setup_registers line (Register kinds.Gauge key) h = absurd h.formed
-setup_registers line (Register kinds.Histogram key) h = absurd h.formed
-setup_registers line (Describe kind name unit description) h = absurd h.formed
+register_again line kind key h =
+    whole_again _ _ Ends register_reads refl line (kind, (key.name, key.labels))
+    (register_text kind, quoted key.name ++ spaced_labels key.labels, (h.formed.0, refl), (quoted key.name, spaced_labels key.labels, (h.formed.1.0, refl), (h.formed.1.1, refl), refl), h.spelled ∙ ap spaced h.formed.2 ∙ register_spaced kind key.name key.labels)
 
 -- ---- call lines
 
-abbrev call_spelling : ℕ → ℕ → ℕ → List ℕ
-call_spelling lane handle n = decimal lane ++ (codes " inc " ++ (decimal handle ++ (codes " " ++ decimal n)))
+abbrev verb_word : Verb → List ℕ
+verb_word verbs.Inc = codes "inc"
+verb_word verbs.Abs = codes "abs"
+verb_word verbs.Add = codes "add"
+verb_word verbs.Sub = codes "sub"
+verb_word verbs.Set = codes "set"
 
-call_spelling_ascii : (lane handle n : ℕ) → lane < 2 ^ 64 → handle < 2 ^ 64 → n < 2 ^ 64 → IsAscii (call_spelling lane handle n)
-call_spelling_ascii lane handle n lane_fits handle_fits n_fits =
-    let value = IsAscii-append (codes " ") (decimal n) (literal_ascii (codes " ") refl) (IsAscii-decimal n n_fits) in
-    let from_handle = IsAscii-append (decimal handle) (codes " " ++ decimal n) (IsAscii-decimal handle handle_fits) value in
-    let act = IsAscii-append (codes " inc ") (decimal handle ++ (codes " " ++ decimal n)) (literal_ascii (codes " inc ") refl) from_handle in
-    IsAscii-append (decimal lane) (codes " inc " ++ (decimal handle ++ (codes " " ++ decimal n))) (IsAscii-decimal lane lane_fits) act
+abbrev verb_text : Verb → List ℕ
+verb_text verb = codes " " ++ (verb_word verb ++ codes " ")
 
--- a line of this spelling says the call
-call_spelled : (line : List ℕ) (call : CallLine) (lane handle n : ℕ) → line ≡ call_spelling lane handle n → lane ≡ 0 → handle < 2 ^ 32 → n < 2 ^ 64 → record { lane = lane; handle = handle; act = Inc n } ≡ call → IsLine line (CallOf call)
-call_spelled line call lane handle n spelled first handle_fits fits made =
-    subst (λ (x : CallLine). IsLine line (CallOf x)) made
-    (record {
-      words = decimal lane ∷ codes "inc" ∷ decimal handle ∷ decimal n ∷ [];
-      formed = (codes "inc" ∷ decimal handle ∷ decimal n ∷ [], (fits, refl), first, handle_fits, refl);
-      spelled = spelled;
-      utf8 = text_of line (call_spelling lane handle n) spelled (call_spelling_ascii lane handle n (omega arith) (omega arith) fits);
-    })
+abbrev SpellsVerb : Verb → List ℕ → Type 0
+SpellsVerb verb front = front ≡ verb_text verb
+
+verb_takes : (bytes : List ℕ) (verb : Verb) (rest : List ℕ) → verb_at bytes ≡ Some (verb, rest) → (front : List ℕ) × SpellsVerb verb front × (bytes ≡ front ++ rest)
+unfolding verb_at
+verb_takes bytes verb rest e = by e
+  where
+    given : (literal : List ℕ) (v : Verb) → literal ≡ verb_text v → standing literal v bytes ≡ Some (verb, rest) → (front : List ℕ) × SpellsVerb verb front × (bytes ≡ front ++ rest)
+    given literal v is f = let h = standing_takes literal v verb bytes rest f in (literal, is ∙ ap verb_text h.0, h.1)
+
+    by : (standing (codes " inc ") verbs.Inc bytes or standing (codes " abs ") verbs.Abs bytes or standing (codes " add ") verbs.Add bytes or standing (codes " sub ") verbs.Sub bytes or standing (codes " set ") verbs.Set bytes) ≡ Some (verb, rest)
+        → (front : List ℕ) × SpellsVerb verb front × (bytes ≡ front ++ rest)
+    by f =
+        elim (or_some (standing (codes " inc ") verbs.Inc bytes) _ (verb, rest) f) [
+          | inl g ↦ given (codes " inc ") verbs.Inc refl g
+          | inr g ↦ elim (or_some (standing (codes " abs ") verbs.Abs bytes) _ (verb, rest) g) [
+            | inl h ↦ given (codes " abs ") verbs.Abs refl h
+            | inr h ↦ elim (or_some (standing (codes " add ") verbs.Add bytes) _ (verb, rest) h) [
+              | inl k ↦ given (codes " add ") verbs.Add refl k
+              | inr k ↦ elim (or_some (standing (codes " sub ") verbs.Sub bytes) _ (verb, rest) k) [ inl m ↦ given (codes " sub ") verbs.Sub refl m | inr m ↦ given (codes " set ") verbs.Set refl m ]
+            ]
+          ]
+        ]
+
+verb_again : (verb : Verb) (front rest : List ℕ) → SpellsVerb verb front → Anywhere rest → verb_at (front ++ rest) ≡ Some (verb, rest)
+unfolding verb_at behind
+verb_again verbs.Inc front rest h stop = ap (λ l. verb_at (l ++ rest)) h
+verb_again verbs.Abs front rest h stop = ap (λ l. verb_at (l ++ rest)) h
+verb_again verbs.Add front rest h stop = ap (λ l. verb_at (l ++ rest)) h
+verb_again verbs.Sub front rest h stop = ap (λ l. verb_at (l ++ rest)) h
+verb_again verbs.Set front rest h stop = ap (λ l. verb_at (l ++ rest)) h
+
+verb_reads : IsReader verb_at SpellsVerb Anywhere
+verb_reads = record { takes = verb_takes; again = verb_again }
+
+abbrev SpellsCount : (ℕ → Act) → Act → List ℕ → Type 0
+SpellsCount act = SpellsSeen act (SpellsNumber (2 ^ 64 - 1))
+
+abbrev SpellsValue : (ℤ → Act) → Act → List ℕ → Type 0
+SpellsValue act = SpellsSeen act (λ value front. IsDec front value)
+
+abbrev SpellsArgument : Verb → Act → List ℕ → Type 0
+SpellsArgument verbs.Inc = SpellsCount Inc
+SpellsArgument verbs.Abs = SpellsCount Abs
+SpellsArgument verbs.Add = SpellsValue Add
+SpellsArgument verbs.Sub = SpellsValue Sub
+SpellsArgument verbs.Set = SpellsValue Set
+
+argument_reads : (verb : Verb) → IsReader (argument_at verb) (SpellsArgument verb) Ends
+argument_reads verbs.Inc = seen_reads Inc (number_at (2 ^ 64 - 1)) (SpellsNumber (2 ^ 64 - 1)) Ends (number_to_end (2 ^ 64 - 1) (lit< tt))
+argument_reads verbs.Abs = seen_reads Abs (number_at (2 ^ 64 - 1)) (SpellsNumber (2 ^ 64 - 1)) Ends (number_to_end (2 ^ 64 - 1) (lit< tt))
+argument_reads verbs.Add = seen_reads Add fixed_at (λ value front. IsDec front value) Ends fixed_reads
+argument_reads verbs.Sub = seen_reads Sub fixed_at (λ value front. IsDec front value) Ends fixed_reads
+argument_reads verbs.Set = seen_reads Set fixed_at (λ value front. IsDec front value) Ends fixed_reads
+
+abbrev SpellsHandled : Verb → ℕ × Act → List ℕ → Type 0
+SpellsHandled verb = SpellsBoth (SpellsNumber (2 ^ 32 - 1)) (λ _. SpellsAfter (codes " ") (SpellsArgument verb))
+
+abbrev SpellsParts : CallParts → List ℕ → Type 0
+SpellsParts = SpellsBoth (SpellsNumber 7) (λ _. SpellsBoth SpellsVerb SpellsHandled)
+
+handled_reads : (verb : Verb) → IsReader (both (number_at (2 ^ 32 - 1)) (λ _. after (codes " ") (argument_at verb))) (SpellsHandled verb) Ends
+handled_reads verb = both_reads (number_at (2 ^ 32 - 1)) (λ _. after (codes " ") (argument_at verb)) (SpellsNumber (2 ^ 32 - 1)) (λ _. SpellsAfter (codes " ") (SpellsArgument verb)) NoDigit Ends
+    (number_reads (2 ^ 32 - 1) (lit< tt)) (λ _. after_reads (codes " ") (argument_at verb) (SpellsArgument verb) Ends (argument_reads verb))
+    (λ a b y rest h stop. subst (λ l. NoDigit (l ++ rest)) (sym h.2) refl)
+
+no_digit_at_verb : (verb : Verb) (rest : List ℕ) → NoDigit (verb_text verb ++ rest)
+no_digit_at_verb verb rest = refl
+
+parts_read : IsReader call_parts_at SpellsParts Ends
+parts_read = both_reads (number_at 7) (λ _. both verb_at (λ verb. both (number_at (2 ^ 32 - 1)) (λ _. after (codes " ") (argument_at verb)))) (SpellsNumber 7) (λ _. SpellsBoth SpellsVerb SpellsHandled) NoDigit Ends
+    (number_reads 7 (lit< tt))
+    (λ _. both_reads verb_at (λ verb. both (number_at (2 ^ 32 - 1)) (λ _. after (codes " ") (argument_at verb))) SpellsVerb SpellsHandled Anywhere Ends verb_reads handled_reads (λ a b y rest h stop. tt))
+    (λ a b y rest h stop. subst (λ l. NoDigit (l ++ rest)) (sym (h.4 ∙ ap (λ l. l ++ h.1) h.2)) (subst NoDigit (sym (append_assoc (verb_text b.0) h.1 rest)) (no_digit_at_verb b.0 (h.1 ++ rest))))
+
+-- the words of an act, from its verb and its argument
+act_words : (verb : Verb) (handle : ℕ) (act : Act) (argument : List ℕ) → SpellsArgument verb act argument → AreActWords (verb_word verb ∷ decimal handle ∷ argument ∷ []) handle act
+act_words verbs.Inc handle act argument (n, is, number) = subst (AreActWords (codes "inc" ∷ decimal handle ∷ argument ∷ []) handle) is (omega (arith, number.1), ap (λ l. codes "inc" ∷ decimal handle ∷ l ∷ []) number.0)
+act_words verbs.Abs handle act argument (n, is, number) = subst (AreActWords (codes "abs" ∷ decimal handle ∷ argument ∷ []) handle) is (omega (arith, number.1), ap (λ l. codes "abs" ∷ decimal handle ∷ l ∷ []) number.0)
+act_words verbs.Add handle act argument (v, is, dec) = subst (AreActWords (codes "add" ∷ decimal handle ∷ argument ∷ []) handle) is (argument, dec, refl)
+act_words verbs.Sub handle act argument (v, is, dec) = subst (AreActWords (codes "sub" ∷ decimal handle ∷ argument ∷ []) handle) is (argument, dec, refl)
+act_words verbs.Set handle act argument (v, is, dec) = subst (AreActWords (codes "set" ∷ decimal handle ∷ argument ∷ []) handle) is (argument, dec, refl)
+
+-- the verb and the argument, from the words of an act
+record Worded (words : List (List ℕ)) (handle : ℕ) (act : Act) : Type 0 where
+  verb : Verb
+  argument : List ℕ
+  spelled : SpellsArgument verb act argument
+  words_are : words ≡ verb_word verb ∷ decimal handle ∷ argument ∷ []
+
+worded : (words : List (List ℕ)) (handle : ℕ) (act : Act) → AreActWords words handle act → Worded words handle act
+worded words handle (Inc n) h = record { verb = verbs.Inc; argument = decimal n; spelled = (n, refl, (refl, omega (arith, h.0))); words_are = h.1 }
+worded words handle (Abs n) h = record { verb = verbs.Abs; argument = decimal n; spelled = (n, refl, (refl, omega (arith, h.0))); words_are = h.1 }
+worded words handle (Add v) h = record { verb = verbs.Add; argument = h.0; spelled = (v, refl, h.1); words_are = h.2 }
+worded words handle (Sub v) h = record { verb = verbs.Sub; argument = h.0; spelled = (v, refl, h.1); words_are = h.2 }
+worded words handle (Set v) h = record { verb = verbs.Set; argument = h.0; spelled = (v, refl, h.1); words_are = h.2 }
+worded words handle (Rec v) h = absurd h
+worded words handle (RecN v n) h = absurd h
+
+call_spaced : (verb : Verb) (lane handle argument : List ℕ) → spaced (lane ∷ verb_word verb ∷ handle ∷ argument ∷ []) ≡ lane ++ (verb_text verb ++ (handle ++ (codes " " ++ argument)))
+call_spaced verb lane handle argument = ap (λ l. lane ++ (codes " " ++ l)) (sym (append_assoc (verb_word verb) (codes " ") (handle ++ (codes " " ++ argument))))
 
 pub call_takes : (line : List ℕ) (call : CallLine) → call_at line ≡ Some call → IsLine line (CallOf call)
 unfolding call_at
 call_takes line call e =
-    let a = bind_some (number_at 0 line) (λ lane. behind (codes " inc ") lane.1 >>= λ act. number_at (2 ^ 32 - 1) act >>= λ handle. behind (codes " ") handle.1 >>= λ space. number_at (2 ^ 64 - 1) space >>= λ value. end_at value.1 >>= λ _. Some (record { lane = lane.0; handle = handle.0; act = Inc value.0 })) call e in
-    let b = bind_some (behind (codes " inc ") a.0.1) (λ act. number_at (2 ^ 32 - 1) act >>= λ handle. behind (codes " ") handle.1 >>= λ space. number_at (2 ^ 64 - 1) space >>= λ value. end_at value.1 >>= λ _. Some (record { lane = a.0.0; handle = handle.0; act = Inc value.0 })) call a.2 in
-    let c = bind_some (number_at (2 ^ 32 - 1) b.0) (λ handle. behind (codes " ") handle.1 >>= λ space. number_at (2 ^ 64 - 1) space >>= λ value. end_at value.1 >>= λ _. Some (record { lane = a.0.0; handle = handle.0; act = Inc value.0 })) call b.2 in
-    let d = bind_some (behind (codes " ") c.0.1) (λ space. number_at (2 ^ 64 - 1) space >>= λ value. end_at value.1 >>= λ _. Some (record { lane = a.0.0; handle = c.0.0; act = Inc value.0 })) call c.2 in
-    let f = bind_some (number_at (2 ^ 64 - 1) d.0) (λ value. end_at value.1 >>= λ _. Some (record { lane = a.0.0; handle = c.0.0; act = Inc value.0 })) call d.2 in
-    let g = bind_some (end_at f.0.1) (λ _. Some (record { lane = a.0.0; handle = c.0.0; act = Inc f.0.0 })) call f.2 in
-    let lane = number_takes 0 a.0.0 line a.0.1 a.1 in
-    let handle = number_takes (2 ^ 32 - 1) c.0.0 b.0 c.0.1 c.1 in
-    let value = number_takes (2 ^ 64 - 1) f.0.0 d.0 f.0.1 f.1 in
-    let from_value : d.0 ≡ decimal f.0.0 = all_of_it d.0 (decimal f.0.0) f.0.1 value.0 (end_takes f.0.1 g.0 g.1) in
-    let from_space : c.0.1 ≡ codes " " ++ decimal f.0.0 = behind_front c.0.1 (codes " ") d.0 (decimal f.0.0) (behind_takes (codes " ") c.0.1 d.0 d.1) from_value in
-    let from_handle : b.0 ≡ decimal c.0.0 ++ (codes " " ++ decimal f.0.0) = behind_front b.0 (decimal c.0.0) c.0.1 (codes " " ++ decimal f.0.0) handle.0 from_space in
-    let from_act : a.0.1 ≡ codes " inc " ++ (decimal c.0.0 ++ (codes " " ++ decimal f.0.0)) = behind_front a.0.1 (codes " inc ") b.0 (decimal c.0.0 ++ (codes " " ++ decimal f.0.0)) (behind_takes (codes " inc ") a.0.1 b.0 b.1) from_handle in
-    let spelled : line ≡ call_spelling a.0.0 c.0.0 f.0.0 = behind_front line (decimal a.0.0) a.0.1 (codes " inc " ++ (decimal c.0.0 ++ (codes " " ++ decimal f.0.0))) lane.0 from_act in
-    let made : record { lane = a.0.0; handle = c.0.0; act = Inc f.0.0 } ≡ call = same_Some (record { lane = a.0.0; handle = c.0.0; act = Inc f.0.0 }) call g.2 in
-    call_spelled line call a.0.0 c.0.0 f.0.0 spelled (omega (arith, lane.1)) (omega (arith, handle.1)) (omega (arith, value.1)) made
-
--- what a call line does: it adds to a counter
-pub record Adds (line : List ℕ) (call : CallLine) : Type 0 where
-  pub n : ℕ
-  pub is : call.act ≡ Inc n
-  pub fits : n < 2 ^ 64
-  pub spelled : line ≡ call_spelling call.lane call.handle n
-
-adds_at : (line : List ℕ) (lane handle : ℕ) (act : Act) (words rest : List (List ℕ)) → AreActWords rest handle act → words ≡ decimal lane ∷ rest → line ≡ spaced words → Adds line (record { lane = lane; handle = handle; act = act })
-adds_at line lane handle (Inc n) words rest formed first spelled = record { n = n; is = refl; fits = formed.0; spelled = spelled ∙ ap spaced (first ∙ ap (λ (x : List (List ℕ)). decimal lane ∷ x) formed.1) }
-adds_at line lane handle act words rest formed first spelled = absurd formed
-
-pub call_adds : (line : List ℕ) (call : CallLine) → IsLine line (CallOf call) → Adds line call
-call_adds line call h = adds_at line call.lane call.handle call.act h.words h.formed.0 h.formed.1 h.formed.4 h.spelled
+    let (parts, is, spelled_parts) = whole_takes _ _ Ends (seen_reads call_of_parts call_parts_at SpellsParts Ends parts_read) line call e in
+    let (x, y, lane, others, split) = spelled_parts in
+    let (u, v, verb, handled, verb_split) = others in
+    let (w, z, handle, (argument, spelled, behind_space), handle_split) = handled in
+    let whole_line : line ≡ decimal parts.0 ++ (verb_text parts.1.0 ++ (decimal parts.1.1.0 ++ (codes " " ++ argument))) =
+    split ∙ (λ j. lane.0 j ++ (verb_split ∙ (λ k. verb k ++ (handle_split ∙ (λ m. handle.0 m ++ behind_space m)) k)) j) in
+    subst (λ (c : CallLine). IsLine line (CallOf c)) is
+    (record {
+      words = decimal parts.0 ∷ verb_word parts.1.0 ∷ decimal parts.1.1.0 ∷ argument ∷ [];
+      formed = (verb_word parts.1.0 ∷ decimal parts.1.1.0 ∷ argument ∷ [], act_words parts.1.0 parts.1.1.0 parts.1.1.1 argument spelled, omega (arith, lane.1), omega (arith, handle.1), refl);
+      spelled = whole_line ∙ sym (call_spaced parts.1.0 (decimal parts.0) (decimal parts.1.1.0) argument);
+    })
 
 pub call_again : (line : List ℕ) (call : CallLine) → IsLine line (CallOf call) → call_at line ≡ Some call
 unfolding call_at
 call_again line call h =
-    let adds = call_adds line call h in
-    let value : number_at (2 ^ 64 - 1) (decimal adds.n) ≡ Some (adds.n, []) = ap (number_at (2 ^ 64 - 1)) (sym (append-nil (decimal adds.n))) ∙ number_again (2 ^ 64 - 1) adds.n [] (lit< tt) (omega (arith, adds.fits)) refl in
-    let space : List ℕ = codes " " ++ decimal adds.n in
-    let act : List ℕ = codes " inc " ++ (decimal call.handle ++ space) in
-    let lane : number_at 0 (decimal call.lane ++ act) ≡ Some (call.lane, act) = number_again 0 call.lane act (lit< tt) (omega (arith, h.formed.2)) refl in
-    let handle : number_at (2 ^ 32 - 1) (decimal call.handle ++ space) ≡ Some (call.handle, space) = number_again (2 ^ 32 - 1) call.handle space (lit< tt) (omega (arith, h.formed.3)) refl in
-    ap call_at adds.spelled ∙ rw (lane, behind_again (codes " inc ") (decimal call.handle ++ space), handle, behind_again (codes " ") (decimal adds.n), value, ← adds.is) refl
+    let (rest, act, lane_fits, handle_fits, words_are) = h.formed in
+    let w = worded rest call.handle call.act act in
+    let whole_line : line ≡ decimal call.lane ++ (verb_text w.verb ++ (decimal call.handle ++ (codes " " ++ w.argument))) =
+    h.spelled ∙ ap spaced (words_are ∙ ap (λ l. decimal call.lane ∷ l) w.words_are) ∙ call_spaced w.verb (decimal call.lane) (decimal call.handle) w.argument in
+    whole_again _ _ Ends (seen_reads call_of_parts call_parts_at SpellsParts Ends parts_read) refl line call
+    (
+      (call.lane, (w.verb, (call.handle, call.act))),
+      refl, (
+      decimal call.lane,
+      verb_text w.verb ++ (decimal call.handle ++ (codes " " ++ w.argument)),
+      (refl, omega (arith, lane_fits)),
+      (verb_text w.verb, decimal call.handle ++ (codes " " ++ w.argument), refl, (decimal call.handle, codes " " ++ w.argument, (refl, omega (arith, handle_fits)), (w.argument, w.spelled, refl), refl), refl),
+      whole_line),
+    )
 
 -- ---- one reading
 
+-- what a line says, read in one form after another
+abbrev pub registered_line : Registered → ScriptLine
+registered_line registered = Setup (Register registered.0 (key_of registered))
+
 -- a line that is read in none of the forms says nothing
-pub no_reading : (line : List ℕ) → call_at line ≡ None → round_at line ≡ None → register_at line ≡ None → (says : ScriptLine) → ¬ IsLine line says
-no_reading line no_call no_round no_register (Round moment) h = let read = round_again line moment h in cc
-no_reading line no_call no_round no_register (Setup setup) h = let read = (setup_registers line setup h).read in cc
-no_reading line no_call no_round no_register (CallOf call) h = let read = call_again line call h in cc
+pub no_reading : (line : List ℕ) → call_at line ≡ None → round_at line ≡ None → register_at line ≡ None → global_at line ≡ None → (says : ScriptLine) → ¬ IsLine line says
+no_reading line no_call no_round no_register no_global (Global label) h = let read = global_again line label h in cc
+no_reading line no_call no_round no_register no_global (Round moment) h = let read = round_again line moment h in cc
+no_reading line no_call no_round no_register no_global (Setup (Register kind key)) h = let read = register_again line kind key h in cc
+no_reading line no_call no_round no_register no_global (Setup (Describe kind name unit text)) h = absurd h.formed
+no_reading line no_call no_round no_register no_global (CallOf call) h = let read = call_again line call h in cc
 
-first_of_round : (line : List ℕ) (moment : ℕ) → IsLine line (Round moment) → (get_or line 0 0 ≡ 114) × (get_or line 1 0 ≡ 111)
-first_of_round line moment h = let e = round_spelled line moment h in (ap (λ (x : List ℕ). get_or x 0 0) e, ap (λ (x : List ℕ). get_or x 1 0) e)
+-- which form a line has, by its first two bytes
+abbrev form_at : List ℕ → ℕ
+form_at (c ∷ d ∷ line) = if c == 103 then 0 else if c == 114 then (if d == 111 then 1 else 2) else 3
+form_at _ = 3
 
-first_of_setup : (line : List ℕ) (setup : SetupLine) → IsLine line (Setup setup) → (get_or line 0 0 ≡ 114) × (get_or line 1 0 ≡ 101)
-first_of_setup line setup h = let e = (setup_registers line setup h).spelled in (ap (λ (x : List ℕ). get_or x 0 0) e, ap (λ (x : List ℕ). get_or x 1 0) e)
+abbrev form_of : ScriptLine → ℕ
+form_of (Global label) = 0
+form_of (Round moment) = 1
+form_of (Setup setup) = 2
+form_of (CallOf call) = 3
 
-first_of_call : (line : List ℕ) (call : CallLine) → IsLine line (CallOf call) → get_or line 0 0 ≡ 48
-first_of_call line call h =
-    let adds = call_adds line call h in
-    let digit : decimal call.lane ≡ 48 ∷ [] = ap decimal h.formed.2 ∙ decimal_digit 0 (lit< tt) in
-    ap (λ (x : List ℕ). get_or x 0 0) (adds.spelled ∙ ap (λ (x : List ℕ). x ++ (codes " inc " ++ (decimal call.handle ++ (codes " " ++ decimal adds.n)))) digit)
+-- a line whose first byte is a digit
+digit_form : (d : ℕ) (line : List ℕ) → d < 10 → form_at ((48 + d) ∷ line) ≡ 3
+digit_form d [] small = refl
+digit_form d (c ∷ line) small = grind (arith, nat_tests)
+
+formed : (line : List ℕ) (says : ScriptLine) → IsLine line says → form_at line ≡ form_of says
+formed line (Global label) h = ap form_at (h.spelled ∙ ap spaced h.formed.1)
+formed line (Round moment) h = ap form_at (h.spelled ∙ ap spaced h.formed.1)
+formed line (Setup (Register kind key)) h = ap form_at (h.spelled ∙ ap spaced h.formed.2)
+formed line (Setup (Describe kind name unit text)) h = absurd h.formed
+formed line (CallOf call) h =
+    let (rest, act, lane_fits, handle_fits, words_are) = h.formed in
+    let w = worded rest call.handle call.act act in
+    let behind_lane : List ℕ = verb_text w.verb ++ (decimal call.handle ++ (codes " " ++ w.argument)) in
+    let whole_line : line ≡ decimal call.lane ++ behind_lane = h.spelled ∙ ap spaced (words_are ∙ ap (λ l. decimal call.lane ∷ l) w.words_are) ∙ call_spaced w.verb (decimal call.lane) (decimal call.handle) w.argument in
+    ap form_at (whole_line ∙ ap (λ l. l ++ behind_lane) (decimal_digit call.lane (omega (arith, lane_fits)))) ∙ digit_form call.lane behind_lane (omega (arith, lane_fits))
+
+register_told : (kind other : MetricKind) (key same : KeyText) → ◌≡◌ {A = Option Registered} (Some (kind, (key.name, key.labels))) (Some (other, (same.name, same.labels))) → ◌≡◌ {A = ScriptLine} (Setup (Register kind key)) (Setup (Register other same))
+register_told kind other key same e = ap registered_line (same_Some (kind, (key.name, key.labels)) (other, (same.name, same.labels)) e)
 
 pub one_reading : (line : List ℕ) (s t : ScriptLine) → IsLine line s → IsLine line t → s ≡ t
+one_reading line (Global l) (Global m) a b = ap Global (same_Some l m (sym (global_again line l a) ∙ global_again line m b))
 one_reading line (Round m) (Round n) a b = ap Round (same_Some m n (sym (round_again line m a) ∙ round_again line n b))
-one_reading line (Round m) (Setup s) a b = absurd (omega (arith, first_of_round line m a, first_of_setup line s b))
-one_reading line (Round m) (CallOf c) a b = absurd (omega (arith, first_of_round line m a, first_of_call line c b))
-one_reading line (Setup s) (Round m) a b = absurd (omega (arith, first_of_round line m b, first_of_setup line s a))
-one_reading line (Setup s) (Setup t) a b =
-    let x = setup_registers line s a in
-    let y = setup_registers line t b in
-    let name : x.name ≡ y.name = same_Some x.name y.name (sym x.read ∙ y.read) in
-    ap Setup (x.is ∙ ap (λ (n : List ℕ). Register kinds.Counter (record { name = n; labels = [] })) name ∙ sym y.is)
-one_reading line (Setup s) (CallOf c) a b = absurd (omega (arith, first_of_setup line s a, first_of_call line c b))
-one_reading line (CallOf c) (Round m) a b = absurd (omega (arith, first_of_round line m b, first_of_call line c a))
-one_reading line (CallOf c) (Setup s) a b = absurd (omega (arith, first_of_setup line s b, first_of_call line c a))
+one_reading line (Setup (Register kind key)) (Setup (Register other same)) a b = register_told kind other key same (sym (register_again line kind key a) ∙ register_again line other same b)
+one_reading line (Setup (Describe kind name unit text)) t a b = absurd a.formed
+one_reading line s (Setup (Describe kind name unit text)) a b = absurd b.formed
 one_reading line (CallOf c) (CallOf d) a b = ap CallOf (same_Some c d (sym (call_again line c a) ∙ call_again line d b))
+one_reading line (Global l) (Round n) a b = absurd (omega (arith, formed line (Global l) a, formed line (Round n) b))
+one_reading line (Global l) (Setup (Register kind key)) a b = absurd (omega (arith, formed line (Global l) a, formed line (Setup (Register kind key)) b))
+one_reading line (Global l) (CallOf c) a b = absurd (omega (arith, formed line (Global l) a, formed line (CallOf c) b))
+one_reading line (Round n) (Global l) a b = absurd (omega (arith, formed line (Round n) a, formed line (Global l) b))
+one_reading line (Round n) (Setup (Register kind key)) a b = absurd (omega (arith, formed line (Round n) a, formed line (Setup (Register kind key)) b))
+one_reading line (Round n) (CallOf c) a b = absurd (omega (arith, formed line (Round n) a, formed line (CallOf c) b))
+one_reading line (Setup (Register kind key)) (Global l) a b = absurd (omega (arith, formed line (Setup (Register kind key)) a, formed line (Global l) b))
+one_reading line (Setup (Register kind key)) (Round n) a b = absurd (omega (arith, formed line (Setup (Register kind key)) a, formed line (Round n) b))
+one_reading line (Setup (Register kind key)) (CallOf c) a b = absurd (omega (arith, formed line (Setup (Register kind key)) a, formed line (CallOf c) b))
+one_reading line (CallOf c) (Global l) a b = absurd (omega (arith, formed line (CallOf c) a, formed line (Global l) b))
+one_reading line (CallOf c) (Round n) a b = absurd (omega (arith, formed line (CallOf c) a, formed line (Round n) b))
+one_reading line (CallOf c) (Setup (Register kind key)) a b = absurd (omega (arith, formed line (CallOf c) a, formed line (Setup (Register kind key)) b))

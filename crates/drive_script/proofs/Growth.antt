@@ -1,21 +1,20 @@
 -- The lines of a valid script and one more: they are a valid script just where that line is the script's next.
 use Rattle.std.proofs.Common.{◌≡◌, ℕ, zero, suc, ◌+◌, ◌-◌, ◌<◌, ◌≤◌, ◌⊎◌, List, [], ◌∷◌, ◌++◌, map, length, get_or, take, refl, sym, ap, subst, ◌∙◌, arith, inl, inr, lit≤}
-use Rattle.std.specs.Prelude.{All, AllPairs, flat_map, filter_map, sum_by}
+use Rattle.std.specs.Prelude.{All, AllPairs, IfSome, Option, Some, None, flat_map, filter_map, sum_by}
 use Rattle.std.specs.List.{AllZip, AllByRecursion}
-use Rattle.std.specs.List.Sorted.{IsNonDecreasing}
-use Rattle.std.proofs.lemmas.List.{append-nil, append_assoc, map-append, length-append, length_push, same_from_push, get_or_push, take_at, take_all, take_more, nil_from_length}
+use Rattle.std.specs.List.Sorted.{IsNonDecreasingBy}
+use Rattle.std.proofs.lemmas.List.{append-nil, append_assoc, map-append, map_push, length-append, length_push, same_from_push, get_or_push, take_at, take_all, take_more, nil_from_length}
 use Rattle.std.proofs.lemmas.List.Concat.{flat_map-append}
-use Rattle.std.proofs.lemmas.List.Elements.{All-nil, All-push, All-take, All-get_or, All-from_recursion, filter_map-append}
+use Rattle.std.proofs.lemmas.List.Elements.{All-nil, All-push, All-take, All-get_or, All-from_get_or, filter_map-append}
+use Rattle.std.proofs.lemmas.List.Quantifiers.{all_pairs_push}
+use Rattle.std.proofs.lemmas.List.Sorted.{IsNonDecreasingBy-push, IsNonDecreasingBy-short}
 use Rattle.std.proofs.lemmas.List.Sums.{sum_by-cons}
-use Rattle.metrics_core.specs.Keys.{LabelText, KeyText, occurrences}
+use Rattle.metrics_core.specs.Keys.{LabelText, KeyText}
 use Rattle.metrics_core.specs.declared.kinds.MetricKind.{MetricKind}
-use Rattle.metrics_core.specs.declared.kinds.MetricKind.TheVariants as kinds
-use Rattle.prom_format.specs.Names.{IsMetricName}
-use Rattle.drive_script.specs.Script.{ScriptText, RoundText, SetupLine, Register, Describe, CallLine, ScriptLine, Round, Setup, CallOf, IsLine, IsScript, round_lines, no_settings, SettingsText}
-use Rattle.drive_script.specs.Valid.{Registration, registration_of, registered_in, registered, HasHandle, HaveHandles, sample_count, Head, PrintApart, IsValid, AreValidLines}
-use Rattle.drive_script.specs.Growth.{BeginsRound, SetsUp, AddsCall, IsNext}
-use Rattle.drive_script.proofs.Names.{sanitized_name}
-use Rattle.drive_script.proofs.Forms.{one_reading, call_adds}
+use Rattle.drive_script.specs.Script.{ScriptText, RoundText, SetupLine, Register, Describe, Act, Inc, Abs, Add, Sub, Set, Rec, RecN, CallLine, ScriptLine, Global, Round, Setup, CallOf, IsLine, IsScript, AreActWords, header_lines, round_lines, only_globals, global_labels, SettingsText}
+use Rattle.drive_script.specs.Valid.{Registration, registration_of, registered_in, registered, HasHandle, HaveHandles, sample_count, PrintApart, IsValid, AreValidLines}
+use Rattle.drive_script.specs.Growth.{AddsGlobal, BeginsRound, SetsUp, AddsCall, IsNext}
+use Rattle.drive_script.proofs.Forms.{one_reading}
 
 -- the lines are this valid script
 abbrev pub Valid : List (List ℕ) → ScriptText → Type 0
@@ -72,37 +71,55 @@ call_said moment setup calls call = ap (λ l. Round moment ∷ l) (ap (λ l. map
 said_grown : (before : List RoundText) (old new : RoundText) (says : ScriptLine) → round_lines new ≡ round_lines old ++ says ∷ [] → lines_said (before ++ new ∷ []) ≡ lines_said (before ++ old ∷ []) ++ says ∷ []
 said_grown before old new says e = lines_push before new ∙ ap (λ l. lines_said before ++ l) e ∙ sym (append_assoc (lines_said before) (round_lines old) (says ∷ [])) ∙ ap (λ l. l ++ says ∷ []) (sym (lines_push before old))
 
+-- all lines of a script
+abbrev script_lines : ScriptText → List ScriptLine
+script_lines s = header_lines s.settings ++ lines_said s.rounds
+
+-- what the next line adds, where that is no global line
+rounds_next : (old new : ScriptText) (says : ScriptLine) → new.settings ≡ old.settings → lines_said new.rounds ≡ lines_said old.rounds ++ says ∷ [] → script_lines new ≡ script_lines old ++ says ∷ []
+rounds_next old new says settings e = (λ j. header_lines (settings j) ++ e j) ∙ sym (append_assoc (header_lines old.settings) (lines_said old.rounds) (says ∷ []))
+
 -- what the next line adds
-next_said : (old new : ScriptText) (says : ScriptLine) → IsNext old says new → lines_said new.rounds ≡ lines_said old.rounds ++ says ∷ []
-next_said old new (Round moment) h = ap (λ (s : ScriptText). lines_said s.rounds) h.grown ∙ ap (λ r. lines_said r ++ Round moment ∷ []) (sym h.first)
+next_said : (old new : ScriptText) (says : ScriptLine) → IsNext old says new → script_lines new ≡ script_lines old ++ says ∷ []
+next_said old new (Global label) h =
+    let globals = old.settings.globals in
+    ap script_lines h.grown
+    ∙ ap (λ rs. map Global (globals ++ label ∷ []) ++ lines_said rs) h.no_round
+    ∙ append-nil (map Global (globals ++ label ∷ [])) ∙ map_push Global globals label
+    ∙ ap (λ l. l ++ Global label ∷ []) (sym (append-nil (map Global globals)) ∙ ap (λ rs. map Global globals ++ lines_said rs) (sym h.no_round))
+next_said old new (Round moment) h =
+    rounds_next old new (Round moment) (ap (λ (s : ScriptText). s.settings) h.grown) (ap (λ (s : ScriptText). lines_said s.rounds) h.grown ∙ lines_push old.rounds (record { moment = moment; setup = []; calls = [] }))
 next_said old new (Setup setup) h =
     let with_calls = λ (calls : List CallLine). round_lines (record { moment = h.round.moment; setup = h.round.setup ++ setup ∷ []; calls = calls }) in
     let without = λ (calls : List CallLine). round_lines (record { moment = h.round.moment; setup = h.round.setup; calls = calls }) ++ Setup setup ∷ [] in
     let round : round_lines (record h.round { setup = h.round.setup ++ setup ∷ [] }) ≡ round_lines h.round ++ Setup setup ∷ [] = ap with_calls h.no_call ∙ setup_said h.round.moment h.round.setup setup ∙ ap without (sym h.no_call) in
-    ap (λ (s : ScriptText). lines_said s.rounds) h.grown ∙ said_grown h.before h.round (record h.round { setup = h.round.setup ++ setup ∷ [] }) (Setup setup) round ∙ ap (λ r. lines_said r ++ Setup setup ∷ []) (sym h.last)
+    rounds_next old new (Setup setup) (ap (λ (s : ScriptText). s.settings) h.grown)
+    (ap (λ (s : ScriptText). lines_said s.rounds) h.grown ∙ said_grown h.before h.round (record h.round { setup = h.round.setup ++ setup ∷ [] }) (Setup setup) round ∙ ap (λ r. lines_said r ++ Setup setup ∷ []) (sym h.last))
 next_said old new (CallOf call) h =
-    ap (λ (s : ScriptText). lines_said s.rounds) h.grown ∙ said_grown h.before h.round (record h.round { calls = h.round.calls ++ call ∷ [] }) (CallOf call) (call_said h.round.moment h.round.setup h.round.calls call)
-    ∙ ap (λ r. lines_said r ++ CallOf call ∷ []) (sym h.last)
+    rounds_next old new (CallOf call) (ap (λ (s : ScriptText). s.settings) h.grown)
+    (ap (λ (s : ScriptText). lines_said s.rounds) h.grown ∙ said_grown h.before h.round (record h.round { calls = h.round.calls ++ call ∷ [] }) (CallOf call) (call_said h.round.moment h.round.setup h.round.calls call)
+    ∙ ap (λ r. lines_said r ++ CallOf call ∷ []) (sym h.last))
 
--- ---- what lines alone make valid
+-- ---- samples: no line records one
 
-abbrev IsNamed : Registration → Type 0
-IsNamed r = IsMetricName r.key.name × (r.key.labels ≡ [])
+act_plain : (words : List (List ℕ)) (handle : ℕ) (act : Act) → AreActWords words handle act → sample_count act ≡ 0
+act_plain words handle (Inc n) h = refl
+act_plain words handle (Abs n) h = refl
+act_plain words handle (Add v) h = refl
+act_plain words handle (Sub v) h = refl
+act_plain words handle (Set v) h = refl
+act_plain words handle (Rec v) h = absurd h
+act_plain words handle (RecN v n) h = absurd h
 
--- a register line has a metric name and no label, and a call line records no sample
 abbrev IsPlain : ScriptLine → Type 0
-IsPlain (Round moment) = Unit {0}
-IsPlain (Setup (Register kind key)) = IsMetricName key.name × (key.labels ≡ [])
-IsPlain (Setup (Describe kind name unit description)) = Unit {0}
 IsPlain (CallOf call) = sample_count call.act ≡ 0
+IsPlain _ = Unit {0}
 
 line_plain : (line : List ℕ) (says : ScriptLine) → IsLine line says → IsPlain says
+line_plain line (Global label) h = tt
 line_plain line (Round moment) h = tt
-line_plain line (Setup (Register kinds.Counter key)) h = (h.formed.0, h.formed.1)
-line_plain line (Setup (Register kinds.Gauge key)) h = absurd h.formed
-line_plain line (Setup (Register kinds.Histogram key)) h = absurd h.formed
-line_plain line (Setup (Describe kind name unit description)) h = tt
-line_plain line (CallOf call) h = ap sample_count (call_adds line call h).is
+line_plain line (Setup setup) h = tt
+line_plain line (CallOf call) h = act_plain h.formed.0 call.handle call.act h.formed.1
 
 lines_plain : (lines : List (List ℕ)) (says : List ScriptLine) → AllZip IsLine lines says → AllByRecursion IsPlain says
 lines_plain [] [] h = tt
@@ -114,60 +131,75 @@ both_parts : {A : Type 0} (P : A → Type 0) (xs ys : List A) → AllByRecursion
 both_parts P [] ys h = (tt, h)
 both_parts P (x ∷ xs) ys h = let rest = both_parts P xs ys h.1 in ((h.0, rest.0), rest.1)
 
-both_together : {A : Type 0} (P : A → Type 0) (xs ys : List A) → AllByRecursion P xs → AllByRecursion P ys → AllByRecursion P (xs ++ ys)
-both_together P [] ys h k = k
-both_together P (x ∷ xs) ys h k = (h.0, both_together P xs ys h.1 k)
-
 no_samples : (calls : List CallLine) → AllByRecursion IsPlain (map CallOf calls) → sum_by (λ (c : CallLine). sample_count c.act) calls ≡ 0
 no_samples [] h = refl
 no_samples (c ∷ calls) h = let rest = no_samples calls h.1 in sum_by-cons (λ (c : CallLine). sample_count c.act) c calls ∙ omega (arith, h.0)
 
-named_setup : (setup : List SetupLine) → AllByRecursion IsPlain (map Setup setup) → AllByRecursion IsNamed (filter_map registration_of setup)
-named_setup [] h = tt
-named_setup (Register kind key ∷ setup) h = (h.0, named_setup setup h.1)
-named_setup (Describe kind name unit description ∷ setup) h = named_setup setup h.1
-
 abbrev samples_of : RoundText → ℕ
 samples_of round = sum_by (λ (c : CallLine). sample_count c.act) round.calls
 
-plain_rounds : (rounds : List RoundText) → AllByRecursion IsPlain (lines_said rounds) → (sum_by samples_of rounds ≡ 0) × AllByRecursion IsNamed (flat_map registered_in rounds)
-plain_rounds [] h = (refl, tt)
+plain_rounds : (rounds : List RoundText) → AllByRecursion IsPlain (lines_said rounds) → sum_by samples_of rounds ≡ 0
+plain_rounds [] h = refl
 plain_rounds (r ∷ rounds) h =
     let parts = both_parts IsPlain (round_lines r) (lines_said rounds) h in
     let round = both_parts IsPlain (map Setup r.setup) (map CallOf r.calls) parts.0.1 in
     let none : samples_of r ≡ 0 = no_samples r.calls round.1 in
     let rest = plain_rounds rounds parts.1 in
-    (sum_by-cons samples_of r rounds ∙ omega (arith, rest.0), both_together IsNamed (registered_in r) (flat_map registered_in rounds) (named_setup r.setup round.0) rest.1)
+    sum_by-cons samples_of r rounds ∙ omega (arith, rest)
 
--- equal heads have equal names
-heads_apart : (globals : List LabelText) (rs : List Registration) → AllByRecursion IsNamed rs → AllPairs (PrintApart globals) rs
-heads_apart globals rs h = λ i j d before within kind head.
-    let all = All-from_recursion IsNamed rs h in
-    let a : IsNamed (get_or rs i d) = All-get_or IsNamed rs i d (omega arith) all in
-    let b : IsNamed (get_or rs j d) = All-get_or IsNamed rs j d within all in
-    let name : (get_or rs i d).key.name ≡ (get_or rs j d).key.name = sym (sanitized_name (get_or rs i d).key.name a.0) ∙ ap (λ (h : Head). h.name) head ∙ sanitized_name (get_or rs j d).key.name b.0 in
-    (name, λ l. ap (λ (labels : List LabelText). occurrences labels l) (a.1 ∙ sym b.1))
+script_plain : (lines : List (List ℕ)) (script : ScriptText) → IsScript lines script → sum_by samples_of script.rounds ≡ 0
+script_plain lines script h = plain_rounds script.rounds (both_parts IsPlain (header_lines script.settings) (lines_said script.rounds) (lines_plain lines (script_lines script) h.each)).1
 
-one_moment : (rounds : List RoundText) → length rounds ≤ 1 → IsNonDecreasing (map (λ (r : RoundText). r.moment) rounds)
-one_moment [] few = λ i j d before within. absurd (omega (arith, within))
-one_moment (r ∷ []) few = at
-  where
-    at : (i j d : ℕ) → i ≤ j → j < 1 → get_or (r.moment ∷ []) i d ≤ get_or (r.moment ∷ []) j d
-    at zero zero d before within = omega arith
-    at (suc i) zero d before within = absurd (omega arith)
-    at i (suc j) d before within = absurd (omega arith)
-one_moment (r ∷ s ∷ rounds) few = absurd (omega (arith, few))
+-- ---- lists of pairs and of moments, with the last element apart
 
-valid_from : (lines : List (List ℕ)) (script : ScriptText) → IsScript lines script → HaveHandles [] script.rounds → length (registered script) ≤ 1000000 → IsValid script
-valid_from lines script h handles few =
-    let plain = plain_rounds script.rounds (lines_plain lines (lines_said script.rounds) h.each) in
-    record {
-      moments = one_moment script.rounds h.rounds;
-      handles = handles;
-      registrations = few;
-      samples = omega (arith, plain.0);
-      heads = heads_apart script.settings.globals (registered script) plain.1;
-    }
+front_all : {A : Type 0} (P : A → Type 0) (xs : List A) (x : A) → All P (xs ++ x ∷ []) → All P xs
+front_all P xs x h = subst (All P) (take_at xs (x ∷ []) (length xs) refl) (All-take P (length xs) (xs ++ x ∷ []) h)
+
+last_all : {A : Type 0} (P : A → Type 0) (xs : List A) (x : A) → All P (xs ++ x ∷ []) → P x
+last_all P xs x h = subst P (get_or_push xs x x (length xs) refl) (All-get_or P (xs ++ x ∷ []) (length xs) x (omega (arith, length_push xs x)) h)
+
+-- an element that is not the last
+in_front : {A : Type 0} (xs : List A) (x : A) (i : ℕ) (d : A) → i < length xs → get_or (xs ++ x ∷ []) i d ≡ get_or xs i d
+in_front [] x i d within = absurd (omega (arith, within))
+in_front (y ∷ xs) x zero d within = refl
+in_front (y ∷ xs) x (suc i) d within = in_front xs x i d (omega (arith, within))
+
+module _ {A : Type 0} (R : A → A → Type 0) (xs : List A) (x : A) where
+  pairs_push : AllPairs R xs → All (λ y. R y x) xs → AllPairs R (xs ++ x ∷ [])
+  pairs_push pairs all = all_pairs_push R xs x pairs (λ k d within. All-get_or (λ y. R y x) xs k d within all)
+
+  pairs_front : AllPairs R (xs ++ x ∷ []) → AllPairs R xs
+  pairs_front h = λ i j d before within.
+      subst (λ a. R a (get_or xs j d)) (in_front xs x i d (omega (arith, before, within)))
+      (subst (λ b. R (get_or (xs ++ x ∷ []) i d) b) (in_front xs x j d within) (h i j d before (omega (arith, within, length_push xs x))))
+
+  pairs_last : AllPairs R (xs ++ x ∷ []) → All (λ y. R y x) xs
+  pairs_last h = All-from_get_or (λ y. R y x) xs x
+      (λ i within. subst (λ a. R a x) (in_front xs x i x within)
+      (subst (λ b. R (get_or (xs ++ x ∷ []) i x) b) (get_or_push xs x x (length xs) refl) (h i (length xs) x within (omega (arith, length_push xs x)))))
+
+abbrev Sorted : List RoundText → Type 0
+Sorted rounds = IsNonDecreasingBy (λ (r : RoundText). r.moment) rounds
+
+abbrev NotAfter : ℕ → RoundText → Type 0
+NotAfter moment round = round.moment ≤ moment
+
+sorted_push : (rounds : List RoundText) (round : RoundText) → Sorted rounds → All (NotAfter round.moment) rounds → Sorted (rounds ++ round ∷ [])
+sorted_push rounds round sorted all = IsNonDecreasingBy-push (λ (r : RoundText). r.moment) rounds round sorted (λ d some. All-get_or (NotAfter round.moment) rounds (length rounds - 1) d (omega (arith, some)) all)
+
+sorted_front : (rounds : List RoundText) (round : RoundText) → Sorted (rounds ++ round ∷ []) → Sorted rounds
+sorted_front rounds round h = λ i j d before within.
+    subst (λ (a : RoundText). a.moment ≤ (get_or rounds j d).moment) (in_front rounds round i d (omega (arith, before, within)))
+    (subst (λ (b : RoundText). (get_or (rounds ++ round ∷ []) i d).moment ≤ b.moment) (in_front rounds round j d within) (h i j d before (omega (arith, within, length_push rounds round))))
+
+pub sorted_last : (rounds : List RoundText) (round : RoundText) → Sorted (rounds ++ round ∷ []) → All (NotAfter round.moment) rounds
+sorted_last rounds round h = All-from_get_or (NotAfter round.moment) rounds round
+    (λ i within. subst (λ (a : RoundText). a.moment ≤ round.moment) (in_front rounds round i round within)
+    (subst (λ (b : RoundText). (get_or (rounds ++ round ∷ []) i round).moment ≤ b.moment) (get_or_push rounds round round (length rounds) refl) (h i (length rounds) round (omega (arith, within)) (omega (arith, length_push rounds round)))))
+
+-- another last round at the same moment
+sorted_same : (rounds : List RoundText) (round other : RoundText) → round.moment ≡ other.moment → Sorted (rounds ++ round ∷ []) → Sorted (rounds ++ other ∷ [])
+sorted_same rounds round other same h = sorted_push rounds other (sorted_front rounds round h) (subst (λ m. All (NotAfter m) rounds) same (sorted_last rounds round h))
 
 -- ---- handles, with the last round apart
 
@@ -201,31 +233,82 @@ one_registered old new before round kind key last grown =
 pub none_registered : (old new : ScriptText) (call : CallLine) → AddsCall old call new → registered new ≡ registered old
 none_registered old new call h = ap (λ (s : ScriptText). registered s) h.grown ∙ same_registered h.before (record h.round { calls = h.round.calls ++ call ∷ [] }) h.round refl ∙ ap (flat_map registered_in) (sym h.last)
 
+-- the setup line that describes registers nothing
+abbrev registrations_of : SetupLine → List Registration
+registrations_of (Register kind key) = record { kind = kind; key = key } ∷ []
+registrations_of (Describe kind name unit text) = []
+
+-- what a setup line registers stands behind the others
+setup_registered : (old new : ScriptText) (setup : SetupLine) → SetsUp old setup new → registered new ≡ registered old ++ registrations_of setup
+setup_registered old new (Register kind key) h = one_registered old new h.before h.round kind key h.last h.grown
+setup_registered old new (Describe kind name unit text) h =
+    ap (λ (s : ScriptText). registered s) h.grown
+    ∙ registered_push h.before (record h.round { setup = h.round.setup ++ Describe kind name unit text ∷ [] })
+    ∙ ap (λ rs. flat_map registered_in h.before ++ rs) (filter_map-append registration_of h.round.setup (Describe kind name unit text ∷ []) ∙ append-nil (registered_in h.round))
+    ∙ sym (registered_push h.before h.round) ∙ ap (flat_map registered_in) (sym h.last) ∙ sym (append-nil (registered old))
+
+-- a round line registers nothing
+pub round_registered : (old new : ScriptText) (moment : ℕ) → BeginsRound old moment new → registered new ≡ registered old
+round_registered old new moment h = ap (λ (s : ScriptText). registered s) h.grown ∙ registered_push old.rounds (record { moment = moment; setup = []; calls = [] }) ∙ append-nil (registered old)
+
 -- ---- one more line
 
-next_settings : (old new : ScriptText) (says : ScriptLine) → IsNext old says new → new.settings ≡ old.settings
-next_settings old new (Round moment) h = ap (λ (s : ScriptText). s.settings) h.grown
-next_settings old new (Setup setup) h = ap (λ (s : ScriptText). s.settings) h.grown
-next_settings old new (CallOf call) h = ap (λ (s : ScriptText). s.settings) h.grown
+-- the settings but for global labels are those of a script without header lines
+next_settings : (old new : ScriptText) (says : ScriptLine) → IsNext old says new → old.settings ≡ only_globals old.settings.globals → new.settings ≡ only_globals new.settings.globals
+next_settings old new (Global label) h plain =
+    let given : new.settings ≡ only_globals (old.settings.globals ++ label ∷ []) = ap (λ (s : ScriptText). s.settings) h.grown ∙ ap (λ (s : SettingsText). record s { globals = old.settings.globals ++ label ∷ [] }) plain in
+    given ∙ ap only_globals (sym (ap (λ (s : SettingsText). s.globals) given))
+next_settings old new (Round moment) h plain = subst (λ (s : SettingsText). s ≡ only_globals s.globals) (sym (ap (λ (s : ScriptText). s.settings) h.grown)) plain
+next_settings old new (Setup setup) h plain = subst (λ (s : SettingsText). s ≡ only_globals s.globals) (sym (ap (λ (s : ScriptText). s.settings) h.grown)) plain
+next_settings old new (CallOf call) h plain = subst (λ (s : SettingsText). s ≡ only_globals s.globals) (sym (ap (λ (s : ScriptText). s.settings) h.grown)) plain
 
 same_length : {A : Type 0} (xs : List A) (x y : A) → length (xs ++ x ∷ []) ≡ length (xs ++ y ∷ [])
 same_length xs x y = length_push xs x ∙ sym (length_push xs y)
 
-next_rounds : (old new : ScriptText) (says : ScriptLine) → IsNext old says new → length old.rounds ≤ 1 → length new.rounds ≤ 1
-next_rounds old new (Round moment) h few = let e : length new.rounds ≡ 1 = ap (λ (s : ScriptText). length s.rounds) h.grown in omega arith
-next_rounds old new (Setup setup) h few =
-    let e : length new.rounds ≡ length old.rounds = ap (λ (s : ScriptText). length s.rounds) h.grown ∙ same_length h.before (record h.round { setup = h.round.setup ++ setup ∷ [] }) h.round ∙ ap length (sym h.last) in omega arith
-next_rounds old new (CallOf call) h few =
-    let e : length new.rounds ≡ length old.rounds = ap (λ (s : ScriptText). length s.rounds) h.grown ∙ same_length h.before (record h.round { calls = h.round.calls ++ call ∷ [] }) h.round ∙ ap length (sym h.last) in omega arith
+-- without rounds there are no moments, handles and registrations to speak of
+new_no_rounds : (old new : ScriptText) (label : LabelText) → AddsGlobal old label new → new.rounds ≡ []
+new_no_rounds old new label h = ap (λ (s : ScriptText). s.rounds) h.grown ∙ h.no_round
+
+no_moments : (rounds : List RoundText) → rounds ≡ [] → Sorted rounds
+no_moments rounds none = IsNonDecreasingBy-short (λ (r : RoundText). r.moment) rounds (omega (arith, ap length none))
+
+no_pairs : (R : Registration → Registration → Type 0) (rs : List Registration) → rs ≡ [] → AllPairs R rs
+no_pairs R rs none = λ i j d before within. absurd (omega (arith, within, ap length none))
+
+next_moments : (old new : ScriptText) (says : ScriptLine) → IsNext old says new → Sorted old.rounds → Sorted new.rounds
+next_moments old new (Global label) h sorted = no_moments new.rounds (new_no_rounds old new label h)
+next_moments old new (Round moment) h sorted = subst (λ (s : ScriptText). Sorted s.rounds) (sym h.grown) (sorted_push old.rounds (record { moment = moment; setup = []; calls = [] }) sorted h.not_before)
+next_moments old new (Setup setup) h sorted = subst (λ (s : ScriptText). Sorted s.rounds) (sym h.grown) (sorted_same h.before h.round (record h.round { setup = h.round.setup ++ setup ∷ [] }) refl (subst Sorted h.last sorted))
+next_moments old new (CallOf call) h sorted = subst (λ (s : ScriptText). Sorted s.rounds) (sym h.grown) (sorted_same h.before h.round (record h.round { calls = h.round.calls ++ call ∷ [] }) refl (subst Sorted h.last sorted))
 
 next_registrations : (old new : ScriptText) (says : ScriptLine) → IsNext old says new → length (registered old) ≤ 1000000 → length (registered new) ≤ 1000000
-next_registrations old new (Round moment) h few = let e : length (registered new) ≡ 0 = ap (λ (s : ScriptText). length (registered s)) h.grown in omega arith
+next_registrations old new (Global label) h few = let e : length (registered new) ≡ 0 = ap (λ rs. length (flat_map registered_in rs)) (new_no_rounds old new label h) in omega arith
+next_registrations old new (Round moment) h few = omega (arith, few, ap length (round_registered old new moment h))
 next_registrations old new (Setup setup) h few = h.room
 next_registrations old new (CallOf call) h few =
     let e : length (registered new) ≡ length (registered old) = ap length (none_registered old new call h) in omega arith
 
+abbrev Apart : ScriptText → List Registration → Type 0
+Apart s rs = AllPairs (PrintApart (global_labels s.settings)) rs
+
+same_apart : (old new : ScriptText) → new.settings ≡ old.settings → registered new ≡ registered old → Apart old (registered old) → Apart new (registered new)
+same_apart old new settings same apart = subst (λ (s : SettingsText). AllPairs (PrintApart (global_labels s)) (registered new)) (sym settings) (subst (Apart old) (sym same) apart)
+
+next_heads : (old new : ScriptText) (says : ScriptLine) → IsNext old says new → Apart old (registered old) → Apart new (registered new)
+next_heads old new (Global label) h apart = no_pairs (PrintApart (global_labels new.settings)) (registered new) (ap (flat_map registered_in) (new_no_rounds old new label h))
+next_heads old new (Round moment) h apart = same_apart old new (ap (λ (s : ScriptText). s.settings) h.grown) (round_registered old new moment h) apart
+next_heads old new (Setup (Describe kind name unit text)) h apart =
+    same_apart old new (ap (λ (s : ScriptText). s.settings) h.grown) (setup_registered old new (Describe kind name unit text) h ∙ append-nil (registered old)) apart
+next_heads old new (Setup (Register kind key)) h apart =
+    subst (λ (s : SettingsText). AllPairs (PrintApart (global_labels s)) (registered new)) (sym (ap (λ (s : ScriptText). s.settings) h.grown))
+    (subst (Apart old) (sym (setup_registered old new (Register kind key) h)) (pairs_push (PrintApart (global_labels old.settings)) (registered old) (record { kind = kind; key = key }) apart h.apart))
+next_heads old new (CallOf call) h apart = same_apart old new (ap (λ (s : ScriptText). s.settings) h.grown) (none_registered old new call h) apart
+
 next_handles : (old new : ScriptText) (says : ScriptLine) → IsNext old says new → HaveHandles [] old.rounds → HaveHandles [] new.rounds
-next_handles old new (Round moment) h handles = subst (λ (s : ScriptText). HaveHandles [] s.rounds) (sym h.grown) (All-nil (HasHandle []), tt)
+next_handles old new (Global label) h handles = subst (HaveHandles []) (sym (new_no_rounds old new label h)) tt
+next_handles old new (Round moment) h handles =
+    let round : RoundText = record { moment = moment; setup = []; calls = [] } in
+    subst (λ (s : ScriptText). HaveHandles [] s.rounds) (sym h.grown) (handles_push [] old.rounds round handles (All-nil (HasHandle (flat_map registered_in (old.rounds ++ round ∷ [])))))
 next_handles old new (Setup setup) h handles =
     let parts = handles_last [] h.before h.round (subst (HaveHandles []) h.last handles) in
     let round : RoundText = record h.round { setup = h.round.setup ++ setup ∷ [] } in
@@ -243,9 +326,18 @@ next_handles old new (CallOf call) h handles =
 -- behind the lines of a valid script its next line makes a valid script
 pub next_valid : (lines : List (List ℕ)) (line : List ℕ) (old new : ScriptText) (says : ScriptLine) → Valid lines old → IsLine line says → IsNext old says new → Valid (lines ++ line ∷ []) new
 next_valid lines line old new says h is_line next =
-    let each : AllZip IsLine (lines ++ line ∷ []) (lines_said new.rounds) = subst (AllZip IsLine (lines ++ line ∷ [])) (sym (next_said old new says next)) (zip_push IsLine lines (lines_said old.rounds) line says h.0.each is_line) in
-    let script : IsScript (lines ++ line ∷ []) new = record { settings = next_settings old new says next ∙ h.0.settings; rounds = next_rounds old new says next h.0.rounds; each = each } in
-    (script, valid_from (lines ++ line ∷ []) new script (next_handles old new says next h.1.handles) (next_registrations old new says next h.1.registrations))
+    let each : AllZip IsLine (lines ++ line ∷ []) (script_lines new) = subst (AllZip IsLine (lines ++ line ∷ [])) (sym (next_said old new says next)) (zip_push IsLine lines (script_lines old) line says h.0.each is_line) in
+    let script : IsScript (lines ++ line ∷ []) new = record { settings = next_settings old new says next h.0.settings; each = each } in
+    (
+      script,
+      record {
+        moments = next_moments old new says next h.1.moments;
+        handles = next_handles old new says next h.1.handles;
+        registrations = next_registrations old new says next h.1.registrations;
+        samples = omega (arith, script_plain (lines ++ line ∷ []) new script);
+        heads = next_heads old new says next h.1.heads;
+      },
+    )
 
 -- ---- the last line
 
@@ -257,24 +349,30 @@ pub record Last (lines : List (List ℕ)) (line : List ℕ) (new : ScriptText) :
   pub is_line : IsLine line says
   pub next : IsNext old says new
 
-make_last : (lines : List (List ℕ)) (line : List ℕ) (new old : ScriptText) (says : ScriptLine) → Valid (lines ++ line ∷ []) new → IsNext old says new → length old.rounds ≤ 1 → HaveHandles [] old.rounds → length (registered old) ≤ 1000000 → Last lines line new
-make_last lines line new old says h next few handles registrations =
-    let each = zip_last IsLine lines (lines_said old.rounds) line says (subst (AllZip IsLine (lines ++ line ∷ [])) (next_said old new says next) h.0.each) in
-    let script : IsScript lines old = record { settings = sym (next_settings old new says next) ∙ h.0.settings; rounds = few; each = each.0 } in
-    record { old = old; says = says; valid = (script, valid_from lines old script handles registrations); is_line = each.1; next = next }
+-- what is valid of a script beside its samples
+record Fine (s : ScriptText) : Type 0 where
+  settings : s.settings ≡ only_globals s.settings.globals
+  moments : Sorted s.rounds
+  handles : HaveHandles [] s.rounds
+  registrations : length (registered s) ≤ 1000000
+  heads : Apart s (registered s)
 
-front_all : {A : Type 0} (P : A → Type 0) (xs : List A) (x : A) → All P (xs ++ x ∷ []) → All P xs
-front_all P xs x h = subst (All P) (take_at xs (x ∷ []) (length xs) refl) (All-take P (length xs) (xs ++ x ∷ []) h)
-
-last_all : {A : Type 0} (P : A → Type 0) (xs : List A) (x : A) → All P (xs ++ x ∷ []) → P x
-last_all P xs x h = subst P (get_or_push xs x x (length xs) refl) (All-get_or P (xs ++ x ∷ []) (length xs) x (omega (arith, length_push xs x)) h)
+make_last : (lines : List (List ℕ)) (line : List ℕ) (new old : ScriptText) (says : ScriptLine) → Valid (lines ++ line ∷ []) new → IsNext old says new → Fine old → Last lines line new
+make_last lines line new old says h next fine =
+    let each = zip_last IsLine lines (script_lines old) line says (subst (AllZip IsLine (lines ++ line ∷ [])) (next_said old new says next) h.0.each) in
+    let script : IsScript lines old = record { settings = fine.settings; each = each.0 } in
+    let valid : IsValid old = record { moments = fine.moments; handles = fine.handles; registrations = fine.registrations; samples = omega (arith, script_plain lines old script); heads = fine.heads } in
+    record { old = old; says = says; valid = (script, valid); is_line = each.1; next = next }
 
 module _ (lines : List (List ℕ)) (line : List ℕ) (new : ScriptText) (h : Valid (lines ++ line ∷ []) new) (before : List RoundText) (round : RoundText) (e : new.rounds ≡ before ++ round ∷ []) where
-  few_rounds : length (before ++ round ∷ []) ≤ 1
-  few_rounds = subst (λ rs. length rs ≤ 1) e h.0.rounds
-
   few_registered : length (flat_map registered_in (before ++ round ∷ [])) ≤ 1000000
   few_registered = subst (λ rs. length (flat_map registered_in rs) ≤ 1000000) e h.1.registrations
+
+  sorted : Sorted (before ++ round ∷ [])
+  sorted = subst Sorted e h.1.moments
+
+  apart : Apart new (flat_map registered_in (before ++ round ∷ []))
+  apart = subst (λ rs. Apart new (flat_map registered_in rs)) e h.1.heads
 
   last_call : (calls : List CallLine) (call : CallLine) → round.calls ≡ calls ++ call ∷ [] → Last lines line new
   last_call calls call f =
@@ -291,34 +389,59 @@ module _ (lines : List (List ℕ)) (line : List ℕ) (new : ScriptText) (h : Val
         grown = ap (λ rs. record new { rounds = rs }) (e ∙ ap (λ cs. before ++ record round { calls = cs } ∷ []) f);
         handle = last_all P calls call all;
       } in
-      make_last lines line new old (CallOf call) h next (omega (arith, few_rounds, same_length before round earlier)) (handles_push [] before earlier parts.0 (front_all P calls call all)) (omega (arith, few_registered, ap length same))
+      make_last lines line new old (CallOf call) h next
+      (record {
+        settings = h.0.settings;
+        moments = sorted_same before round earlier refl sorted;
+        handles = handles_push [] before earlier parts.0 (front_all P calls call all);
+        registrations = omega (arith, few_registered, ap length same);
+        heads = subst (Apart new) same apart;
+      })
 
   last_setup : (setup : List SetupLine) (last : SetupLine) → round.calls ≡ [] → round.setup ≡ setup ++ last ∷ [] → Last lines line new
   last_setup setup last g f =
       let earlier : RoundText = record { moment = round.moment; setup = setup; calls = [] } in
       let old : ScriptText = record new { rounds = before ++ earlier ∷ [] } in
       let parts = handles_last [] before round (subst (HaveHandles []) e h.1.handles) in
-      let next : SetsUp old last new = record {
-        before = before;
-        round = earlier;
-        last = refl;
-        no_call = refl;
-        grown = ap (λ rs. record new { rounds = rs }) (e ∙ ap (λ s. before ++ record round { setup = s } ∷ []) f ∙ ap (λ cs. before ++ record { moment = round.moment; setup = setup ++ last ∷ []; calls = cs } ∷ []) g);
-        room = h.1.registrations;
-      } in
-      let fewer : length (registered old) ≤ length (flat_map registered_in (before ++ round ∷ [])) =
-      omega (arith, ap length (registered_push before earlier), ap length (registered_push before round), length-append (flat_map registered_in before) (filter_map registration_of setup), length-append (flat_map registered_in before) (registered_in round), ap length (ap (filter_map registration_of) f ∙ filter_map-append registration_of setup (last ∷ [])), length-append (filter_map registration_of setup) (filter_map registration_of (last ∷ []))) in
-      make_last lines line new old (Setup last) h next (omega (arith, few_rounds, same_length before round earlier)) (handles_push [] before earlier parts.0 (All-nil (HasHandle (registered old)))) (omega (arith, few_registered, fewer))
+      let grown : new ≡ record old { rounds = before ++ record earlier { setup = setup ++ last ∷ [] } ∷ [] } =
+      ap (λ rs. record new { rounds = rs }) (e ∙ ap (λ s. before ++ record round { setup = s } ∷ []) f ∙ ap (λ cs. before ++ record { moment = round.moment; setup = setup ++ last ∷ []; calls = cs } ∷ []) g) in
+      let all_registered : flat_map registered_in (before ++ round ∷ []) ≡ registered old ++ filter_map registration_of (last ∷ []) =
+      registered_push before round ∙ ap (λ s. flat_map registered_in before ++ filter_map registration_of s) f
+      ∙ ap (λ rs. flat_map registered_in before ++ rs) (filter_map-append registration_of setup (last ∷ []))
+      ∙ sym (append_assoc (flat_map registered_in before) (filter_map registration_of setup) (filter_map registration_of (last ∷ [])))
+      ∙ ap (λ rs. rs ++ filter_map registration_of (last ∷ [])) (sym (registered_push before earlier)) in
+      let both = heads_split last (registered old) (subst (Apart new) all_registered apart) in
+      let next : SetsUp old last new = record { before = before; round = earlier; last = refl; no_call = refl; grown = grown; room = h.1.registrations; apart = both.1 } in
+      make_last lines line new old (Setup last) h next
+      (record {
+        settings = h.0.settings;
+        moments = sorted_same before round earlier refl sorted;
+        handles = handles_push [] before earlier parts.0 (All-nil (HasHandle (registered old)));
+        registrations = omega (arith, few_registered, ap length all_registered, length-append (registered old) (filter_map registration_of (last ∷ [])));
+        heads = both.0;
+      })
+    where
+      heads_split : (last : SetupLine) (rs : List Registration) → Apart new (rs ++ filter_map registration_of (last ∷ [])) → Apart new rs × IfSome (registration_of last) (λ n. All (λ r. PrintApart (global_labels new.settings) r n) rs)
+      heads_split (Register kind key) rs pairs = (pairs_front (PrintApart (global_labels new.settings)) rs (record { kind = kind; key = key }) pairs, pairs_last (PrintApart (global_labels new.settings)) rs (record { kind = kind; key = key }) pairs)
+      heads_split (Describe kind name unit text) rs pairs = (subst (Apart new) (append-nil rs) pairs, tt)
 
   last_round : round.calls ≡ [] → round.setup ≡ [] → Last lines line new
   last_round g f =
-      let none : before ≡ [] = nil_from_length before (omega (arith, few_rounds, length_push before round)) in
-      let old : ScriptText = record new { rounds = [] } in
+      let old : ScriptText = record new { rounds = before } in
+      let parts = handles_last [] before round (subst (HaveHandles []) e h.1.handles) in
+      let same : flat_map registered_in (before ++ round ∷ []) ≡ registered old = registered_push before round ∙ ap (λ s. flat_map registered_in before ++ filter_map registration_of s) f ∙ append-nil (flat_map registered_in before) in
       let next : BeginsRound old round.moment new = record {
-        first = refl;
-        grown = ap (λ rs. record new { rounds = rs }) (e ∙ ap (λ b. b ++ round ∷ []) none ∙ ap (λ s. record round { setup = s } ∷ []) f ∙ ap (λ cs. record { moment = round.moment; setup = []; calls = cs } ∷ []) g);
+        not_before = sorted_last before round sorted;
+        grown = ap (λ rs. record new { rounds = rs }) (e ∙ ap (λ s. before ++ record round { setup = s } ∷ []) f ∙ ap (λ cs. before ++ record { moment = round.moment; setup = []; calls = cs } ∷ []) g);
       } in
-      make_last lines line new old (Round round.moment) h next (lit≤ tt) tt (lit≤ tt)
+      make_last lines line new old (Round round.moment) h next
+      (record {
+        settings = h.0.settings;
+        moments = sorted_front before round sorted;
+        handles = parts.0;
+        registrations = omega (arith, few_registered, ap length same);
+        heads = subst (Apart new) same apart;
+      })
 
   last_of_round : Last lines line new
   last_of_round =
@@ -327,16 +450,26 @@ module _ (lines : List (List ℕ)) (line : List ℕ) (new : ScriptText) (h : Val
         | inl g ↦ elim (last_of round.setup) [ inr (setup, last, f) ↦ last_setup setup last g f | inl f ↦ last_round g f ]
       ]
 
+-- without rounds the last line is a global line
+last_global : (lines : List (List ℕ)) (line : List ℕ) (new : ScriptText) → Valid (lines ++ line ∷ []) new → new.rounds ≡ [] → Last lines line new
+last_global lines line new h none =
+    elim (last_of new.settings.globals) [
+      | inl no_global ↦ absurd (zip_no_more IsLine lines line (subst (AllZip IsLine (lines ++ line ∷ [])) (λ j. map Global (no_global j) ++ lines_said (none j)) h.0.each))
+      | inr (globals, label, f) ↦
+          let old : ScriptText = record { settings = only_globals globals; rounds = [] } in
+          let settings : new.settings ≡ only_globals (globals ++ label ∷ []) = h.0.settings ∙ ap only_globals f in
+          let next : AddsGlobal old label new = record { no_round = refl; grown = λ j. record { settings = settings j; rounds = none j } } in
+          make_last lines line new old (Global label) h next (record { settings = refl; moments = no_moments [] refl; handles = tt; registrations = lit≤ tt; heads = no_pairs (PrintApart (global_labels old.settings)) [] refl })
+    ]
+
 pub last_line : (lines : List (List ℕ)) (line : List ℕ) (new : ScriptText) → Valid (lines ++ line ∷ []) new → Last lines line new
 last_line lines line new h =
-    elim (last_of new.rounds) [
-      | inl e ↦ absurd (zip_no_more IsLine lines line (subst (λ rs. AllZip IsLine (lines ++ line ∷ []) (lines_said rs)) e h.0.each))
-      | inr (before, round, e) ↦ last_of_round lines line new h before round e
-    ]
+    elim (last_of new.rounds) [ inl e ↦ last_global lines line new h e | inr (before, round, e) ↦ last_of_round lines line new h before round e ]
 
 -- ---- lines are one script at most
 
 next_one : (old : ScriptText) (says : ScriptLine) (new other : ScriptText) → IsNext old says new → IsNext old says other → new ≡ other
+next_one old (Global label) new other a b = a.grown ∙ sym b.grown
 next_one old (Round moment) new other a b = a.grown ∙ sym b.grown
 next_one old (Setup setup) new other a b =
     let same = same_from_push a.before b.before a.round b.round (sym a.last ∙ b.last) in
@@ -349,8 +482,14 @@ no_rounds : (rounds : List RoundText) → AllZip IsLine [] (lines_said rounds) �
 no_rounds [] h = refl
 no_rounds (r ∷ rounds) h = absurd h
 
-no_lines : (script : ScriptText) → IsScript [] script → script ≡ record { settings = no_settings; rounds = [] }
-no_lines script h = ap (λ (s : SettingsText). record script { settings = s }) h.settings ∙ ap (λ rs. record { settings = no_settings; rounds = rs }) (no_rounds script.rounds h.each)
+no_globals : (globals : List LabelText) (says : List ScriptLine) → AllZip IsLine [] (map Global globals ++ says) → (globals ≡ []) × AllZip IsLine [] says
+no_globals [] says h = (refl, h)
+no_globals (l ∷ globals) says h = absurd h
+
+no_lines : (script : ScriptText) → IsScript [] script → script ≡ record { settings = only_globals []; rounds = [] }
+no_lines script h =
+    let none = no_globals script.settings.globals (lines_said script.rounds) h.each in
+    (λ j. record { settings = (h.settings ∙ ap only_globals none.0) j; rounds = no_rounds script.rounds none.1 j })
 
 one_script_of : (n : ℕ) (lines : List (List ℕ)) (s t : ScriptText) → length lines ≡ n → Valid lines s → Valid lines t → s ≡ t
 one_script_of zero lines s t len a b =

@@ -1,8 +1,12 @@
 pub mod Fields
-pub mod Names
+pub mod Readers
+pub mod Decimals
+pub mod TextFields
 pub mod Forms
+pub mod Loops
+pub mod HeadSteps
 pub mod Growth
+pub mod Laws
 pub mod Pieces
 pub mod Steps
 pub mod Scripts
-pub mod Laws

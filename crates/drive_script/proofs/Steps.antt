@@ -1,16 +1,19 @@
 -- One step of the progress: the last round with one more line.
 use Rattle.std.proofs.Common.{◌≡◌, ℕ, suc, ◌+◌, ◌-◌, ◌<◌, ◌≤◌, Bool, true, false, List, [], ◌∷◌, ◌++◌, map, length, get_or, set, take, Option, Some, None, refl, sym, ap, ◌∙◌, arith}
 use Rattle.std.specs.Global.{Vec}
-use Rattle.std.specs.Prelude.{slice_get, option_map, Result, Ok, Err, IfOk, OnOk, MatchBool}
+use Rattle.std.specs.Prelude.{slice_get, option_map, Result, Ok, Err, All, IfOk, OnOk, MatchBool}
+use Rattle.std.specs.List.Sorted.{IsNonDecreasingBy}
+use Rattle.std.proofs.lemmas.List.Elements.{All-get_or, All-from_get_or}
+use Rattle.std.proofs.Math.ListN.{get_or-map}
 use Rattle.std.proofs.lemmas.List.{take_all, take_more, set_split, drop_all, map_push, same_from_push, length-map, length_push}
 use Rattle.std.proofs.lemmas.Option.{slice_get_read, slice_get-map, slice_get_within, same_Some}
 use Rattle.metrics_core.specs.Keys.{KeyText}
 use Rattle.metrics_core.specs.declared.kinds.MetricKind.{MetricKind}
 use Rattle.drive_script.specs.Script as text
-use Rattle.drive_script.specs.Script.{ScriptText, no_settings, IsLine}
-use Rattle.drive_script.specs.Valid.{Registration, registered, HasHandle, AreValidLines}
-use Rattle.drive_script.specs.Growth.{SetsUp, AddsCall, IsNext}
-use Rattle.drive_script.specs.Texts.{call_line_of, setup_of, round_of, script_so_far, KnowsKinds, StandsBehind}
+use Rattle.drive_script.specs.Script.{ScriptText, SettingsText, IsLine, global_labels}
+use Rattle.drive_script.specs.Valid.{Registration, registered, HasHandle, PrintApart, AreValidLines}
+use Rattle.drive_script.specs.Growth.{BeginsRound, SetsUp, AddsCall, IsNext}
+use Rattle.drive_script.specs.Texts.{call_line_of, setup_of, round_of, script_so_far, IsKnown, StandsBehind}
 use Rattle.drive_script.specs.declared.progress.Progress.{Progress}
 use Rattle.drive_script.specs.declared.script.CallLine.{CallLine}
 use Rattle.drive_script.specs.declared.script.Setup.{Setup}
@@ -18,17 +21,17 @@ use Rattle.drive_script.specs.declared.script.Setup.TheVariants as setups
 use Rattle.drive_script.specs.declared.script.Round.{Round}
 use Rattle.drive_script.proofs.Growth.{one_registered, next_valid, only_next}
 
-abbrev with_rounds : List text.RoundText → ScriptText
-with_rounds rounds = record { settings = no_settings; rounds = rounds }
+abbrev with_rounds : SettingsText → List text.RoundText → ScriptText
+with_rounds settings rounds = record { settings = settings; rounds = rounds }
 
 abbrev round_with : ℕ → List text.SetupLine → List text.CallLine → text.RoundText
 round_with moment setup calls = record { moment = moment; setup = setup; calls = calls }
 
--- the script of these rounds
-abbrev pub script_with : List Round → ScriptText
-script_with rounds = record { settings = no_settings; rounds = map round_of rounds }
+-- the script of these settings and rounds
+abbrev pub script_with : SettingsText → List Round → ScriptText
+script_with settings rounds = record { settings = settings; rounds = map round_of rounds }
 
-module _ (rounds : List Round) (n : ℕ) (len : n ≡ length rounds) (some : 0 < n) where
+module _ (settings : SettingsText) (rounds : List Round) (n : ℕ) (len : n ≡ length rounds) (some : 0 < n) where
   last_set : (new : Round) → set rounds (n - 1) new ≡ take (n - 1) rounds ++ new ∷ []
   last_set new = set_split rounds (n - 1) new (omega arith) ∙ ap (λ l. take (n - 1) rounds ++ new ∷ l) (drop_all (suc (n - 1)) rounds (omega arith))
 
@@ -43,40 +46,41 @@ module _ (rounds : List Round) (n : ℕ) (len : n ≡ length rounds) (some : 0 <
     texts_split = ap (map round_of) last_split ∙ map_push round_of (take (n - 1) rounds) round
 
     -- one more call line
-    pub call_added : (calls : Vec CallLine) (call : CallLine) → calls.items ≡ round.calls.items ++ call ∷ [] → HasHandle (registered (script_with rounds)) (call_line_of call)
-        → AddsCall (script_with rounds) (call_line_of call) (script_with (set rounds (n - 1) (record { moment = round.moment; setup = round.setup; calls = calls })))
+    pub call_added : (calls : Vec CallLine) (call : CallLine) → calls.items ≡ round.calls.items ++ call ∷ [] → HasHandle (registered (script_with settings rounds)) (call_line_of call)
+        → AddsCall (script_with settings rounds) (call_line_of call) (script_with settings (set rounds (n - 1) (record { moment = round.moment; setup = round.setup; calls = calls })))
     call_added calls call e handle =
-        let with_calls = λ (cs : List text.CallLine). with_rounds (map round_of (take (n - 1) rounds) ++ round_with round.moment (map setup_of round.setup.items) cs ∷ []) in
+        let with_calls = λ (cs : List text.CallLine). with_rounds settings (map round_of (take (n - 1) rounds) ++ round_with round.moment (map setup_of round.setup.items) cs ∷ []) in
         record {
           before = map round_of (take (n - 1) rounds);
           round = round_of round;
           last = texts_split;
-          grown = ap with_rounds (texts_set (record { moment = round.moment; setup = round.setup; calls = calls })) ∙ ap with_calls (ap (map call_line_of) e ∙ map_push call_line_of round.calls.items call);
+          grown = ap (with_rounds settings) (texts_set (record { moment = round.moment; setup = round.setup; calls = calls })) ∙ ap with_calls (ap (map call_line_of) e ∙ map_push call_line_of round.calls.items call);
           handle = handle;
         }
 
     -- one more register line
     module _ (setup : Vec Setup) (kind : MetricKind) (key : KeyText) (e : setup.items ≡ round.setup.items ++ setups.Register kind key ∷ []) (no_call : round.calls.items ≡ []) where
-      grown : script_with (set rounds (n - 1) (record { moment = round.moment; setup = setup; calls = round.calls })) ≡ record { settings = no_settings; rounds = map round_of (take (n - 1) rounds) ++ record (round_of round) { setup = map setup_of round.setup.items ++ text.Register kind key ∷ [] } ∷ [] }
+      grown : script_with settings (set rounds (n - 1) (record { moment = round.moment; setup = setup; calls = round.calls })) ≡ record { settings = settings; rounds = map round_of (take (n - 1) rounds) ++ record (round_of round) { setup = map setup_of round.setup.items ++ text.Register kind key ∷ [] } ∷ [] }
       grown =
-          let with_setup = λ (ss : List text.SetupLine). with_rounds (map round_of (take (n - 1) rounds) ++ round_with round.moment ss (map call_line_of round.calls.items) ∷ []) in
-          ap with_rounds (texts_set (record { moment = round.moment; setup = setup; calls = round.calls })) ∙ ap with_setup (ap (map setup_of) e ∙ map_push setup_of round.setup.items (setups.Register kind key))
+          let with_setup = λ (ss : List text.SetupLine). with_rounds settings (map round_of (take (n - 1) rounds) ++ round_with round.moment ss (map call_line_of round.calls.items) ∷ []) in
+          ap (with_rounds settings) (texts_set (record { moment = round.moment; setup = setup; calls = round.calls })) ∙ ap with_setup (ap (map setup_of) e ∙ map_push setup_of round.setup.items (setups.Register kind key))
 
-      pub key_registered : registered (script_with (set rounds (n - 1) (record { moment = round.moment; setup = setup; calls = round.calls }))) ≡ registered (script_with rounds) ++ record { kind = kind; key = key } ∷ []
-      key_registered = one_registered (script_with rounds) (script_with (set rounds (n - 1) (record { moment = round.moment; setup = setup; calls = round.calls }))) (map round_of (take (n - 1) rounds)) (round_of round) kind key texts_split grown
+      pub key_registered : registered (script_with settings (set rounds (n - 1) (record { moment = round.moment; setup = setup; calls = round.calls }))) ≡ registered (script_with settings rounds) ++ record { kind = kind; key = key } ∷ []
+      key_registered = one_registered (script_with settings rounds) (script_with settings (set rounds (n - 1) (record { moment = round.moment; setup = setup; calls = round.calls }))) (map round_of (take (n - 1) rounds)) (round_of round) kind key texts_split grown
 
-      pub register_added : length (registered (script_with rounds)) < 1000000 → SetsUp (script_with rounds) (text.Register kind key) (script_with (set rounds (n - 1) (record { moment = round.moment; setup = setup; calls = round.calls })))
-      register_added room = record {
+      pub register_added : length (registered (script_with settings rounds)) < 1000000 → All (λ r. PrintApart (global_labels settings) r (record { kind = kind; key = key })) (registered (script_with settings rounds)) → SetsUp (script_with settings rounds) (text.Register kind key) (script_with settings (set rounds (n - 1) (record { moment = round.moment; setup = setup; calls = round.calls })))
+      register_added room apart = record {
         before = map round_of (take (n - 1) rounds);
         round = round_of round;
         last = texts_split;
         no_call = ap (map call_line_of) no_call;
         grown = grown;
-        room = omega (arith, ap length key_registered, length_push (registered (script_with rounds)) (record { kind = kind; key = key }));
+        apart = apart;
+        room = omega (arith, ap length key_registered, length_push (registered (script_with settings rounds)) (record { kind = kind; key = key }));
       }
 
     -- behind a call line nothing is set up
-    pub calls_stand : (setup : text.SetupLine) (new : ScriptText) → 0 < length round.calls.items → SetsUp (script_with rounds) setup new → ⊥
+    pub calls_stand : (setup : text.SetupLine) (new : ScriptText) → 0 < length round.calls.items → SetsUp (script_with settings rounds) setup new → ⊥
     calls_stand setup new some_call h =
         let same = same_from_push (map round_of (take (n - 1) rounds)) h.before (round_of round) h.round (sym texts_split ∙ h.last) in
         let none : map call_line_of round.calls.items ≡ [] = ap (λ (r : text.RoundText). r.calls) same.1 ∙ h.no_call in
@@ -85,6 +89,35 @@ module _ (rounds : List Round) (n : ℕ) (len : n ≡ length rounds) (some : 0 <
 -- 1,000,000 register lines are the most
 pub register_full : (old new : ScriptText) (kind : MetricKind) (key : KeyText) → 1000000 ≤ length (registered old) → SetsUp old (text.Register kind key) new → ⊥
 register_full old new kind key full h = omega (arith, h.room, ap length (one_registered old new h.before h.round kind key h.last h.grown), length_push (registered old) (record { kind = kind; key = key }))
+
+-- ---- rounds
+
+-- a round begins behind the others
+pub round_begun : (settings : SettingsText) (rounds : List Round) (round : Round) → round.setup.items ≡ [] → round.calls.items ≡ [] → All (λ (r : text.RoundText). r.moment ≤ round.moment) (map round_of rounds)
+    → BeginsRound (script_with settings rounds) round.moment (script_with settings (rounds ++ round ∷ []))
+round_begun settings rounds round no_setup no_calls not_before = record {
+  not_before = not_before;
+  grown = ap (with_rounds settings) (map_push round_of rounds round ∙ (λ j. map round_of rounds ++ round_with round.moment (map setup_of (no_setup j)) (map call_line_of (no_calls j)) ∷ []));
+}
+
+-- moments that do not fall are not after one that the last is not after
+pub none_after : (rounds : List Round) (n : ℕ) (round : Round) (moment : ℕ) → n ≡ length rounds → 0 < n → round ≡ get_or rounds (n - 1) round → IsNonDecreasingBy (λ (r : text.RoundText). r.moment) (map round_of rounds) → round.moment ≤ moment
+    → All (λ (r : text.RoundText). r.moment ≤ moment) (map round_of rounds)
+none_after rounds n round moment len some last sorted within =
+    All-from_get_or (λ (r : text.RoundText). r.moment ≤ moment) (map round_of rounds) (round_of round)
+    (λ i inside.
+        let count : length (map round_of rounds) ≡ n = length-map rounds round_of ∙ sym len in
+        let end : get_or (map round_of rounds) (n - 1) (round_of round) ≡ round_of round = get_or-map round_of rounds (n - 1) round ∙ ap round_of (sym last) in
+        let below = sorted i (n - 1) (round_of round) (omega (arith, inside, count)) (omega (arith, count, some)) in
+        omega (arith, below, within, ap (λ (r : text.RoundText). r.moment) end))
+
+-- a round does not begin before the last one
+pub no_earlier : (settings : SettingsText) (rounds : List Round) (n : ℕ) (round : Round) (moment : ℕ) (new : ScriptText) → n ≡ length rounds → 0 < n → round ≡ get_or rounds (n - 1) round → moment < round.moment → BeginsRound (script_with settings rounds) moment new → ⊥
+no_earlier settings rounds n round moment new len some last earlier h =
+    let count : length (map round_of rounds) ≡ n = length-map rounds round_of ∙ sym len in
+    let end : get_or (map round_of rounds) (n - 1) (round_of round) ≡ round_of round = get_or-map round_of rounds (n - 1) round ∙ ap round_of (sym last) in
+    let below = All-get_or (λ (r : text.RoundText). r.moment ≤ moment) (map round_of rounds) (n - 1) (round_of round) (omega (arith, count, some)) h.not_before in
+    omega (arith, below, earlier, ap (λ (r : text.RoundText). r.moment) end)
 
 -- ---- the kinds of the register lines
 
@@ -113,11 +146,11 @@ no_handle rs kinds place wanted knows past h =
 -- ---- one line
 
 -- what a step says of the script, said of the lines
-pub step_taken : {E : Type 0} (lines : List (List ℕ)) (line : List ℕ) (old new : Progress) (says : text.ScriptLine) (r : Result Bool E) → StandsBehind lines old → IsLine line says → OnOk r (KnowsKinds new)
-    → IfOk r (λ taken. MatchBool taken (IsNext (script_so_far old) says (script_so_far new)) ((t : ScriptText) → ¬ IsNext (script_so_far old) says t))
+pub step_taken : {E : Type 0} (lines : List (List ℕ)) (line : List ℕ) (old new : Progress) (says : text.ScriptLine) (r : Result Bool E) → StandsBehind lines old → IsLine line says
+    → IfOk r (λ taken. MatchBool taken (IsNext (script_so_far old) says (script_so_far new) × IsKnown new) ((t : ScriptText) → ¬ IsNext (script_so_far old) says t))
     → IfOk r (λ taken. MatchBool taken (StandsBehind (lines ++ line ∷ []) new) (¬ AreValidLines (lines ++ line ∷ [])))
-step_taken lines line old new says (Ok true) h is_line knows next =
-    let valid = next_valid lines line (script_so_far old) (script_so_far new) says (h.script, h.valid) is_line next in
-    record { script = valid.0; valid = valid.1; kinds = knows }
-step_taken lines line old new says (Ok false) h is_line knows none = only_next lines line (script_so_far old) says (h.script, h.valid) is_line none
-step_taken lines line old new says (Err e) h is_line knows next = tt
+step_taken lines line old new says (Ok true) h is_line next =
+    let valid = next_valid lines line (script_so_far old) (script_so_far new) says (h.script, h.valid) is_line next.0 in
+    record { script = valid.0; valid = valid.1; known = next.1 }
+step_taken lines line old new says (Ok false) h is_line none = only_next lines line (script_so_far old) says (h.script, h.valid) is_line none
+step_taken lines line old new says (Err e) h is_line next = tt

@@ -2,6 +2,7 @@ pub mod Words
 pub mod Script
 pub mod Reading
 pub mod Valid
+pub mod Heads
 pub mod Growth
 pub mod Faults
 pub mod Texts

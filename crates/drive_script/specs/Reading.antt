@@ -1,21 +1,75 @@
 -- What is read from the front of a line, from left to right. That a line is read as what it says, and as nothing
 -- else, is proved.
-use Rattle.std.specs.Prelude.{ℕ, ◌-◌, ◌^◌, ◌&&◌, nat_le, nat_eq, List, [], ◌∷◌, length, take, drop, Option, Some, None, codes, decimal, bytes_eq, not, ◌==◌, if◌then◌else◌}
+use Rattle.std.specs.Prelude.{ℕ, zero, suc, ◌+◌, ◌-◌, ◌*◌, ◌^◌, ◌&&◌, Bool, true, false, nat_le, nat_eq, List, [], ◌∷◌, length, take, drop, ℤ, Option, Some, None, codes, decimal, bytes_eq, not, ◌==◌, if◌then◌else◌}
 use Rattle.std.specs.Char.{is_ascii_digit}
-use Rattle.std.specs.List.{before_first, starts_with, position_or_len}
+use Rattle.std.specs.List.{starts_with, position_or_len}
+use Rattle.std.specs.Str.{is_utf8}
 use Rattle.std.specs.Str.Parse.{digits_value}
-use Rattle.metrics_core.specs.Characters.{quote}
-use Rattle.prom_format.specs.Names.{is_name, begins_metric_name}
-use Rattle.drive_script.specs.Script.{CallLine, Inc}
+use Rattle.metrics_core.specs.Characters.{quote, backslash, newline, full_stop}
+use Rattle.metrics_core.specs.Keys.{LabelText, KeyText}
+use Rattle.metrics_core.specs.Numbers.{one}
+use Rattle.metrics_core.specs.declared.kinds.MetricKind.{MetricKind}
+use Rattle.metrics_core.specs.declared.kinds.MetricKind.TheVariants as kinds
+use Rattle.drive_script.specs.Words.{signed, greatest}
+use Rattle.drive_script.specs.Script as text
+use Rattle.drive_script.specs.Script.{Act, CallLine, ScriptLine}
+use Rattle.drive_script.specs.declared.lines.Verb.{Verb}
+use Rattle.drive_script.specs.declared.lines.Verb.TheVariants as verbs
 
 infixl 10 ◌>>=◌
 abbrev pub ◌>>=◌ : {A B : Type 0} → Option A → (A → Option B) → Option B
 None >>= f = None
 (Some x) >>= f = f x
 
+infixr 10 ◌or◌
+abbrev pub ◌or◌ : {A : Type 0} → Option A → Option A → Option A
+None or other = other
+(Some x) or other = Some x
+
+-- what is read at the front, and the bytes behind it
+abbrev pub Reader : Type 0 → Type 0
+Reader A = List ℕ → Option (A × List ℕ)
+
+-- one thing, and then another, which may depend on it
+abbrev pub both : {A B : Type 0} → Reader A → (A → Reader B) → Reader (A × B)
+both first second bytes = do
+  a ← first bytes
+  b ← second a.0 a.1
+  Some ((a.0, b.0), b.1)
+
+-- what is read, seen as something else
+abbrev pub seen : {A B : Type 0} → (A → B) → Reader A → Reader B
+seen f read bytes = do
+  a ← read bytes
+  Some (f a.0, a.1)
+
 -- the bytes behind a literal
 unfoldable pub behind : List ℕ → List ℕ → Option (List ℕ)
 behind literal bytes = if starts_with nat_eq bytes literal then Some (drop (length literal) bytes) else None
+
+-- a literal, and then something
+abbrev pub after : {A : Type 0} → List ℕ → Reader A → Reader A
+after literal read bytes = behind literal bytes >>= read
+
+-- a literal that stands for something
+abbrev pub standing : {A : Type 0} → List ℕ → A → Reader A
+standing literal a bytes = do
+  rest ← behind literal bytes
+  Some (a, rest)
+
+-- the end of a line
+abbrev pub end_at : List ℕ → Option (Unit {0})
+end_at [] = Some tt
+end_at (b ∷ bytes) = None
+
+-- what is read to the end of a line
+abbrev pub whole : {A : Type 0} → Reader A → List ℕ → Option A
+whole read line = do
+  a ← read line
+  _ ← end_at a.1
+  Some a.0
+
+-- ---- numbers
 
 -- how many digits stand at the front
 abbrev pub digit_count : List ℕ → ℕ
@@ -26,49 +80,145 @@ abbrev pub number_of : ℕ → List ℕ → Option ℕ
 number_of most digits =
     if bytes_eq (decimal (digits_value 10 digits)) digits && nat_le (digits_value 10 digits) most then Some (digits_value 10 digits) else None
 
--- a number of at most `most`, in all the digits at the front, and the bytes behind it
-unfoldable pub number_at : ℕ → List ℕ → Option (ℕ × List ℕ)
+-- a number of at most `most`, in all the digits at the front
+unfoldable pub number_at : ℕ → Reader ℕ
 number_at most bytes = do
   n ← number_of most (take (digit_count bytes) bytes)
   Some (n, drop (digit_count bytes) bytes)
 
--- a metric name in quotes, and the bytes behind it
-unfoldable pub name_at : List ℕ → Option (List ℕ × List ℕ)
-name_at bytes = do
-  text ← behind (codes "\"") bytes
-  rest ← behind (codes "\"") (drop (position_or_len (λ b. b == quote) text) text)
-  if is_name begins_metric_name (before_first (λ b. b == quote) text) then Some (before_first (λ b. b == quote) text, rest) else None
+-- ---- decimals
 
--- the end of a line
-abbrev pub end_at : List ℕ → Option (Unit {0})
-end_at [] = Some tt
-end_at (b ∷ bytes) = None
+-- how many billionths these digits behind a point are, if they are one to nine
+abbrev pub fraction_of : List ℕ → Option ℕ
+fraction_of digits =
+    if nat_le 1 (length digits) && nat_le (length digits) 9 then Some (digits_value 10 digits * 10 ^ (9 - length digits)) else None
+
+-- the fraction in all the digits behind a point, or none where there is no point
+abbrev pub fraction_behind : Option (List ℕ) → Reader ℕ
+fraction_behind None bytes = Some (0, bytes)
+fraction_behind (Some digits) bytes = do
+  n ← fraction_of (take (digit_count digits) digits)
+  Some (n, drop (digit_count digits) digits)
+
+unfoldable pub fraction_at : Reader ℕ
+fraction_at bytes = fraction_behind (behind (codes ".") bytes) bytes
+
+-- the value of this sign, if it fits
+abbrev pub value_of : Bool → ℕ → Option ℤ
+value_of negative n = if nat_le n (greatest negative) then Some (signed negative n) else None
+
+-- a value behind its sign
+abbrev pub signed_at : Bool → Reader ℤ
+signed_at negative bytes = do
+  parts ← both (number_at 9223372036) (λ _. fraction_at) bytes
+  value ← value_of negative (parts.0.0 * one + parts.0.1)
+  Some (value, parts.1)
+
+abbrev pub sign_behind : Option (List ℕ) → Reader ℤ
+sign_behind None bytes = signed_at false bytes
+sign_behind (Some rest) bytes = signed_at true rest
+
+-- a value
+unfoldable pub fixed_at : Reader ℤ
+fixed_at bytes = sign_behind (behind (codes "-") bytes) bytes
+
+-- ---- texts
+
+-- the character that an escape stands for
+abbrev pub escaped_by : ℕ → Option ℕ
+escaped_by c =
+    if c == backslash then Some backslash else if c == quote then Some quote else if c == 110 then Some newline else None
+
+abbrev pub escape_at : Reader ℕ
+escape_at [] = None
+escape_at (c ∷ bytes) = escaped_by c >>= λ d. Some (d, bytes)
+
+-- the character that begins with a byte: the byte itself, or what the escape with the next one stands for
+abbrev pub character_at : ℕ → Reader ℕ
+character_at c bytes = if c == newline then None else if c == backslash then escape_at bytes else Some (c, bytes)
+
+-- the characters before the next quote, and the bytes behind it; there are at most so many
+abbrev pub some_characters_at : ℕ → Reader (List ℕ)
+some_characters_at most [] = None
+some_characters_at zero (c ∷ bytes) = None
+some_characters_at (suc most) (c ∷ bytes) =
+    if c == quote then Some ([], bytes)
+    else character_at c bytes >>= λ first. some_characters_at most first.1 >>= λ others. Some (first.0 ∷ others.0, others.1)
+
+abbrev pub characters_at : Reader (List ℕ)
+characters_at bytes = some_characters_at (length bytes) bytes
+
+-- characters that are UTF-8
+abbrev pub text_of : List ℕ × List ℕ → Option (List ℕ × List ℕ)
+text_of text = if is_utf8 text.0 then Some text else None
+
+-- a text in quotes
+unfoldable pub text_at : Reader (List ℕ)
+text_at bytes = after (codes "\"") characters_at bytes >>= text_of
+
+-- ---- labels
+
+-- a label
+unfoldable pub label_at : Reader LabelText
+label_at = seen (λ texts. record { key = texts.0; value = texts.1 }) (both text_at (λ _. after (codes "=") text_at))
+
+-- labels up to the end, each behind a space; there are at most so many
+abbrev pub some_labels_at : ℕ → Reader (List LabelText)
+some_labels_at most [] = Some ([], [])
+some_labels_at zero (b ∷ bytes) = None
+some_labels_at (suc most) (b ∷ bytes) =
+    after (codes " ") label_at (b ∷ bytes) >>= λ label. some_labels_at most label.1 >>= λ labels. Some (label.0 ∷ labels.0, labels.1)
+
+unfoldable pub labels_at : Reader (List LabelText)
+labels_at bytes = some_labels_at (length bytes) bytes
+
+-- ---- words
+
+-- what a call line does, before its handle and its argument
+unfoldable pub verb_at : Reader Verb
+verb_at bytes =
+    standing (codes " inc ") verbs.Inc bytes or standing (codes " abs ") verbs.Abs bytes or standing (codes " add ") verbs.Add bytes
+    or standing (codes " sub ") verbs.Sub bytes or standing (codes " set ") verbs.Set bytes
+
+-- the first words of a register line, with a kind that has register lines
+unfoldable pub registered_kind_at : Reader MetricKind
+registered_kind_at bytes =
+    standing (codes "register counter ") kinds.Counter bytes or standing (codes "register gauge ") kinds.Gauge bytes
+
+abbrev pub argument_at : Verb → Reader Act
+argument_at verbs.Inc = seen text.Inc (number_at (2 ^ 64 - 1))
+argument_at verbs.Abs = seen text.Abs (number_at (2 ^ 64 - 1))
+argument_at verbs.Add = seen text.Add fixed_at
+argument_at verbs.Sub = seen text.Sub fixed_at
+argument_at verbs.Set = seen text.Set fixed_at
 
 -- ---- the forms of line
 
+-- a global line
+unfoldable pub global_at : List ℕ → Option LabelText
+global_at line = whole (after (codes "global ") (seen (λ texts. record { key = texts.0; value = texts.1 }) (both text_at (λ _. after (codes " ") text_at)))) line
+
 -- the moment of a round line
 unfoldable pub round_at : List ℕ → Option ℕ
-round_at line = do
-  rest ← behind (codes "round ") line
-  moment ← number_at (2 ^ 64 - 1) rest
-  _ ← end_at moment.1
-  Some moment.0
+round_at line = whole (after (codes "round ") (number_at (2 ^ 64 - 1))) line
 
--- the name that a register line registers a counter under
-unfoldable pub register_at : List ℕ → Option (List ℕ)
-register_at line = do
-  rest ← behind (codes "register counter ") line
-  name ← name_at rest
-  _ ← end_at name.1
-  Some name.0
+-- what a register line registers: a kind, and a key's name and labels
+abbrev pub Registered : Type 0
+Registered = MetricKind × (List ℕ × List LabelText)
+
+unfoldable pub register_at : List ℕ → Option Registered
+register_at line = whole (both registered_kind_at (λ _. both text_at (λ _. labels_at))) line
+
+-- the parts of a call line: its lane, what it does, its handle, its argument
+abbrev pub CallParts : Type 0
+CallParts = ℕ × (Verb × (ℕ × Act))
+
+abbrev pub call_parts_at : Reader CallParts
+call_parts_at = both (number_at 7) (λ _. both verb_at (λ verb. both (number_at (2 ^ 32 - 1)) (λ _. after (codes " ") (argument_at verb))))
+
+abbrev pub call_of_parts : CallParts → CallLine
+call_of_parts parts = record { lane = parts.0; handle = parts.1.1.0; act = parts.1.1.1 }
 
 -- a call line
 unfoldable pub call_at : List ℕ → Option CallLine
-call_at line = do
-  lane ← number_at 0 line
-  act ← behind (codes " inc ") lane.1
-  handle ← number_at (2 ^ 32 - 1) act
-  space ← behind (codes " ") handle.1
-  value ← number_at (2 ^ 64 - 1) space
-  _ ← end_at value.1
-  Some (record { lane = lane.0; handle = handle.0; act = Inc value.0 })
+call_at line = whole (seen call_of_parts call_parts_at) line

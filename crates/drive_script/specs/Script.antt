@@ -5,13 +5,12 @@ use Rattle.metrics_core.specs.declared.kinds.MetricKind.{MetricKind}
 use Rattle.metrics_core.specs.declared.kinds.MetricKind.TheVariants as kinds
 use Rattle.metrics_core.specs.declared.units.Unit.{Unit as UnitOf}
 use Rattle.metrics_core.specs.Characters.{newline}
-use Rattle.metrics_core.specs.Kinds.{KindMask}
-use Rattle.metrics_core.specs.Keys.{LabelText, KeyText}
+use Rattle.metrics_core.specs.Kinds.{KindMask, kind_text}
+use Rattle.metrics_core.specs.Keys.{LabelText, KeyText, label_set}
 use Rattle.metrics_core.specs.Calls.{Call}
 use Rattle.metrics_core.specs.Calls as calls
 use Rattle.prom_format.specs.Matchers.{MatcherText}
-use Rattle.prom_format.specs.Names.{IsMetricName}
-use Rattle.drive_script.specs.Words.{spaced, quoted}
+use Rattle.drive_script.specs.Words.{spaced, IsDec, quoted, label_word, IsLabelUtf8, IsKeyUtf8}
 
 -- ---- scripts
 
@@ -39,9 +38,9 @@ pub record SettingsText : Type 0 where
   pub dsd_globals : List LabelText
   pub dsd_histograms : Bool
 
--- the settings of a script without header lines
-abbrev pub no_settings : SettingsText
-no_settings = record {
+-- the settings of a script without header lines but for these global labels
+abbrev pub only_globals : List LabelText → SettingsText
+only_globals globals = record {
   quantiles = None;
   buckets = None;
   buckets_for = [];
@@ -50,13 +49,17 @@ no_settings = record {
   idle = None;
   naming = false;
   units = false;
-  globals = [];
+  globals = globals;
   dsd_limit = None;
   dsd_aggressive = false;
   dsd_prefix = None;
   dsd_globals = [];
   dsd_histograms = false;
 }
+
+-- the global labels: of those with equal keys the last one's value counts, in the place of the first
+abbrev pub global_labels : SettingsText → List LabelText
+global_labels settings = label_set settings.globals []
 
 -- a line that describes a metric, or registers a series
 pub data SetupLine : Type 0 where
@@ -94,46 +97,59 @@ pub record ScriptText : Type 0 where
 
 -- what one line says
 pub data ScriptLine : Type 0 where
+  Global : LabelText → ScriptLine
   Round : ℕ → ScriptLine
   Setup : SetupLine → ScriptLine
   CallOf : CallLine → ScriptLine
 
--- the words of a setup line: it registers a counter whose name is a metric name
+-- the kinds that have register lines; histograms have none yet
+abbrev pub IsRegistered : MetricKind → Type 0
+IsRegistered kinds.Histogram = ⊥
+IsRegistered _ = Unit {0}
+
+-- the words of a setup line: it registers a series of a kind under a key
 abbrev pub AreSetupWords : List (List ℕ) → SetupLine → Type 0
-AreSetupWords words (Register kinds.Counter key) =
-    IsMetricName key.name × (key.labels ≡ []) × (words ≡ codes "register" ∷ codes "counter" ∷ quoted key.name ∷ [])
+AreSetupWords words (Register kind key) =
+    IsRegistered kind × IsKeyUtf8 key × (words ≡ codes "register" ∷ kind_text kind ∷ quoted key.name ∷ map label_word key.labels)
 AreSetupWords words _ = ⊥
 
--- the words of a call behind its lane: the act, the handle, and the argument
+-- the words of a call behind its lane: the act, the handle, and the argument; acts on histograms have no lines yet
 abbrev pub AreActWords : List (List ℕ) → ℕ → Act → Type 0
 AreActWords words handle (Inc n) = (n < 2 ^ 64) × (words ≡ codes "inc" ∷ decimal handle ∷ decimal n ∷ [])
+AreActWords words handle (Abs n) = (n < 2 ^ 64) × (words ≡ codes "abs" ∷ decimal handle ∷ decimal n ∷ [])
+AreActWords words handle (Add v) = (dec : List ℕ) × IsDec dec v × (words ≡ codes "add" ∷ decimal handle ∷ dec ∷ [])
+AreActWords words handle (Sub v) = (dec : List ℕ) × IsDec dec v × (words ≡ codes "sub" ∷ decimal handle ∷ dec ∷ [])
+AreActWords words handle (Set v) = (dec : List ℕ) × IsDec dec v × (words ≡ codes "set" ∷ decimal handle ∷ dec ∷ [])
 AreActWords words handle _ = ⊥
 
--- the words of each form of line; the one lane is 0
+-- the words of each form of line; lanes are 0 to 7
 abbrev pub AreWords : List (List ℕ) → ScriptLine → Type 0
+AreWords words (Global label) = IsLabelUtf8 label × (words ≡ codes "global" ∷ quoted label.key ∷ quoted label.value ∷ [])
 AreWords words (Round moment) = (moment < 2 ^ 64) × (words ≡ codes "round" ∷ decimal moment ∷ [])
 AreWords words (Setup setup) = AreSetupWords words setup
 AreWords words (CallOf call) =
-    (rest : List (List ℕ)) × AreActWords rest call.handle call.act × (call.lane ≡ 0) × (call.handle < 2 ^ 32) × (words ≡ decimal call.lane ∷ rest)
+    (rest : List (List ℕ)) × AreActWords rest call.handle call.act × (call.lane < 8) × (call.handle < 2 ^ 32) × (words ≡ decimal call.lane ∷ rest)
 
--- a line is UTF-8, and its words stand one space apart
+-- the words of a line stand one space apart
 pub record IsLine (bytes : List ℕ) (says : ScriptLine) : Type 0 where
   pub words : List (List ℕ)
   pub formed : AreWords words says
   pub spelled : bytes ≡ spaced words
-  pub utf8 : IsUtf8 bytes
 
 -- ---- the lines of a script
+
+-- the header lines
+abbrev pub header_lines : SettingsText → List ScriptLine
+header_lines settings = map Global settings.globals
 
 -- a round: its line, setup lines, call lines
 abbrev pub round_lines : RoundText → List ScriptLine
 round_lines round = Round round.moment ∷ map Setup round.setup ++ map CallOf round.calls
 
--- the lines are a script: no header line, at most one round, each line of its form
+-- the lines are a script: header lines, then rounds, each line of its form
 pub record IsScript (lines : List (List ℕ)) (script : ScriptText) : Type 0 where
-  pub settings : script.settings ≡ no_settings
-  pub rounds : length script.rounds ≤ 1
-  pub each : AllZip IsLine lines (flat_map round_lines script.rounds)
+  pub settings : script.settings ≡ only_globals script.settings.globals
+  pub each : AllZip IsLine lines (header_lines script.settings ++ flat_map round_lines script.rounds)
 
 -- ---- bytes and lines
 

@@ -1,5 +1,13 @@
 -- The script that a value of the program stands for.
-use Rattle.std.specs.Prelude.{◌≡◌, ℕ, List, map}
+use Rattle.std.specs.Prelude.{◌≡◌, ℕ, List, map, string_bytes}
+use Rattle.std.specs.declared.string.String.{String}
+use Rattle.std.specs.declared.alloc.Global.{Global}
+use Rattle.metrics_core.specs.declared.kinds.MetricKind.{MetricKind}
+use Rattle.metrics_core.specs.Keys.{LabelText, KeyText}
+use Rattle.prom_format.specs.LabelSets.{labels_of}
+use Rattle.drive_script.specs.Heads.{AreHeadsOf, keys_by_head}
+use Rattle.drive_script.specs.Reading.{Registered}
+use Rattle.drive_script.specs.declared.script.Settings.{Settings}
 use Rattle.drive_script.specs.Script as text
 use Rattle.drive_script.specs.Valid.{registered, IsValid}
 use Rattle.drive_script.specs.declared.progress.Progress.{Progress}
@@ -15,6 +23,10 @@ use Rattle.drive_script.specs.declared.lines.Line.TheVariants as lines
 
 abbrev pub act_of : Act → text.Act
 act_of (acts.Inc n) = text.Inc n
+act_of (acts.Abs n) = text.Abs n
+act_of (acts.Add value) = text.Add value.0
+act_of (acts.Sub value) = text.Sub value.0
+act_of (acts.Set value) = text.Set value.0
 
 abbrev pub call_line_of : CallLine → text.CallLine
 call_line_of line = record { lane = line.lane; handle = line.handle; act = act_of line.act }
@@ -25,24 +37,40 @@ setup_of (setups.Register kind key) = text.Register kind key
 abbrev pub round_of : Round → text.RoundText
 round_of round = record { moment = round.moment; setup = map setup_of round.setup.items; calls = map call_line_of round.calls.items }
 
+abbrev pub settings_of : Settings → text.SettingsText
+settings_of settings = text.only_globals (labels_of settings.globals.items)
+
 abbrev pub script_of : Script → text.ScriptText
-script_of script = record { settings = text.no_settings; rounds = map round_of script.rounds.items }
+script_of script = record { settings = settings_of script.settings; rounds = map round_of script.rounds.items }
+
+-- ---- lines
+
+abbrev pub label_of : String Global × String Global → LabelText
+label_of label = record { key = string_bytes label.0; value = string_bytes label.1 }
+
+abbrev pub registered_of : MetricKind × KeyText → Registered
+registered_of registered = (registered.0, (registered.1.name, registered.1.labels))
 
 abbrev pub line_of : Line → text.ScriptLine
+line_of (lines.Global key value) = text.Global (label_of (key, value))
 line_of (lines.Round moment) = text.Round moment
 line_of (lines.Register kind key) = text.Setup (text.Register kind key)
 line_of (lines.Call call) = text.CallOf (call_line_of call)
 
--- the script of the rounds so far
-abbrev pub script_so_far : Progress → text.ScriptText
-script_so_far progress = record { settings = text.no_settings; rounds = map round_of progress.rounds.items }
+-- ---- the progress of the reading
 
--- the progress has the kind of each register line
-abbrev pub KnowsKinds : Progress → Type 0
-KnowsKinds progress = progress.kinds.items ≡ map (λ r. r.kind) (registered (script_so_far progress))
+-- the script of the settings and the rounds so far
+abbrev pub script_so_far : Progress → text.ScriptText
+script_so_far progress = record { settings = settings_of progress.settings; rounds = map round_of progress.rounds.items }
+
+-- what is known beside the script: the global labels, the kind of each register line, and whose each head is
+pub record IsKnown (progress : Progress) : Type 0 where
+  pub globals : labels_of progress.heads.globals.entries ≡ text.global_labels (script_so_far progress).settings
+  pub kinds : progress.kinds.items ≡ map (λ r. r.kind) (registered (script_so_far progress))
+  pub heads : AreHeadsOf (labels_of progress.heads.globals.entries) (keys_by_head progress.heads.keys.entries) (registered (script_so_far progress))
 
 -- the progress stands behind these lines: they are the valid script of its rounds
 pub record StandsBehind (lines : List (List ℕ)) (progress : Progress) : Type 0 where
   pub script : text.IsScript lines (script_so_far progress)
   pub valid : IsValid (script_so_far progress)
-  pub kinds : KnowsKinds progress
+  pub known : IsKnown progress

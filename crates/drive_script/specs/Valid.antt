@@ -1,11 +1,11 @@
 -- When a script is valid, and which line is the first bad one (this project's rules).
 use Rattle.std.specs.Prelude.{◌≡◌, ℕ, ◌<◌, ◌≤◌, List, [], ◌∷◌, ◌++◌, map, length, take, Option, Some, None, All, AllPairs, flat_map, filter_map, sum_by, slice_get}
-use Rattle.std.specs.List.Sorted.{IsNonDecreasing}
+use Rattle.std.specs.List.Sorted.{IsNonDecreasingBy}
 use Rattle.metrics_core.specs.declared.kinds.MetricKind.{MetricKind}
 use Rattle.metrics_core.specs.Keys.{LabelText, KeyText, SameKey, label_set}
 use Rattle.prom_format.specs.Names.{sanitized_metric_name, sanitized_label_name}
 use Rattle.prom_format.specs.Printed.{canonical_label_value}
-use Rattle.drive_script.specs.Script.{ScriptText, RoundText, SetupLine, Register, Describe, CallLine, Act, RecN, Rec, IsScript, lines_of, kind_of}
+use Rattle.drive_script.specs.Script.{ScriptText, RoundText, SetupLine, Register, Describe, CallLine, Act, RecN, Rec, IsScript, global_labels, lines_of, kind_of}
 
 -- what a register line registers
 pub record Registration : Type 0 where
@@ -58,11 +58,11 @@ abbrev pub PrintApart : List LabelText → Registration → Registration → Typ
 PrintApart globals a b = a.kind ≡ b.kind → head_of globals a.key ≡ head_of globals b.key → SameKey a.key b.key
 
 pub record IsValid (script : ScriptText) : Type 0 where
-  pub moments : IsNonDecreasing (map (λ round. round.moment) script.rounds)
+  pub moments : IsNonDecreasingBy (λ round. round.moment) script.rounds
   pub handles : HaveHandles [] script.rounds
   pub registrations : length (registered script) ≤ 1000000
   pub samples : sample_total script ≤ 16777216
-  pub heads : AllPairs (PrintApart script.settings.globals) (registered script)
+  pub heads : AllPairs (PrintApart (global_labels script.settings)) (registered script)
 
 -- the lines are a valid script
 abbrev pub AreValidLines : List (List ℕ) → Type 0

@@ -2,7 +2,7 @@
 use Rattle.std.specs.Prelude.{◌≡◌, ℕ, codes, refl, List, [], ◌∷◌}
 use Rattle.metrics_core.specs.declared.kinds.MetricKind.TheVariants.{Counter}
 use Rattle.metrics_core.specs.Keys.{KeyText}
-use Rattle.drive_script.specs.Script.{ScriptText, RoundText, Register, Inc, no_settings, lines_of}
+use Rattle.drive_script.specs.Script.{ScriptText, RoundText, Register, Inc, only_globals, lines_of}
 
 abbrev pub basic_key : KeyText
 basic_key = record { name = codes "basic_counter"; labels = [] }
@@ -11,10 +11,10 @@ abbrev pub basic_round : RoundText
 basic_round = record { moment = 0; setup = Register Counter basic_key ∷ []; calls = record { lane = 0; handle = 0; act = Inc 42 } ∷ [] }
 
 abbrev pub basic : ScriptText
-basic = record { settings = no_settings; rounds = basic_round ∷ [] }
+basic = record { settings = only_globals []; rounds = basic_round ∷ [] }
 
 abbrev pub empty : ScriptText
-empty = record { settings = no_settings; rounds = [] }
+empty = record { settings = only_globals []; rounds = [] }
 
 abbrev pub basic_bytes : List ℕ
 basic_bytes = codes "round 0\nregister counter \"basic_counter\"\n0 inc 0 42\n"

@@ -1,7 +1,10 @@
--- The words of a script line (this project's format): numbers and texts.
-use Rattle.std.specs.Prelude.{ℕ, List, ◌++◌, codes}
+-- The words of a script line (this project's format): numbers, decimals, texts and labels.
+use Rattle.std.specs.Prelude.{◌≡◌, ℕ, ◌+◌, ◌-◌, ◌*◌, ◌^◌, ◌≤◌, Bool, List, [], ◌∷◌, ◌++◌, length, ℤ, pos, neg_ℤ, codes, decimal, IsUtf8, All, if◌then◌else◌}
 use Rattle.std.specs.List.{join_with_byte}
-use Rattle.metrics_core.specs.Characters.{space}
+use Rattle.std.specs.Str.Parse.{AllDigits, digits_value}
+use Rattle.metrics_core.specs.Characters.{space, full_stop, minus_sign}
+use Rattle.metrics_core.specs.Numbers.{one}
+use Rattle.metrics_core.specs.Keys.{LabelText, KeyText}
 use Rattle.prom_format.specs.Printed.{escaped_label_value}
 
 -- words, one space between each two
@@ -10,6 +13,49 @@ spaced words = join_with_byte space words
 
 -- NAT is `decimal n`: the digits of a number, without a zero at the front; each place has a bound on n
 
--- TEXT: the text in quotes, with the escapes `\\`, `\"` and `\n`
+-- a point and digits, or nothing
+abbrev pub point_and : List ℕ → List ℕ
+point_and [] = []
+point_and (d ∷ digits) = full_stop ∷ d ∷ digits
+
+-- a sign, or nothing
+abbrev pub sign : Bool → List ℕ
+sign negative = if negative then minus_sign ∷ [] else []
+
+abbrev pub signed : Bool → ℕ → ℤ
+signed negative n = if negative then neg_ℤ (pos n) else pos n
+
+-- a whole part and the digits behind the point, in billionths
+abbrev pub billionths : ℕ → List ℕ → ℕ
+billionths whole digits = whole * one + digits_value 10 digits * 10 ^ (9 - length digits)
+
+-- the greatest number of billionths that a value of this sign has in 64 bits
+abbrev pub greatest : Bool → ℕ
+greatest negative = if negative then 2 ^ 63 else 2 ^ 63 - 1
+
+-- DEC: an optional `-`, a NAT, and optionally a point and one to nine digits; the value is in billionths and fits 64 bits
+pub record IsDec (word : List ℕ) (value : ℤ) : Type 0 where
+  pub negative : Bool
+  pub whole : ℕ
+  pub digits : List ℕ
+  pub few : length digits ≤ 9
+  pub each_digit : AllDigits 10 digits
+  pub spelled : word ≡ sign negative ++ decimal whole ++ point_and digits
+  pub meant : value ≡ signed negative (billionths whole digits)
+  pub fits : billionths whole digits ≤ greatest negative
+
+-- TEXT: the text in quotes, with the escapes `\\`, `\"` and `\n`. A text is UTF-8, and all that stands in a line
+-- outside texts is ASCII, so each line is UTF-8.
 abbrev pub quoted : List ℕ → List ℕ
 quoted text = codes "\"" ++ escaped_label_value text ++ codes "\""
+
+-- a label as one word: TEXT=TEXT
+abbrev pub label_word : LabelText → List ℕ
+label_word label = quoted label.key ++ codes "=" ++ quoted label.value
+
+abbrev pub IsLabelUtf8 : LabelText → Type 0
+IsLabelUtf8 label = IsUtf8 label.key × IsUtf8 label.value
+
+-- the texts of a key are UTF-8
+abbrev pub IsKeyUtf8 : KeyText → Type 0
+IsKeyUtf8 key = IsUtf8 key.name × All IsLabelUtf8 key.labels

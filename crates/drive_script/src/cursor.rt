@@ -11,15 +11,50 @@ ghost use Rattle.std.specs.Prelude.{
   not,
   decimal,
   MatchOption,
+  IfNone,
+  IfOk,
   IfSome,
+  codes,
+  string_bytes,
   Some,
   None,
   length,
 };
 ghost use Rattle.std.specs.List.{position_or_len};
 ghost use Rattle.std.specs.Str.Parse.{AllDigits};
-ghost use Rattle.drive_script.specs.Reading.{behind, digit_count, number_at, name_at, end_at};
-ghost use Rattle.prom_format.specs.Names.{is_name, begins_metric_name};
+ghost use Rattle.drive_script.specs.Reading.{
+  after,
+  argument_at,
+  behind,
+  character_at,
+  characters_at,
+  digit_count,
+  end_at,
+  escaped_by,
+  fixed_at,
+  fraction_at,
+  fraction_of,
+  label_at,
+  labels_at,
+  number_at,
+  registered_kind_at,
+  text_at,
+  value_of,
+  verb_at,
+};
+ghost use Rattle.drive_script.specs.Texts.{act_of};
+
+use crate::Act;
+use crate::lines::Verb;
+use metrics_core::{Fixed, Label, Memory, MetricKind, SharedString};
+use std::alloc::Global;
+
+/// How many billionths one is, and how many places they have behind the point.
+const ONE: u64 = 1_000_000_000;
+const PLACES: usize = 9;
+
+/// The greatest whole part of a value.
+const MOST_WHOLE: u64 = 9_223_372_036;
 
 /// The bytes of a line that are still to be read. A method that answers `None` ends the reading of the line.
 #[derive(Drop)]
@@ -37,8 +72,9 @@ impl<'a> Cursor<'a> {
     /// Takes a literal.
     #[tactic(auto, unfolding(crate::specs::Reading::behind))]
     pub(crate) fn literal(&mut self, literal: &[u8]) -> Option<()>
-        ensures { MatchOption result (behind literal.now self.old.rest.now ≡ None)
+        ensures taken { MatchOption result (behind literal.now self.old.rest.now ≡ None)
             (λ _. behind literal.now self.old.rest.now ≡ Some self.new.rest.now) }
+        ensures stays { IfNone result (self.new ≡ self.old) }
     {
         self.rest = self.rest.strip_prefix(literal)?;
         Some(())
@@ -59,20 +95,172 @@ impl<'a> Cursor<'a> {
         Some(value)
     }
 
-    /// Takes a metric name in quotes.
-    #[tactic(auto, unfolding(crate::specs::Reading::name_at))]
-    pub(crate) fn metric_name(&mut self) -> Option<&'a str>
-        ensures { MatchOption result (name_at self.old.rest.now ≡ None)
-            (λ name. name_at self.old.rest.now ≡ Some (name.now, self.new.rest.now)) }
+    /// Takes a value: a sign or none, a whole part, and a point with one to nine digits or none.
+    #[tactic(auto, unfolding(crate::specs::Reading::fixed_at))]
+    pub(crate) fn fixed(&mut self) -> Option<Fixed>
+        ensures { MatchOption result (fixed_at self.old.rest.now ≡ None)
+            (λ value. fixed_at self.old.rest.now ≡ Some (value.0, self.new.rest.now)) }
     {
-        self.literal(b"\"")?;
-        let (name, rest) = self.rest.split_at(count_before(self.rest, b'"'));
+        let negative = self.literal(b"-").is_some();
+        let whole = self.number(MOST_WHOLE)?;
+        let fraction = self.fraction()?;
+        let value = value_of(negative, whole * ONE + fraction)?;
+        Some(Fixed(value))
+    }
+
+    /// Takes a point with one to nine digits, or nothing. Answers how many billionths they are.
+    #[tactic(auto, unfolding(crate::specs::Reading::fraction_at))]
+    fn fraction(&mut self) -> Option<u64>
+        ensures value { MatchOption result (fraction_at self.old.rest.now ≡ None)
+            (λ n. fraction_at self.old.rest.now ≡ Some (n, self.new.rest.now)) }
+        ensures below { IfSome result (λ n. n < 10 ^ 9) }
+    {
+        if self.literal(b".").is_none() {
+            return Some(0);
+        }
+        let (digits, rest) = self.rest.split_at(digit_count(self.rest));
         self.rest = rest;
-        self.literal(b"\"")?;
-        if !is_metric_name(name) {
+        fraction_of(digits)
+    }
+
+    /// Takes a text in quotes.
+    #[tactic(auto, unfolding(crate::specs::Reading::text_at))]
+    pub(crate) fn text(&mut self, alloc: Global) -> Result<Option<String>, Memory>
+        ensures { IfOk result (λ text. MatchOption text (text_at self.old.rest.now ≡ None)
+            (λ text. text_at self.old.rest.now ≡ Some (string_bytes text, self.new.rest.now))) }
+    {
+        if self.literal(b"\"").is_none() {
+            return Ok(None);
+        }
+        let Some(text) = self.characters(alloc)? else {
+            return Ok(None);
+        };
+        Ok(String::from_utf8(text).ok())
+    }
+
+    /// Takes the characters before the next quote, and the quote.
+    fn characters(&mut self, alloc: Global) -> Result<Option<Vec<u8>>, Memory>
+        ensures { IfOk result (λ text. MatchOption text (characters_at self.old.rest.now ≡ None)
+            (λ text. characters_at self.old.rest.now ≡ Some (text.items, self.new.rest.now))) }
+    {
+        let mut text = Vec::new(alloc);
+        while let [first, rest @ ..] = self.rest {
+            self.rest = rest;
+            if *first == b'"' {
+                return Ok(Some(text));
+            }
+            let Some(character) = self.character(*first) else {
+                return Ok(None);
+            };
+            text.push(character)?;
+        }
+        Ok(None)
+    }
+
+    /// The character that begins with a byte: the byte, or what the escape with the next one stands for.
+    fn character(&mut self, first: u8) -> Option<u8>
+        ensures { MatchOption result (character_at first self.old.rest.now ≡ None)
+            (λ c. character_at first self.old.rest.now ≡ Some (c, self.new.rest.now)) }
+    {
+        if first == b'\n' {
             return None;
         }
-        str::from_utf8(name).ok()
+        if first != b'\\' {
+            return Some(first);
+        }
+        let (second, rest) = self.rest.split_first()?;
+        self.rest = rest;
+        escaped_by(*second)
+    }
+
+    /// Takes labels up to the end of the line, each behind a space.
+    #[tactic(auto, unfolding(crate::specs::Reading::labels_at))]
+    pub(crate) fn labels(&mut self, alloc: Global) -> Result<Option<Vec<Label>>, Memory>
+        ensures { IfOk result (λ labels. MatchOption labels (labels_at self.old.rest.now ≡ None)
+            (λ labels. labels_at self.old.rest.now ≡ Some (labels.items, self.new.rest.now))) }
+    {
+        let mut labels = Vec::new(alloc);
+        while !self.rest.is_empty() {
+            let Some(label) = self.spaced_label(alloc)? else {
+                return Ok(None);
+            };
+            labels.push(label)?;
+        }
+        Ok(Some(labels))
+    }
+
+    /// Takes a space and a label.
+    #[tactic(auto, unfolding(crate::specs::Reading::label_at))]
+    fn spaced_label(&mut self, alloc: Global) -> Result<Option<Label>, Memory>
+        ensures { IfOk result (λ label. MatchOption label (after (codes " ") label_at self.old.rest.now ≡ None)
+            (λ label. after (codes " ") label_at self.old.rest.now ≡ Some (label, self.new.rest.now))) }
+    {
+        if self.literal(b" ").is_none() {
+            return Ok(None);
+        }
+        let Some(key) = self.text(alloc)? else {
+            return Ok(None);
+        };
+        if self.literal(b"=").is_none() {
+            return Ok(None);
+        }
+        let Some(value) = self.text(alloc)? else {
+            return Ok(None);
+        };
+        Ok(Some(Label::new(
+            SharedString::from(key),
+            SharedString::from(value),
+        )))
+    }
+
+    /// Takes what a call line does.
+    #[tactic(auto, unfolding(crate::specs::Reading::verb_at))]
+    pub(crate) fn verb(&mut self) -> Option<Verb>
+        ensures { MatchOption result (verb_at self.old.rest.now ≡ None)
+            (λ verb. verb_at self.old.rest.now ≡ Some (verb, self.new.rest.now)) }
+    {
+        if self.literal(b" inc ").is_some() {
+            Some(Verb::Inc)
+        } else if self.literal(b" abs ").is_some() {
+            Some(Verb::Abs)
+        } else if self.literal(b" add ").is_some() {
+            Some(Verb::Add)
+        } else if self.literal(b" sub ").is_some() {
+            Some(Verb::Sub)
+        } else if self.literal(b" set ").is_some() {
+            Some(Verb::Set)
+        } else {
+            None
+        }
+    }
+
+    /// Takes the first words of a register line.
+    #[tactic(auto, unfolding(crate::specs::Reading::registered_kind_at))]
+    pub(crate) fn registered_kind(&mut self) -> Option<MetricKind>
+        ensures { MatchOption result (registered_kind_at self.old.rest.now ≡ None)
+            (λ kind. registered_kind_at self.old.rest.now ≡ Some (kind, self.new.rest.now)) }
+    {
+        if self.literal(b"register counter ").is_some() {
+            Some(MetricKind::Counter)
+        } else if self.literal(b"register gauge ").is_some() {
+            Some(MetricKind::Gauge)
+        } else {
+            None
+        }
+    }
+
+    /// Takes the argument of a call line.
+    pub(crate) fn argument(&mut self, verb: Verb) -> Option<Act>
+        ensures { MatchOption result (argument_at verb self.old.rest.now ≡ None)
+            (λ act. argument_at verb self.old.rest.now ≡ Some (act_of act, self.new.rest.now)) }
+    {
+        match verb {
+            Verb::Inc => Some(Act::Inc(self.number(u64::MAX)?)),
+            Verb::Abs => Some(Act::Abs(self.number(u64::MAX)?)),
+            Verb::Add => Some(Act::Add(self.fixed()?)),
+            Verb::Sub => Some(Act::Sub(self.fixed()?)),
+            Verb::Set => Some(Act::Set(self.fixed()?)),
+        }
     }
 
     /// Takes the end of the line.
@@ -117,24 +305,39 @@ fn number_of(digits: &[u8]) -> Option<u64>
     str::from_utf8(digits).ok()?.parse().ok()
 }
 
-/// Whether the bytes are a metric name.
-fn is_metric_name(text: &[u8]) -> bool
-    ensures { result ≡ is_name begins_metric_name text.now }
+/// How many billionths one to nine digits behind a point are.
+fn fraction_of(digits: &[u8]) -> Option<u64>
+    requires { AllDigits 10 digits.now }
+    ensures value { result ≡ fraction_of digits.now }
+    ensures below { IfSome result (λ n. n < 10 ^ 9) }
 {
-    match text {
-        [] => false,
-        [first, rest @ ..] => {
-            begins_metric_name(*first)
-                && rest
-                    .iter()
-                    .all(|byte| begins_metric_name(*byte) || byte.is_ascii_digit())
-        }
+    if digits.is_empty() || digits.len() > PLACES {
+        return None;
+    }
+    let value: u64 = str::from_utf8(digits).ok()?.parse().ok()?;
+    Some(value * 10_u64.pow((PLACES - digits.len()) as u32))
+}
+
+/// The value of a sign and so many billionths, if it fits.
+fn value_of(negative: bool, billionths: u64) -> Option<i64>
+    ensures { result ≡ value_of negative billionths }
+{
+    if negative {
+        0_i64.checked_sub_unsigned(billionths)
+    } else {
+        0_i64.checked_add_unsigned(billionths)
     }
 }
 
-/// Whether a metric name may begin with the byte.
-fn begins_metric_name(byte: u8) -> bool
-    ensures { result ≡ begins_metric_name byte }
+/// The character that a backslash and another character stand for.
+fn escaped_by(second: u8) -> Option<u8>
+    ensures { result ≡ escaped_by second }
 {
-    byte.is_ascii_alphabetic() || byte == b'_' || byte == b':'
+    if second == b'\\' || second == b'"' {
+        Some(second)
+    } else if second == b'n' {
+        Some(b'\n')
+    } else {
+        None
+    }
 }

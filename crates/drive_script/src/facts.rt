@@ -1,8 +1,13 @@
 //! What holds of scripts by their definitions alone. The functions do nothing.
 
 ghost use Rattle.std.specs.Prelude.{◌≡◌, ℕ, List, take};
-ghost use Rattle.drive_script.specs.Script.{ScriptText, IsScript};
+ghost use Rattle.drive_script.specs.Script.{ScriptLine, ScriptText, IsLine, IsScript};
 ghost use Rattle.drive_script.specs.Valid.{IsValid, AreValidLines, IsScriptOf, IsFirstBadLine};
+
+/// A line says at most one thing.
+pub fn lines_say_one_thing()
+    ensures { (line : List ℕ) (s t : ScriptLine) → IsLine line s → IsLine line t → s ≡ t }
+{}
 
 /// Lines are at most one valid script.
 pub fn one_reading()

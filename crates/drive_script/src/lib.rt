@@ -5,13 +5,14 @@ mod cursor;
 mod examples;
 mod facts;
 mod faults;
+mod heads;
 mod lines;
 mod progress;
 mod reader;
 mod script;
 
 pub use examples::{basic_example, empty_example};
-pub use facts::{beginnings, one_first_bad_line, one_reading};
+pub use facts::{beginnings, lines_say_one_thing, one_first_bad_line, one_reading};
 pub use faults::DriveFault;
 pub use reader::read_script;
-pub use script::{Act, CallLine, Round, Script, Setup};
+pub use script::{Act, CallLine, Round, Script, Settings, Setup};

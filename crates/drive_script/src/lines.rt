@@ -1,10 +1,10 @@
 //! What a line says: one function for each form of line.
 
 ghost use Rattle.std.specs.Prelude.{◌≡◌, Option, Some, None, IfOk, MatchOption};
-ghost use Rattle.std.specs.Option.{option_map, option_copied};
+ghost use Rattle.std.specs.Option.{option_map};
 ghost use Rattle.drive_script.specs.Script.{ScriptLine, IsLine};
-ghost use Rattle.drive_script.specs.Reading.{round_at, register_at, call_at};
-ghost use Rattle.drive_script.specs.Texts.{call_line_of, line_of};
+ghost use Rattle.drive_script.specs.Reading.{global_at, round_at, register_at, call_at};
+ghost use Rattle.drive_script.specs.Texts.{call_line_of, label_of, registered_of, line_of};
 
 use crate::cursor::Cursor;
 use crate::{Act, CallLine};
@@ -12,16 +12,28 @@ use metrics_core::{Key, KeyName, Memory, MetricKind};
 use std::alloc::Global;
 
 /// The number of the last lane.
-const LAST_LANE: u64 = 0;
+const LAST_LANE: u64 = 7;
 
 /// What one line says.
 #[derive(Drop)]
 pub(crate) enum Line {
+    /// The key and the value of a global label.
+    Global(String, String),
     /// The moment of a round that begins.
     Round(u64),
     /// A series that is registered.
     Register { kind: MetricKind, key: Key },
     Call(CallLine),
+}
+
+/// What a call line does, before its handle and its argument.
+#[derive(Clone, Copy)]
+pub(crate) enum Verb {
+    Inc,
+    Abs,
+    Add,
+    Sub,
+    Set,
 }
 
 /// What a line says, if it is of some form.
@@ -36,15 +48,37 @@ pub(crate) fn read_line(alloc: Global, line: &[u8]) -> Result<Option<Line>, Memo
     if let Some(moment) = round_line(line) {
         return Ok(Some(Line::Round(moment)));
     }
-    let Some(name) = register_line(line) else {
+    if let Some((kind, key)) = register_line(alloc, line)? {
+        return Ok(Some(Line::Register { kind, key }));
+    }
+    if let Some((key, value)) = global_line(alloc, line)? {
+        return Ok(Some(Line::Global(key, value)));
+    }
+    Ok(None)
+}
+
+/// The key and the value of a global line.
+#[tactic(auto, unfolding(crate::specs::Reading::global_at))]
+fn global_line(alloc: Global, line: &[u8]) -> Result<Option<(String, String)>, Memory>
+    ensures { IfOk result (λ read. option_map label_of read ≡ global_at line.now) }
+{
+    let mut cursor = Cursor::new(line);
+    let Some(()) = cursor.literal(b"global ") else {
         return Ok(None);
     };
-    let name = String::from_str(alloc, name)?;
-    let key = Key::from_name(KeyName::from(name));
-    Ok(Some(Line::Register {
-        kind: MetricKind::Counter,
-        key,
-    }))
+    let Some(key) = cursor.text(alloc)? else {
+        return Ok(None);
+    };
+    let Some(()) = cursor.literal(b" ") else {
+        return Ok(None);
+    };
+    let Some(value) = cursor.text(alloc)? else {
+        return Ok(None);
+    };
+    match cursor.end() {
+        Some(()) => Ok(Some((key, value))),
+        None => Ok(None),
+    }
 }
 
 /// The moment of a round line.
@@ -59,16 +93,23 @@ fn round_line(line: &[u8]) -> Option<u64>
     Some(moment)
 }
 
-/// The name of the counter that a register line registers.
+/// The kind and the key that a register line registers.
 #[tactic(auto, unfolding(crate::specs::Reading::register_at))]
-fn register_line(line: &[u8]) -> Option<&str>
-    ensures { option_copied result ≡ register_at line.now }
+fn register_line(alloc: Global, line: &[u8]) -> Result<Option<(MetricKind, Key)>, Memory>
+    ensures { IfOk result (λ read. option_map registered_of read ≡ register_at line.now) }
 {
     let mut cursor = Cursor::new(line);
-    cursor.literal(b"register counter ")?;
-    let name = cursor.metric_name()?;
-    cursor.end()?;
-    Some(name)
+    let Some(kind) = cursor.registered_kind() else {
+        return Ok(None);
+    };
+    let Some(name) = cursor.text(alloc)? else {
+        return Ok(None);
+    };
+    let Some(labels) = cursor.labels(alloc)? else {
+        return Ok(None);
+    };
+    let key = Key::from_parts(KeyName::from(name), labels);
+    Ok(Some((kind, key)))
 }
 
 /// A call line.
@@ -78,14 +119,14 @@ fn call_line(line: &[u8]) -> Option<CallLine>
 {
     let mut cursor = Cursor::new(line);
     let lane = cursor.number(LAST_LANE)?;
-    cursor.literal(b" inc ")?;
+    let verb = cursor.verb()?;
     let handle = cursor.number(u64::from(u32::MAX))?;
     cursor.literal(b" ")?;
-    let value = cursor.number(u64::MAX)?;
+    let act = cursor.argument(verb)?;
     cursor.end()?;
     Some(CallLine {
         lane: lane as u8,
         handle: handle as u32,
-        act: Act::Inc(value),
+        act,
     })
 }

@@ -18,25 +18,31 @@ ghost use Rattle.drive_script.specs.Script as text;
 ghost use Rattle.drive_script.specs.Texts.{
   call_line_of,
   script_of,
+  label_of,
   script_so_far,
-  KnowsKinds,
+  IsKnown,
   StandsBehind,
 };
 ghost use Rattle.drive_script.specs.Valid.{registered, HasHandle, AreValidLines};
+ghost use Rattle.std.specs.List.Sorted.{IsNonDecreasingBy};
 
+use crate::heads::Heads;
 use crate::lines::{Line, read_line};
-use crate::{CallLine, Round, Script, Setup};
+use crate::{CallLine, Round, Script, Settings, Setup};
 use metrics_core::{Key, Memory, MetricKind};
 use std::alloc::Global;
 
 /// How many register lines a script may have.
 const MAX_REGISTRATIONS: usize = 1_000_000;
 
-/// The rounds so far, and the kind of each register line in them. After an `Err` of a method it is of no use.
+/// The settings and the rounds so far, the kind of each register line in them, and the heads of all keys. After an `Err`
+/// of a method it is of no use.
 #[derive(Drop)]
 pub(crate) struct Progress {
+    settings: Settings,
     rounds: Vec<Round>,
     kinds: Vec<MetricKind>,
+    heads: Heads,
 }
 
 impl Progress {
@@ -45,8 +51,12 @@ impl Progress {
         ensures { StandsBehind [] result }
     {
         Progress {
+            settings: Settings {
+                globals: Vec::new(alloc),
+            },
             rounds: Vec::new(alloc),
             kinds: Vec::new(alloc),
+            heads: Heads::new(alloc),
         }
     }
 
@@ -58,8 +68,9 @@ impl Progress {
     {
         match read_line(alloc, line)? {
             None => Ok(false),
+            Some(Line::Global(key, value)) => self.add_global(alloc, key, value),
             Some(Line::Round(moment)) => self.begin_round(alloc, moment),
-            Some(Line::Register { kind, key }) => self.register(kind, key),
+            Some(Line::Register { kind, key }) => self.register(alloc, kind, key),
             Some(Line::Call(call)) => self.call(call),
         }
     }
@@ -68,18 +79,35 @@ impl Progress {
     pub(crate) fn into_script(self) -> Script
         ensures { script_of result ≡ script_so_far self }
     {
-        let Progress { rounds, kinds: _ } = self;
-        Script { rounds }
+        let Progress {
+            settings, rounds, ..
+        } = self;
+        Script { settings, rounds }
+    }
+
+    /// A global label, if it may stand here.
+    fn add_global(&mut self, alloc: Global, key: String, value: String) -> Result<bool, Memory>
+        ensures next { IsKnown self.old → IfOk result (λ taken. MatchBool taken
+            (IsNext (script_so_far self.old) (text.Global (label_of (key, value))) (script_so_far self.new) × IsKnown self.new)
+            ((new : text.ScriptText) → ¬ IsNext (script_so_far self.old) (text.Global (label_of (key, value))) new)) }
+    {
+        if !self.rounds.is_empty() {
+            return Ok(false);
+        }
+        self.heads.add_global(alloc, key.as_str(), value.as_str())?;
+        self.settings.globals.push((key, value))?;
+        Ok(true)
     }
 
     /// A round begins, if it may.
     fn begin_round(&mut self, alloc: Global, moment: u64) -> Result<bool, Memory>
-        ensures kinds { KnowsKinds self.old → OnOk result (KnowsKinds self.new) }
-        ensures next { IfOk result (λ taken. MatchBool taken
-            (IsNext (script_so_far self.old) (text.Round moment) (script_so_far self.new))
+        ensures next { IsKnown self.old → IsNonDecreasingBy (λ round. round.moment) (script_so_far self.old).rounds → IfOk result (λ taken. MatchBool taken
+            (IsNext (script_so_far self.old) (text.Round moment) (script_so_far self.new) × IsKnown self.new)
             ((new : text.ScriptText) → ¬ IsNext (script_so_far self.old) (text.Round moment) new)) }
     {
-        if !self.rounds.is_empty() {
+        if let Some(last) = self.rounds.last()
+            && moment < last.moment
+        {
             return Ok(false);
         }
         self.rounds.push(Round {
@@ -91,16 +119,18 @@ impl Progress {
     }
 
     /// The last round registers a series, if it may.
-    fn register(&mut self, kind: MetricKind, key: Key) -> Result<bool, Memory>
-        ensures kinds { KnowsKinds self.old → OnOk result (KnowsKinds self.new) }
-        ensures next { KnowsKinds self.old → IfOk result (λ taken. MatchBool taken
-            (IsNext (script_so_far self.old) (text.Setup (text.Register kind key)) (script_so_far self.new))
+    fn register(&mut self, alloc: Global, kind: MetricKind, key: Key) -> Result<bool, Memory>
+        ensures next { IsKnown self.old → IfOk result (λ taken. MatchBool taken
+            (IsNext (script_so_far self.old) (text.Setup (text.Register kind key)) (script_so_far self.new) × IsKnown self.new)
             ((new : text.ScriptText) → ¬ IsNext (script_so_far self.old) (text.Setup (text.Register kind key)) new)) }
     {
         let Some(round) = self.rounds.last_mut() else {
             return Ok(false);
         };
         if !round.calls.is_empty() || self.kinds.len() >= MAX_REGISTRATIONS {
+            return Ok(false);
+        }
+        if !self.heads.note(alloc, kind, &key)? {
             return Ok(false);
         }
         self.kinds.push(kind)?;
@@ -110,9 +140,8 @@ impl Progress {
 
     /// The last round calls, if it may.
     fn call(&mut self, call: CallLine) -> Result<bool, Memory>
-        ensures kinds { KnowsKinds self.old → OnOk result (KnowsKinds self.new) }
-        ensures next { KnowsKinds self.old → IfOk result (λ taken. MatchBool taken
-            (IsNext (script_so_far self.old) (text.CallOf (call_line_of call)) (script_so_far self.new))
+        ensures next { IsKnown self.old → IfOk result (λ taken. MatchBool taken
+            (IsNext (script_so_far self.old) (text.CallOf (call_line_of call)) (script_so_far self.new) × IsKnown self.new)
             ((new : text.ScriptText) → ¬ IsNext (script_so_far self.old) (text.CallOf (call_line_of call)) new)) }
     {
         if !self.has_handle(&call) {
@@ -127,7 +156,7 @@ impl Progress {
 
     /// Whether the call's handle is that of a register line, of the call's kind.
     fn has_handle(&self, call: &CallLine) -> bool
-        ensures { KnowsKinds self.now
+        ensures { IsKnown self.now
             → IsTrue result ↔ HasHandle (registered (script_so_far self.now)) (call_line_of call.now) }
     {
         match self.kinds.get(call.handle as usize) {

@@ -47,34 +47,33 @@ fn split_line(bytes: &[u8]) -> (&[u8], &[u8])
 mod tests {
     use super::*;
     use crate::{Act, Setup};
-    use metrics_core::MetricKind;
+    use metrics_core::{Fixed, MetricKind};
     use std::test::Fail;
 
     #[test]
-    fn a_counter_and_a_call(rt: HostRuntime) -> Result<(), Fail> {
-        let bytes = b"round 0\nregister counter \"basic_counter\"\n0 inc 0 42\n";
+    fn a_counter_a_gauge_and_their_calls(rt: HostRuntime) -> Result<(), Fail> {
+        let bytes = b"global \"e\" \"a b\"\nround 0\nregister counter \"c\"\nregister gauge \"\xc3\xa9 \\\"\" \"k\"=\"\\n\\\\\" \"l\"=\"\"\n0 inc 0 42\n7 abs 0 7\n1 set 1 -3.14\n2 add 1 5\n3 sub 1 0.000000001\nround 0\nround 1\n";
         let script = read_script(rt.alloc(), bytes)?;
-        assert_eq!(rt; script.rounds.len(), 1);
+        let (key, value) = &script.settings.globals[0];
+        assert_eq!(rt; (key.as_str(), value.as_str()), ("e", "a b"));
+        assert_eq!(rt; script.rounds.len(), 3);
         let round = &script.rounds[0];
-        assert_eq!(rt;
-            (round.moment, round.setup.len(), round.calls.len()),
-            (0, 1, 1)
-        );
-        let Setup::Register { kind, key } = &round.setup[0];
-        assert_eq!(rt; *kind, MetricKind::Counter);
-        assert_eq!(rt; (key.name(), key.labels().len()), ("basic_counter", 0));
-        let call = round.calls[0];
-        assert_eq!(rt; (call.lane, call.handle, call.act), (0, 0, Act::Inc(42)));
-        assert_eq!(rt; call.act.kind(), MetricKind::Counter);
-        Ok(())
-    }
-
-    #[test]
-    fn no_line_and_one_line_without_a_newline(rt: HostRuntime) -> Result<(), Fail> {
-        assert_eq!(rt; read_script(rt.alloc(), b"")?.rounds.len(), 0);
-        let script = read_script(rt.alloc(), b"round 18446744073709551615")?;
-        assert_eq!(rt; script.rounds.len(), 1);
-        assert_eq!(rt; script.rounds[0].moment, u64::MAX);
+        assert_eq!(rt; (round.moment, round.setup.len(), round.calls.len()), (0, 2, 5));
+        let Setup::Register { kind, key } = &round.setup[1];
+        assert_eq!(rt; (*kind, key.name()), (MetricKind::Gauge, "\u{e9} \""));
+        for (label, value) in key.labels().zip(["\n\\", ""].iter()) {
+            assert_eq!(rt; label.value(), *value);
+        }
+        let acts = [
+            (0, 0, Act::Inc(42)),
+            (7, 0, Act::Abs(7)),
+            (1, 1, Act::Set(Fixed(-3_140_000_000))),
+            (2, 1, Act::Add(Fixed(5_000_000_000))),
+            (3, 1, Act::Sub(Fixed(1))),
+        ];
+        for (call, act) in round.calls.iter().zip(acts.iter()) {
+            assert_eq!(rt; (call.lane, call.handle, call.act), *act);
+        }
         Ok(())
     }
 
@@ -88,20 +87,23 @@ mod tests {
             ("round  0\n", 1),
             ("round 0 \n", 1),
             ("round 0\r\n", 1),
-            ("round 0\nround 1\n", 2),
-            ("round 0\nregister counter \"a b\"\n", 2),
-            ("round 0\nregister counter \"1a\"\n", 2),
-            ("round 0\nregister counter \"\"\n", 2),
-            ("round 0\nregister gauge \"g\"\n", 2),
+            ("round 5\nround 4\n", 2),
+            ("round 0\nglobal \"a\" \"b\"\n", 2),
+            ("global \"a\"\n", 1),
+            ("round 0\nregister histogram \"h\"\n", 2),
+            ("round 0\nregister counter \"a\\t\"\n", 2),
+            ("round 0\nregister counter \"a\" \"b\"\n", 2),
             ("round 0\n0 inc 0 1\n", 2),
             ("round 0\nregister counter \"a\"\n0 inc 0", 3),
             ("round 0\nregister counter \"a\"\n0 inc 4294967296 1\n", 3),
-            ("round 0\nregister counter \"a\"\n1 inc 0 1\n", 3),
-            ("round 0\nregister counter \"a\"\n0 dec 0 1\n", 3),
-            (
-                "round 0\nregister counter \"a\"\n0 inc 0 1\nregister counter \"b\"\n",
-                4,
-            ),
+            ("round 0\nregister counter \"a\"\n8 inc 0 1\n", 3),
+            ("round 0\nregister counter \"a\"\n0 set 0 1\n", 3),
+            ("round 0\nregister gauge \"a\"\n0 set 0 1.0000000001\n", 3),
+            ("round 0\nregister gauge \"a\"\n0 set 0 1.\n", 3),
+            ("round 0\nregister gauge \"a\"\n0 set 0 9223372036.854775808\n", 3),
+            ("round 0\nregister counter \"a\"\n0 inc 0 1\nregister counter \"b\"\n", 4),
+            ("round 0\nregister counter \"x\" \"a\"=\"\\\\\"\nregister counter \"x\" \"a\"=\"\\\\\\\\\"\n", 3),
+            ("round 0\nregister counter \"a b\"\nregister gauge \"a_b\"\nregister counter \"a_b\"\n", 4),
         ] {
             let fault = read_script(rt.alloc(), text.as_bytes()).err();
             assert_eq!(rt; fault, Some(DriveFault::Script { line }), "at {text}");

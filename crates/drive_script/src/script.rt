@@ -4,12 +4,20 @@ ghost use Rattle.std.specs.Prelude.{◌≡◌};
 ghost use Rattle.drive_script.specs.Script.{kind_of};
 ghost use Rattle.drive_script.specs.Texts.{act_of};
 
-use metrics_core::{Key, MetricKind};
+use metrics_core::{Fixed, Key, MetricKind};
 
-/// A script: its rounds, in the order in which they are played.
+/// A script: its settings, and its rounds, in the order in which they are played.
 #[derive(Drop)]
 pub struct Script {
+    pub settings: Settings,
     pub rounds: Vec<Round>,
+}
+
+/// What the header lines of a script say.
+#[derive(Drop)]
+pub struct Settings {
+    /// The key and the value of each global label.
+    pub globals: Vec<(String, String)>,
 }
 
 /// One round: its moment in nanoseconds, what it sets up, and its calls.
@@ -42,6 +50,14 @@ pub struct CallLine {
 pub enum Act {
     /// Adds to a counter, modulo 2^64.
     Inc(u64),
+    /// Raises a counter to a total, where that is greater.
+    Abs(u64),
+    /// Adds to a gauge; the sum wraps in 64 bits of billionths.
+    Add(Fixed),
+    /// Subtracts from a gauge; the difference wraps in 64 bits of billionths.
+    Sub(Fixed),
+    /// Sets a gauge.
+    Set(Fixed),
 }
 
 impl Act {
@@ -50,7 +66,8 @@ impl Act {
         ensures { result ≡ kind_of (act_of self.now) }
     {
         match self {
-            Act::Inc(_) => MetricKind::Counter,
+            Act::Inc(_) | Act::Abs(_) => MetricKind::Counter,
+            Act::Add(_) | Act::Sub(_) | Act::Set(_) => MetricKind::Gauge,
         }
     }
 }

@@ -1,8 +1,18 @@
 //! The calls that change a series.
 
-/// One call on a series. Values of counters are plain counts.
+use crate::Fixed;
+
+/// One call on a series. Values of counters are plain counts, those of gauges are in billionths.
 #[derive(Clone, Copy, Debug, PartialEq, Eq)]
 pub enum SeriesCall {
     /// Adds to a counter, modulo 2^64.
     Increment(u64),
+    /// Raises a counter to a total, where that is greater.
+    Absolute(u64),
+    /// Adds to a gauge; the sum wraps in 64 bits.
+    Add(Fixed),
+    /// Subtracts from a gauge; the difference wraps in 64 bits.
+    Sub(Fixed),
+    /// Sets a gauge.
+    Set(Fixed),
 }

@@ -7,6 +7,7 @@ use Rattle.metrics_core.specs.declared.kinds.MetricKind.TheVariants as kinds
 use Rattle.metrics_core.specs.Numbers.{whole, page_number}
 use Rattle.metrics_core.specs.Keys.{KeyText, LabelText, label_set}
 use Rattle.metrics_core.specs.Calls.{counter_value}
+use Rattle.prom_format.proofs.PageText.{label_set_braced}
 use Rattle.prom_format.specs.Names.{sanitized_metric_name}
 use Rattle.prom_format.specs.Pages.{Family, label_text, labels_text, label_set_text, row_text, body_text, block_text}
 use Rattle.prom_format.specs.Lines.{shown_label, shown_label_set, braced, behind_commas, metric_line}
@@ -98,26 +99,6 @@ module _ (t : ℕ) (made : ℕ) (es : List (KeyText × CounterText)) where
       ∙ ap body_text families_at-counters
 
 -- ---- lines
-
--- labels behind one another, each but the first behind a comma
-labels_joined : (label : LabelText) (labels : List LabelText) → labels_text (label ∷ labels) ≡ label_text label ++ behind_commas (map label_text labels)
-labels_joined label [] = sym (append-nil (label_text label))
-labels_joined label (other ∷ labels) =
-    ap (λ l. label_text label ++ codes "," ++ l) (labels_joined other labels)
-    ∙ sym (append_assoc (label_text label ++ codes ",") (label_text other) (behind_commas (map label_text labels)))
-    ∙ ap (λ l. l ++ behind_commas (map label_text labels)) (append_assoc (label_text label) (codes ",") (label_text other))
-    ∙ append_assoc (label_text label) (codes "," ++ label_text other) (behind_commas (map label_text labels))
-
-map_shown : (labels : List LabelText) → map label_text (map shown_label labels) ≡ map (λ l. label_text (shown_label l)) labels
-map_shown [] = refl
-map_shown (label ∷ labels) = ap (λ l. label_text (shown_label label) ∷ l) (map_shown labels)
-
-label_set_braced : (labels : List LabelText) → label_set_text (map shown_label labels) ≡ braced (map (λ l. label_text (shown_label l)) labels ++ [])
-label_set_braced [] = refl
-label_set_braced (label ∷ labels) =
-    ap (λ l. codes "{" ++ l ++ codes "}") (labels_joined (shown_label label) (map shown_label labels))
-    ∙ ap (λ l. codes "{" ++ (label_text (shown_label label) ++ behind_commas l) ++ codes "}") (map_shown labels ∙ sym (append-nil (map (λ l. label_text (shown_label l)) labels)))
-    ∙ ap (λ l. l ++ codes "}") (sym (append_assoc (codes "{") (label_text (shown_label label)) (behind_commas (map (λ l. label_text (shown_label l)) labels ++ []))))
 
 -- a row of a counter is the line with its total in decimal
 pub row_text-counter : (globals : List LabelText) (name : List ℕ) (counter : KeyText × CounterText) → page_number (whole (counter_value counter.1.calls)) ≡ decimal (counter_value counter.1.calls)

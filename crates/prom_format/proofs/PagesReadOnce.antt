@@ -116,6 +116,18 @@ label_set_stops : (labels : List LabelText) (r : List ℕ) → Stops (later begi
 label_set_stops [] r = metric_ends 32 r refl
 label_set_stops (label ∷ labels) r = record { first = 123; others = labels_text (label ∷ labels) ++ 125 ∷ 32 ∷ r; split = label_set_split label labels (32 ∷ r); stops = refl }
 
+have_names : (labels : List LabelText) → All (λ (l : LabelText). IsLabelName l.key) labels → HaveNames labels
+have_names [] h = tt
+have_names (label ∷ labels) h = (All-head (λ (l : LabelText). IsLabelName l.key) label labels h, have_names labels (All-tail (λ (l : LabelText). IsLabelName l.key) label labels h))
+
+-- a metric name and a label set, with a space behind them
+pub row_head_told : (x y : List ℕ) (xs ys : List LabelText) → IsMetricName x → IsMetricName y → All (λ (l : LabelText). IsLabelName l.key) xs → All (λ (l : LabelText). IsLabelName l.key) ys
+    → x ++ label_set_text xs ≡ y ++ label_set_text ys → (x ≡ y) × (xs ≡ ys)
+row_head_told x y xs ys hx hy named named_too e =
+    let spaced : x ++ (label_set_text xs ++ 32 ∷ []) ≡ y ++ (label_set_text ys ++ 32 ∷ []) = sym (append_assoc x (label_set_text xs) (32 ∷ [])) ∙ ap (λ t. t ++ 32 ∷ []) e ∙ append_assoc y (label_set_text ys) (32 ∷ []) in
+    let names = names_told begins_metric_name x y (label_set_text xs ++ 32 ∷ []) (label_set_text ys ++ 32 ∷ []) hx hy (label_set_stops xs []) (label_set_stops ys []) spaced in
+    (names.0, (label_set_told xs ys [] [] (have_names xs named) (have_names ys named_too) names.1).0)
+
 -- ---- rows
 
 record IsReadableRow (row : Row) : Type 0 where

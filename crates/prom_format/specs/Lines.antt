@@ -5,7 +5,7 @@ use Rattle.metrics_core.specs.Keys.{LabelText, label_set}
 use Rattle.metrics_core.specs.declared.units.Unit.{Unit as UnitOf}
 use Rattle.prom_format.specs.Names.{sanitized_label_name, full_name}
 use Rattle.prom_format.specs.Printed.{canonical_label_value, canonical_description}
-use Rattle.prom_format.specs.Pages.{label_text, help_text}
+use Rattle.prom_format.specs.Pages.{label_text, label_set_text, help_text}
 
 -- a label as it is meant: a label name, and the canonical value
 abbrev pub shown_label : LabelText → LabelText
@@ -41,3 +41,7 @@ label_texts labels = map (λ l. label_text (shown_label l)) labels
 abbrev pub metric_line : List ℕ → Option (List ℕ) → List LabelText → Option (List ℕ × List ℕ) → List ℕ → Option UnitOf → List ℕ
 metric_line name suffix labels additional value unit =
     line (full_name name unit suffix ++ braced (label_texts labels ++ additional_text additional) ++ codes " " ++ value)
+
+-- what each row of a series begins with: its metric name and its label set
+abbrev pub head_text : List ℕ → List LabelText → List ℕ
+head_text name labels = name ++ label_set_text labels

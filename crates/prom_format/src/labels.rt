@@ -51,10 +51,10 @@ impl LabelSet {
     {
         let mut labels = IndexMap::new(alloc);
         for (name, value) in global {
-            put(&mut labels, name.as_str(), value.as_str(), alloc)?;
+            put_label(&mut labels, name.as_str(), value.as_str(), alloc)?;
         }
         for label in key.labels() {
-            put(&mut labels, label.key(), label.value(), alloc)?;
+            put_label(&mut labels, label.key(), label.value(), alloc)?;
         }
         Ok(LabelSet { labels })
     }
@@ -110,7 +110,7 @@ impl<'a> LabelStrings<'a> {
 }
 
 /// Puts a label where its key stands, and otherwise behind the others.
-fn put(
+pub fn put_label(
     labels: &mut IndexMap<String, String>,
     key: &str,
     value: &str,

@@ -2,6 +2,8 @@
 
 ghost use Rattle.std.specs.Prelude.{◌≡◌, ◌↔◌, ℕ, List, [], ◌∷◌, Option, IfSome, All, codes};
 ghost use Rattle.metrics_core.specs.declared.units.Unit.{Unit as UnitOf};
+ghost use Rattle.metrics_core.specs.Keys.{LabelText};
+ghost use Rattle.prom_format.specs.Lines.{head_text};
 ghost use Rattle.prom_format.specs.Names.{IsMetricName, IsLabelName, sanitized_metric_name, sanitized_label_name, full_name};
 ghost use Rattle.prom_format.specs.Pages.{Family, AreInRange, IsBody, IsPage, IsPrintable, body_text, page_text};
 ghost use Rattle.prom_format.specs.Printed.{canonical_label_value, canonical_description, escaped_label_value, escaped_description, printed_label_value, printed_description};
@@ -34,6 +36,12 @@ pub fn escapes_tell_their_text()
 pub fn printed_alike_where_meant_alike()
     ensures label_values { (x y : List ℕ) → (printed_label_value x ≡ printed_label_value y) ↔ (canonical_label_value x ≡ canonical_label_value y) }
     ensures descriptions { (x y : List ℕ) → (printed_description x ≡ printed_description y) ↔ (canonical_description x ≡ canonical_description y) }
+{}
+
+/// What rows begin with tells the metric name and the labels.
+pub fn heads_tell_names_and_labels()
+    ensures { (x y : List ℕ) (xs ys : List LabelText) → IsMetricName x → IsMetricName y → All (λ label. IsLabelName label.key) xs
+        → All (λ label. IsLabelName label.key) ys → head_text x xs ≡ head_text y ys → (x ≡ y) × (xs ≡ ys) }
 {}
 
 /// Families have one text, as a body and as a page: what the grammar reads as these families is that text, and where the

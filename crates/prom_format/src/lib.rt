@@ -14,12 +14,12 @@ mod suffixes;
 mod tests;
 
 pub use families::FamilyType;
-pub use labels::{LabelSet, LabelStrings};
+pub use labels::{LabelSet, LabelStrings, put_label};
 pub use laws::{
-    escapes_tell_their_text, full_names_are_metric_names, names_stay, one_reading, one_text,
+    escapes_tell_their_text, full_names_are_metric_names, heads_tell_names_and_labels, names_stay, one_reading, one_text,
     printed_alike_where_meant_alike, sanitized_texts_are_names,
 };
-pub use lines::{write_help_line, write_metric_line, write_type_line};
+pub use lines::{row_head, write_help_line, write_metric_line, write_type_line};
 pub use names::{sanitize_label_key, sanitize_metric_name};
 pub use numbers::{push_count, push_fixed};
 pub use printed::{sanitize_description, sanitize_label_value};

@@ -2,12 +2,16 @@
 
 ghost use Rattle.std.specs.Prelude.{◌≡◌, ◌++◌, codes, map, if◌then◌else◌, ◌==◌, length, IfOk, OnErr, OnOk, string_bytes};
 ghost use Rattle.std.specs.Option.{option_copied, option_map};
-ghost use Rattle.prom_format.specs.Lines.{help_line, type_line, metric_line, braced, label_texts, additional_text};
+ghost use Rattle.prom_format.specs.LabelSets.{labels_of};
+ghost use Rattle.prom_format.specs.Lines.{help_line, type_line, metric_line, braced, head_text, label_texts, shown_label_set, additional_text};
+ghost use Rattle.prom_format.specs.Names.{sanitized_metric_name};
 
 use crate::labels::LabelSet;
+use crate::names::sanitize_metric_name;
 use crate::printed::sanitize_description;
 use crate::suffixes::full_name;
-use metrics_core::{Memory, Unit};
+use indexmap::IndexMap;
+use metrics_core::{Key, Memory, Unit};
 use std::alloc::Global;
 
 /// Appends `# TYPE`, the full name and the type. The name and the type are taken as they are.
@@ -68,6 +72,22 @@ pub fn write_metric_line(
     let line = format!(in alloc; "{full_name}{labels} {value}\n")?;
     buffer.push_str(line.as_str())?;
     Ok(())
+}
+
+/// What each row of a series with this key begins with: its metric name, and the labels in braces. Series with the same
+/// one print alike.
+pub fn row_head(
+    alloc: Global,
+    key: &Key,
+    global: &IndexMap<String, String>,
+) -> Result<String, Memory>
+    ensures head { IfOk result (λ text. string_bytes text
+        ≡ head_text (sanitized_metric_name key.now.name) (shown_label_set (labels_of global.now.entries) key.now.labels)) }
+{
+    let name = sanitize_metric_name(alloc, key.name())?;
+    let labels = LabelSet::from_key_and_global(alloc, key, global)?;
+    let labels = braced_labels(alloc, &labels, None)?;
+    Ok(format!(in alloc; "{name}{labels}")?)
 }
 
 /// The labels in braces, joined by commas, and nothing where there is none.

@@ -1,6 +1,7 @@
-use Rattle.std.proofs.Common.{sym}
-use Rattle.drive_script.specs.Texts.{call_line_of}
-use Rattle.drive_script.proofs.Forms.{call_takes, round_takes, register_takes, no_reading}
+use Rattle.std.proofs.Common.{◌≡◌, Some, None, sym, rules, ◌∙◌}
+use Rattle.drive_script.specs.Reading.{call_at, round_at, register_at, global_at}
+use Rattle.drive_script.specs.Texts.{call_line_of, label_of}
+use Rattle.drive_script.proofs.Forms.{call_takes, round_takes, register_takes, global_takes, no_reading}
 use Rattle.drive_script.proofs.lines.read_line.Goals as goal
 
 pub returns-in-Some : goal.returns-in-Some
@@ -9,9 +10,20 @@ returns-in-Some c = call_takes c.args.line.now (call_line_of c.in-Some.call) (sy
 pub returns-in-Some-round_line : goal.returns-in-Some-round_line
 returns-in-Some-round_line c = round_takes c.args.line.now c.in-Some-round_line.moment (sym c.in-Some-round_line.ensures)
 
-pub returns-in_default-register_line : goal.returns-in_default-register_line
-returns-in_default-register_line c = no_reading c.args.line.now (sym c.in_default.ensures) (sym c.in_default-round_line.ensures) (sym c.in_default-register_line.ensures)
+pub returns-in-Some-2 : goal.returns-in-Some-2
+returns-in-Some-2 c =
+    let read : register_at c.args.line.now ≡ Some (c.in-Some-2.kind, (c.in-Some-2.key.name, c.in-Some-2.key.labels)) = search rules in
+    register_takes c.args.line.now c.in-Some-2.kind c.in-Some-2.key read
+
+pub returns-in-Some-3 : goal.returns-in-Some-3
+returns-in-Some-3 c =
+    let read : global_at c.args.line.now ≡ Some (label_of (c.in-Some-3.key, c.in-Some-3.value)) = search rules in
+    global_takes c.args.line.now (label_of (c.in-Some-3.key, c.in-Some-3.value)) read
 
 pub returns : goal.returns
 returns c =
-    rw (c.from_name-key.ensures.parts, c.from.ensures, c.in_ok-name.ensures.ok) (register_takes c.args.line.now c.in-Some-register_line.name.now (sym c.in-Some-register_line.ensures))
+    let no_call : call_at c.args.line.now ≡ None = search rules in
+    let no_round : round_at c.args.line.now ≡ None = search rules in
+    let no_register : register_at c.args.line.now ≡ None = search rules in
+    let no_global : global_at c.args.line.now ≡ None = search rules in
+    no_reading c.args.line.now no_call no_round no_register no_global

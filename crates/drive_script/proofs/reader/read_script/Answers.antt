@@ -1,4 +1,5 @@
-use Rattle.std.proofs.Common.{◌≡◌, ◌∷◌, ◌++◌, ◌+◌, ◌∙◌, ap}
+use Rattle.std.proofs.Common.{◌≡◌, [], ◌∷◌, ◌++◌, ◌+◌, ◌∙◌, sym, ap, arith}
+use Rattle.std.proofs.lemmas.List.{append_assoc, length_push}
 use Rattle.drive_script.specs.Script.{lines_of}
 use Rattle.drive_script.specs.Texts.{script_so_far}
 use Rattle.drive_script.specs.Valid.{AreValidLines}
@@ -12,3 +13,14 @@ returns-then-not-branch-clause-refused c =
     let valid : AreValidLines so_far.0 = (script_so_far c.loop-rest.progress, behind.script, behind.valid) in
     let split : lines_of c.args.bytes.now ≡ so_far.0 ++ c.split_line.result.0.now ∷ lines_of c.split_line.result.1.now = so_far.1 ∙ ap (λ l. so_far.0 ++ l) c.split_line.ensures.lines in
     first_bad c.args.bytes.now so_far.0 c.split_line.result.0.now (lines_of c.split_line.result.1.now) _ split (ap (λ n. n + 1) so_far.2) valid (rw c.if-not-branch.true at (c.in_ok-take_line.ensures so_far.0 behind))
+
+pub loop-rest-preserved : goal.loop-rest-preserved
+loop-rest-preserved c =
+    let so_far = c.loop-rest.invariant in
+    let line = c.split_line.result.0.now in (
+      so_far.0 ++ line ∷ [],
+      so_far.1 ∙ ap (λ l. so_far.0 ++ l) c.split_line.ensures.lines ∙ sym (append_assoc so_far.0 (line ∷ []) (lines_of c.split_line.result.1.now)),
+      ap (λ n. n + 1) so_far.2 ∙ sym (length_push so_far.0 line),
+      omega (arith, so_far.3, c.split_line.ensures.shorter),
+      rw c.if-not-branch.false at (c.in_ok-take_line.ensures so_far.0 so_far.4),
+    )

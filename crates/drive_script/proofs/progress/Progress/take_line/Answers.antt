@@ -1,6 +1,6 @@
 use Rattle.drive_script.specs.Script as text
 use Rattle.drive_script.specs.Script.{IsLine}
-use Rattle.drive_script.specs.Texts.{call_line_of}
+use Rattle.drive_script.specs.Texts.{call_line_of, label_of}
 use Rattle.drive_script.proofs.Growth.{no_next}
 use Rattle.drive_script.proofs.Steps.{step_taken}
 use Rattle.drive_script.proofs.progress.Progress.take_line.Goals as goal
@@ -8,18 +8,24 @@ use Rattle.drive_script.proofs.progress.Progress.take_line.Goals as goal
 pub returns-in-None : goal.returns-in-None
 returns-in-None c = λ lines h. no_next lines c.args.line.now (rw c.in-None.is at c.in_ok-read_line.ensures)
 
+pub returns-in-Some-Global : goal.returns-in-Some-Global
+returns-in-Some-Global c = λ lines h.
+    let says : text.ScriptLine = text.Global (label_of (c.in-Some-Global.key, c.in-Some-Global.value)) in
+    let is_line : IsLine c.args.line.now says = rw c.in-Some-Global.field-0-is at (rw c.in-Some-Global.is at c.in_ok-read_line.ensures) in
+    step_taken lines c.args.line.now c.args.self.now _ says c.add_global.result h is_line (c.add_global.ensures.next h.known)
+
 pub returns-in-Some-Round : goal.returns-in-Some-Round
 returns-in-Some-Round c = λ lines h.
     let is_line : IsLine c.args.line.now (text.Round c.in-Some-Round.moment) = rw c.in-Some-Round.field-0-is at (rw c.in-Some-Round.is at c.in_ok-read_line.ensures) in
-    step_taken lines c.args.line.now c.args.self.now _ (text.Round c.in-Some-Round.moment) c.begin_round.result h is_line (c.begin_round.ensures.kinds h.kinds) c.begin_round.ensures.next
+    step_taken lines c.args.line.now c.args.self.now _ (text.Round c.in-Some-Round.moment) c.begin_round.result h is_line (c.begin_round.ensures.next h.known h.valid.moments)
 
 pub returns-in-Some-Register : goal.returns-in-Some-Register
 returns-in-Some-Register c = λ lines h.
     let says : text.ScriptLine = text.Setup (text.Register c.in-Some-Register.kind c.in-Some-Register.key) in
     let is_line : IsLine c.args.line.now says = rw c.in-Some-Register.field-0-is at (rw c.in-Some-Register.is at c.in_ok-read_line.ensures) in
-    step_taken lines c.args.line.now c.args.self.now _ says c.register.result h is_line (c.register.ensures.kinds h.kinds) (c.register.ensures.next h.kinds)
+    step_taken lines c.args.line.now c.args.self.now _ says c.register.result h is_line (c.register.ensures.next h.known)
 
 pub returns-in-Some-Call : goal.returns-in-Some-Call
 returns-in-Some-Call c = λ lines h.
     let is_line : IsLine c.args.line.now (text.CallOf (call_line_of c.in-Some-Call.call)) = rw c.in-Some-Call.field-0-is at (rw c.in-Some-Call.is at c.in_ok-read_line.ensures) in
-    step_taken lines c.args.line.now c.args.self.now _ (text.CallOf (call_line_of c.in-Some-Call.call)) c.call.result h is_line (c.call.ensures.kinds h.kinds) (c.call.ensures.next h.kinds)
+    step_taken lines c.args.line.now c.args.self.now _ (text.CallOf (call_line_of c.in-Some-Call.call)) c.call.result h is_line (c.call.ensures.next h.known)

@@ -1,7 +1,7 @@
 use Rattle.std.proofs.Common.{rules, ap}
 use Rattle.prom_format.specs.LabelSets.{labels_of}
 use Rattle.prom_format.proofs.LabelSetLemmas.{labels_of-insert}
-use Rattle.prom_format.proofs.labels.put.Goals as goal
+use Rattle.prom_format.proofs.labels.put_label.Goals as goal
 
 pub returns : goal.returns
 returns c =

@@ -1,0 +1,167 @@
+-- Characters and labels are read one after another: what was read so far, and what the rest is read as.
+use Rattle.std.proofs.Common.{◌≡◌, ℕ, zero, suc, ◌+◌, ◌-◌, ◌<◌, ◌≤◌, Bool, true, false, ◌==◌, ◌≢◌, List, [], ◌∷◌, ◌++◌, length, get_or, take, drop, Option, Some, None, refl, sym, ap, subst, ◌∙◌, append_assoc, arith}
+use Rattle.std.specs.Prelude.{codes, if◌then◌else◌}
+use Rattle.std.proofs.lemmas.Bool.Decides.{nat_tests}
+use Rattle.std.proofs.lemmas.List.{append-nil, length-append}
+use Rattle.std.proofs.lemmas.Option.{some_pair_parts}
+use Rattle.std.proofs.lemmas.Slice.{first_rest}
+use Rattle.metrics_core.specs.Characters.{quote, backslash, newline}
+use Rattle.metrics_core.specs.Keys.{LabelText}
+use Rattle.metrics_core.specs.declared.kinds.MetricKind.{MetricKind}
+use Rattle.drive_script.specs.Reading.{◌>>=◌, after, escaped_by, escape_at, character_at, some_characters_at, characters_at, label_at, some_labels_at, labels_at, text_at, registered_kind_at, register_at}
+use Rattle.drive_script.proofs.Fields.{bind_some}
+use Rattle.drive_script.proofs.TextFields.{spaced_label_reads}
+
+-- what was read so far, before what is read of the rest
+abbrev pub and_then : {A : Type 0} → List A → Option (List A × List ℕ) → Option (List A × List ℕ)
+and_then done None = None
+and_then done (Some others) = Some (done ++ others.0, others.1)
+
+-- what was read, and the bytes behind it
+abbrev before_rest : {A : Type 0} → List A → List ℕ → Option (List A × List ℕ)
+before_rest read rest = Some (read, rest)
+
+nothing_before : {A : Type 0} (o : Option (List A × List ℕ)) → o ≡ and_then [] o
+nothing_before None = refl
+nothing_before (Some others) = refl
+
+one_more : {A : Type 0} (done : List A) (a : A) (o : Option (List A × List ℕ)) → and_then done (o >>= λ others. Some (a ∷ others.0, others.1)) ≡ and_then (done ++ a ∷ []) o
+one_more done a None = refl
+one_more done a (Some others) = ap (λ l. before_rest l others.1) (sym (append_assoc done (a ∷ []) others.0))
+
+-- the first of some bytes, and the others
+pub split_first : (bytes : List ℕ) → 0 < length bytes → bytes ≡ get_or bytes 0 0 ∷ take (length bytes - 1) (drop 1 bytes)
+split_first bytes some = first_rest bytes 0 some
+
+not_quote : (c : ℕ) → c ≢ quote → (c == quote) ≡ false
+not_quote c other = grind (arith, nat_tests)
+
+-- ---- characters
+
+pub record CharactersLeft (start text rest : List ℕ) : Type 0 where
+  most : ℕ
+  enough : length rest ≤ most
+  all : characters_at start ≡ and_then text (some_characters_at most rest)
+
+pub characters_begin : (start : List ℕ) → CharactersLeft start [] start
+characters_begin start = record { most = length start; enough = omega arith; all = nothing_before (characters_at start) }
+
+module _ (start text : List ℕ) where
+  at_first : (P : Option (List ℕ × List ℕ) → Type 0) (rest : List ℕ) (c : ℕ) (others : List ℕ) → rest ≡ c ∷ others → CharactersLeft start text rest
+      → ((most : ℕ) → length others ≤ most → characters_at start ≡ and_then text (some_characters_at (suc most) (c ∷ others)) → P (characters_at start)) → P (characters_at start)
+  at_first P rest c others split h f = by h.most (subst (λ l. length l ≤ h.most) split h.enough) (h.all ∙ ap (λ l. and_then text (some_characters_at h.most l)) split)
+    where
+      by : (most : ℕ) → length (c ∷ others) ≤ most → characters_at start ≡ and_then text (some_characters_at most (c ∷ others)) → P (characters_at start)
+      by zero few e = absurd (omega (arith, few))
+      by (suc most) few e = f most (omega (arith, few)) e
+
+  pub quote_ends : (rest : List ℕ) (c : ℕ) (others : List ℕ) → rest ≡ c ∷ others → c ≡ quote → CharactersLeft start text rest → characters_at start ≡ Some (text, others)
+  quote_ends rest c others split is h =
+      let same : (c == quote) ≡ true = ap (λ x. x == quote) is in
+      at_first (λ o. o ≡ Some (text, others)) rest c others split h
+      (λ most few e. e ∙ rw same (ap (λ l. before_rest l others) (append-nil text)))
+
+  pub bad_character : (rest : List ℕ) (c : ℕ) (others : List ℕ) → rest ≡ c ∷ others → c ≢ quote → character_at c others ≡ None → CharactersLeft start text rest → characters_at start ≡ None
+  bad_character rest c others split other none h =
+      let no_quote = not_quote c other in
+      at_first (λ o. o ≡ None) rest c others split h
+      (λ most few e. e ∙ rw (no_quote, none) refl)
+
+  pub no_quote_left : (rest : List ℕ) → rest ≡ [] → CharactersLeft start text rest → characters_at start ≡ None
+  no_quote_left rest none h = h.all ∙ ap (λ l. and_then text (some_characters_at h.most l)) none ∙ by h.most
+    where
+      by : (most : ℕ) → and_then text (some_characters_at most []) ≡ None
+      by zero = refl
+      by (suc most) = refl
+
+escape_shorter : (bytes : List ℕ) (d : ℕ) (rest : List ℕ) → escape_at bytes ≡ Some (d, rest) → length rest ≤ length bytes
+escape_shorter [] d rest e = absurd cc
+escape_shorter (c ∷ bytes) d rest e =
+    let m = bind_some (escaped_by c) (behind_it bytes) (d, rest) e in
+    let same = some_pair_parts m.0 d bytes rest m.2 in
+    omega (arith, ap length same.1)
+  where
+    behind_it : List ℕ → ℕ → Option (ℕ × List ℕ)
+    behind_it bytes d = Some (d, bytes)
+
+pub character_shorter : (c : ℕ) (bytes : List ℕ) (d : ℕ) (rest : List ℕ) → character_at c bytes ≡ Some (d, rest) → length rest ≤ length bytes
+character_shorter c bytes d rest e = by (c == newline) (c == backslash) e
+  where
+    by : (n b : Bool) → (if n then None else if b then escape_at bytes else Some (c, bytes)) ≡ Some (d, rest) → length rest ≤ length bytes
+    by true b f = absurd cc
+    by false true f = escape_shorter bytes d rest f
+    by false false f = let same = some_pair_parts c d bytes rest f in omega (arith, ap length same.1)
+
+pub next_character : (start text rest : List ℕ) (c : ℕ) (others : List ℕ) (d : ℕ) (left : List ℕ) → rest ≡ c ∷ others → c ≢ quote → character_at c others ≡ Some (d, left) → CharactersLeft start text rest → CharactersLeft start (text ++ d ∷ []) left
+next_character start text rest c others d left split other found h = by h.most (subst (λ l. length l ≤ h.most) split h.enough) (h.all ∙ ap (λ l. and_then text (some_characters_at h.most l)) split)
+  where
+    by : (most : ℕ) → length (c ∷ others) ≤ most → characters_at start ≡ and_then text (some_characters_at most (c ∷ others)) → CharactersLeft start (text ++ d ∷ []) left
+    by zero few e = absurd (omega (arith, few))
+    by (suc most) few e = record {
+      most = most;
+      enough = omega (arith, few, character_shorter c others d left found);
+      all = e ∙ rw (not_quote c other, found) (one_more text d (some_characters_at most left));
+    }
+
+-- ---- labels
+
+pub record LabelsLeft (start : List ℕ) (labels : List LabelText) (rest : List ℕ) : Type 0 where
+  most : ℕ
+  enough : length rest ≤ most
+  all : labels_at start ≡ and_then labels (some_labels_at most rest)
+
+pub labels_begin : (start : List ℕ) → LabelsLeft start [] start
+unfolding labels_at
+labels_begin start = record { most = length start; enough = omega arith; all = nothing_before (some_labels_at (length start) start) }
+
+pub spaced_label_shorter : (rest : List ℕ) (label : LabelText) (left : List ℕ) → after (codes " ") label_at rest ≡ Some (label, left) → length left < length rest
+spaced_label_shorter rest label left found =
+    let h = spaced_label_reads.takes rest label left found in
+    let (word, spelled, front) = h.1 in
+    omega (arith, ap length h.2, length-append h.0 left, ap length front)
+
+pub labels_end : (start : List ℕ) (labels : List LabelText) (rest : List ℕ) → rest ≡ [] → LabelsLeft start labels rest → labels_at start ≡ Some (labels, rest)
+labels_end start labels rest none h = h.all ∙ ap (λ l. and_then labels (some_labels_at h.most l)) none ∙ by h.most ∙ ap (λ l. before_rest labels l) (sym none)
+  where
+    by : (most : ℕ) → and_then labels (some_labels_at most []) ≡ Some (labels, [])
+    by zero = ap (λ l. before_rest l []) (append-nil labels)
+    by (suc most) = ap (λ l. before_rest l []) (append-nil labels)
+
+pub bad_label : (start : List ℕ) (labels : List LabelText) (rest : List ℕ) → 0 < length rest → after (codes " ") label_at rest ≡ None → LabelsLeft start labels rest → labels_at start ≡ None
+bad_label start labels rest some none h = by h.most rest some h.enough none h.all
+  where
+    by : (most : ℕ) (rest : List ℕ) → 0 < length rest → length rest ≤ most → after (codes " ") label_at rest ≡ None → labels_at start ≡ and_then labels (some_labels_at most rest) → labels_at start ≡ None
+    by most [] some few none e = absurd (omega (arith, some))
+    by zero (b ∷ rest) some few none e = absurd (omega (arith, few))
+    by (suc most) (b ∷ rest) some few none e = e ∙ rw none refl
+
+pub next_label : (start : List ℕ) (labels : List LabelText) (rest : List ℕ) (label : LabelText) (left : List ℕ) → 0 < length rest → after (codes " ") label_at rest ≡ Some (label, left) → LabelsLeft start labels rest → LabelsLeft start (labels ++ label ∷ []) left
+next_label start labels rest label left some found h = by h.most rest some h.enough found h.all
+  where
+    by : (most : ℕ) (rest : List ℕ) → 0 < length rest → length rest ≤ most → after (codes " ") label_at rest ≡ Some (label, left) → labels_at start ≡ and_then labels (some_labels_at most rest) → LabelsLeft start (labels ++ label ∷ []) left
+    by most [] some few found e = absurd (omega (arith, some))
+    by zero (b ∷ rest) some few found e = absurd (omega (arith, few))
+    by (suc most) (b ∷ rest) some few found e = record {
+      most = most;
+      enough = omega (arith, few, spaced_label_shorter (b ∷ rest) label left found);
+      all = e ∙ rw found (one_more labels label (some_labels_at most left));
+    }
+
+-- labels are read to the end
+labels_to_end : (most : ℕ) (bytes : List ℕ) (labels : List LabelText) (rest : List ℕ) → some_labels_at most bytes ≡ Some (labels, rest) → rest ≡ []
+labels_to_end zero [] labels rest e = sym (some_pair_parts [] labels [] rest e).1
+labels_to_end (suc most) [] labels rest e = sym (some_pair_parts [] labels [] rest e).1
+labels_to_end zero (b ∷ bytes) labels rest e = absurd cc
+labels_to_end (suc most) (b ∷ bytes) labels rest e =
+    let m = bind_some (after (codes " ") label_at (b ∷ bytes)) (λ label. some_labels_at most label.1 >>= λ others. Some (label.0 ∷ others.0, others.1)) (labels, rest) e in
+    let k = bind_some (some_labels_at most m.0.1) (λ others. Some (m.0.0 ∷ others.0, others.1)) (labels, rest) m.2 in
+    sym (some_pair_parts (m.0.0 ∷ k.0.0) labels k.0.1 rest k.2).1 ∙ labels_to_end most m.0.1 k.0.0 k.0.1 k.1
+
+pub all_labels_read : (bytes : List ℕ) (labels : List LabelText) (rest : List ℕ) → labels_at bytes ≡ Some (labels, rest) → rest ≡ []
+unfolding labels_at
+all_labels_read bytes labels rest e = labels_to_end (length bytes) bytes labels rest e
+
+pub registered_read : (line behind_kind behind_name rest : List ℕ) (kind : MetricKind) (name : List ℕ) (labels : List LabelText) → registered_kind_at line ≡ Some (kind, behind_kind) → text_at behind_kind ≡ Some (name, behind_name) → labels_at behind_name ≡ Some (labels, rest)
+    → register_at line ≡ Some (kind, (name, labels))
+unfolding register_at
+registered_read line behind_kind behind_name rest kind name labels is_kind is_name are_labels = rw (is_kind, is_name, are_labels, all_labels_read behind_name labels rest are_labels) refl
