@@ -1,0 +1,4 @@
+pub mod Live
+pub mod Places
+pub mod Shelf
+pub mod ShelfLends

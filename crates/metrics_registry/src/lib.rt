@@ -1,0 +1,6 @@
+//! What both exporters keep of series and of distributions.
+#![tactic(auto)]
+
+mod shelf;
+
+
