@@ -4,12 +4,12 @@ use Rattle.std.specs.Prelude.{find, slice_get, remove, option_map}
 use Rattle.std.specs.List.{list_any, All}
 use Rattle.std.specs.Prelude.{◌||◌}
 use Rattle.std.proofs.lemmas.Bool.{eqb-true, ne_eqb, and_parts, and_right, or_parts}
-use Rattle.std.proofs.lemmas.List.Elements.{All-head, All-tail}
+use Rattle.std.proofs.lemmas.List.Elements.{All-head, All-tail, All-nil, All-cons}
+use Rattle.metrics_core.specs.declared.kinds.MetricKind.{MetricKind}
 use Rattle.metrics_core.specs.declared.kinds.SeriesId.{SeriesId}
 use Rattle.metrics_core.specs.Keys.{KeyText, key_eq}
-use Rattle.metrics_registry.specs.Live.{LiveSeries, has_id, has_key, id_of_key, cell_of, is_live, set_cell, with_cell, without, IsBelowAll, Rises}
-use Rattle.metrics_registry.specs.Places.{with_cell_at}
-use Rattle.metrics_registry.specs.Shelf.{IsPlace}
+use Rattle.metrics_registry.specs.Live.{LiveSeries, has_id, has_key, id_of_key, cell_of, is_live, set_cell, with_cell, without, IsBelowAll, Rises, AreOf}
+use Rattle.metrics_registry.specs.Places.{with_cell_at, IsPlace}
 
 module _ {X : Type 0} where
   -- ---- by number
@@ -183,3 +183,30 @@ module _ {X : Type 0} where
   with_cell-place id live i rises place =
       let own = has_id_at id live i place in
       λ j w. with_cell-at id w live i own.series rises own.at own.has j
+
+  -- ---- kinds, and numbers below the number of series made
+
+  pub all_below : (kind : MetricKind) (n : ℕ) (live : List (LiveSeries X)) → AreOf kind n live → All (λ series. series.id.number < n) live
+  all_below kind n [] of = All-nil (λ series. series.id.number < n)
+  all_below kind n (s ∷ live) of = All-cons (λ series. series.id.number < n) s live of.1 (all_below kind n live of.2)
+
+  pub are_of-made : (kind : MetricKind) (n : ℕ) (live : List (LiveSeries X)) (s : LiveSeries X) → AreOf kind n live → s.id.kind ≡ kind → s.id.number ≡ n → AreOf kind (n + 1) (live ++ s ∷ [])
+  are_of-made kind n [] s of own number = (own, omega arith, tt)
+  are_of-made kind n (x ∷ live) s of own number = (of.0, omega (arith, of.1), are_of-made kind n live s of.2 own number)
+
+  pub are_of-more : (kind : MetricKind) (n : ℕ) (live : List (LiveSeries X)) → AreOf kind n live → AreOf kind (n + 1) live
+  are_of-more kind n [] of = tt
+  are_of-more kind n (x ∷ live) of = (of.0, omega (arith, of.1), are_of-more kind n live of.2)
+
+  pub are_of-with_cell_at : (kind : MetricKind) (n : ℕ) (live : List (LiveSeries X)) (i : ℕ) (w : X) → AreOf kind n live → AreOf kind n (with_cell_at live i w)
+  are_of-with_cell_at kind n [] i w of = tt
+  are_of-with_cell_at kind n (x ∷ live) zero w of = of
+  are_of-with_cell_at kind n (x ∷ live) (suc i) w of = (of.0, of.1, are_of-with_cell_at kind n live i w of.2)
+
+  pub are_of-without : (id : SeriesId) (kind : MetricKind) (n : ℕ) (live : List (LiveSeries X)) → AreOf kind n live → AreOf kind n (without id live)
+  are_of-without id kind n [] of = tt
+  are_of-without id kind n (x ∷ live) of =
+      elim (has_id id x) as (λ b. AreOf kind n (cond (not b) (x ∷ without id live) (without id live))) [
+        | true ↦ are_of-without id kind n live of.2
+        | false ↦ (of.0, of.1, are_of-without id kind n live of.2)
+      ]

@@ -1,4 +1,11 @@
 pub mod Live
 pub mod Places
-pub mod Shelf
-pub mod ShelfLends
+pub mod Stored
+pub mod ColumnLends
+pub mod StoredRegistry
+pub mod RegistryLends
+pub mod Recency
+pub mod Masks
+pub mod Quantiles
+pub mod Cumulative
+pub mod Buckets

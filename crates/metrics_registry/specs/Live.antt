@@ -1,6 +1,8 @@
 -- The live series of a registry, as its contracts see them (this project's rule).
-use Rattle.std.specs.Prelude.{ℕ, ◌<◌, Bool, ◌&&◌, ◌==◌, not, List, [], ◌∷◌, map, filter, find, position, Option, option_map, if◌then◌else◌}
+use Rattle.std.specs.Prelude.{◌≡◌, ℕ, ◌<◌, Bool, ◌&&◌, ◌==◌, not, List, [], ◌∷◌, map, filter, find, position, Option, option_map, if◌then◌else◌}
 use Rattle.std.specs.List.{list_any}
+use Rattle.metrics_core.specs.declared.kinds.MetricKind.{MetricKind}
+use Rattle.metrics_core.specs.declared.kinds.MetricKind.TheVariants.{Counter, Gauge, Histogram}
 use Rattle.metrics_core.specs.declared.kinds.SeriesId.{SeriesId}
 use Rattle.metrics_core.specs.Kinds.{kind_eq}
 use Rattle.metrics_core.specs.Keys.{KeyText, key_eq}
@@ -51,3 +53,21 @@ module _ {X : Type 0} where
   abbrev pub Rises : List (LiveSeries X) → Type 0
   Rises [] = Unit {0}
   Rises (series ∷ live) = IsBelowAll series.id.number live × Rises live
+
+  -- each series is of the kind, and its number is below n
+  abbrev pub AreOf : MetricKind → ℕ → List (LiveSeries X) → Type 0
+  AreOf kind n [] = Unit {0}
+  AreOf kind n (series ∷ live) = (series.id.kind ≡ kind) × (series.id.number < n) × AreOf kind n live
+
+-- the live series of each kind, in order of registration, and how many series were ever made
+pub record RegistryText (C G H : Type 0) : Type 0 where
+  pub counters : List (LiveSeries C)
+  pub gauges : List (LiveSeries G)
+  pub histograms : List (LiveSeries H)
+  pub made : ℕ
+
+-- in each list the ids are of its kind, and their numbers rise and are below the number of series made
+pub record IsNumbered {C G H : Type 0} (registry : RegistryText C G H) : Type 0 where
+  pub counters : Rises registry.counters × AreOf Counter registry.made registry.counters
+  pub gauges : Rises registry.gauges × AreOf Gauge registry.made registry.gauges
+  pub histograms : Rises registry.histograms × AreOf Histogram registry.made registry.histograms

@@ -1,6 +1,15 @@
-//! What both exporters keep of series and of distributions.
+//! What both exporters keep of series and of distributions: the live series of a state, when they fall idle, and bags,
+//! cumulative histograms and quantiles of values.
 #![tactic(auto)]
 
-mod shelf;
+mod columns;
+mod cumulative;
+mod quantiles;
+mod recency;
+mod registry;
 
-
+pub use columns::SeriesIter;
+pub use cumulative::CumulativeHistogram;
+pub use quantiles::{Quantile, parse_quantiles};
+pub use recency::{MetricKindMask, Recency};
+pub use registry::Registry;
