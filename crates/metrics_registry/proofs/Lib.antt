@@ -1,2 +1,3 @@
 pub mod Found
 pub mod StoredSeries
+pub mod Observed

@@ -1,11 +1,12 @@
 //! Histograms with cumulative buckets.
 
-ghost use Rattle.std.specs.Prelude.{◌≡◌, ◌<◌, [], map, length, IfOk};
+ghost use Rattle.std.specs.Prelude.{◌≡◌, ◌<◌, [], map, length, IfOk, pos, FitsSigned, ◌*ℤ◌};
+ghost use Rattle.std.specs.Int.{w128};
 ghost use Rattle.metrics_registry.specs.Cumulative.{StandsFor, Observes};
-ghost use Rattle.metrics_registry.specs.Buckets.{bucket_of};
+ghost use Rattle.metrics_registry.specs.Buckets.{bucket_of, raised_bucket};
 
 use metrics_core::{Fixed, Memory};
-use std::alloc::Global;
+use std::alloc::{AllocError, Global};
 use std::marker::Model;
 
 /// A histogram with cumulative buckets: of each bound how many samples are at most the bound; the sum and the count of all
@@ -19,13 +20,17 @@ pub struct CumulativeHistogram {
 }
 
 impl Model for CumulativeHistogram {
-    ghost use Rattle.std.specs.Prelude.{map};
-    ghost use Rattle.metrics_registry.specs.Cumulative.{HistogramText};
+    ghost use Rattle.std.specs.Prelude.{map, FitsSigned};
+    ghost use Rattle.std.specs.Int.{w128};
+    ghost use Rattle.std.specs.Int.{w128};
+ghost use Rattle.metrics_registry.specs.Cumulative.{HistogramText};
     ghost use Rattle.metrics_registry.specs.Buckets.{bucket_of};
 
     ghost Value = { HistogramText };
 
     ghost view = { λ h. record { buckets = map bucket_of h.buckets.items; sum = h.sum; count = h.count } };
+
+    ghost invariant = { λ h. FitsSigned w128 h.sum };
 }
 
 impl CumulativeHistogram {
@@ -34,10 +39,7 @@ impl CumulativeHistogram {
         requires { 0 < length bounds.now }
         ensures { IfOk result (StandsFor (map (λ bound. bound.0) bounds.now) []) }
     {
-        let mut buckets = Vec::with_capacity(alloc, bounds.len())?;
-        for bound in bounds {
-            buckets.push((*bound, 0))?;
-        }
+        let buckets = empty_buckets(alloc, bounds)?;
         Ok(CumulativeHistogram {
             buckets,
             sum: 0,
@@ -49,14 +51,8 @@ impl CumulativeHistogram {
     pub fn observe(&mut self, value: Fixed, count: u32)
         ensures { Observes self.old (value.0, count) self.new }
     {
-        for bucket in &mut self.buckets {
-            if value <= bucket.0 {
-                bucket.1 = bucket.1.wrapping_add(u64::from(count));
-            }
-        }
-        self.sum = self
-            .sum
-            .wrapping_add(i128::from(value.0) * i128::from(count));
+        raise_all(self.buckets.as_mut_slice(), value, count);
+        self.sum = self.sum.wrapping_add(product(value, count));
         self.count = self.count.wrapping_add(u64::from(count));
     }
 
@@ -79,5 +75,42 @@ impl CumulativeHistogram {
         ensures { result ≡ self.now.count }
     {
         self.count
+    }
+}
+
+/// A bucket of no samples for each bound.
+fn empty_buckets(alloc: Global, bounds: &[Fixed]) -> Result<Vec<(Fixed, u64)>, AllocError>
+    ensures { IfOk result (λ buckets. buckets.items ≡ map (λ bound. (bound, 0)) bounds.now) }
+{
+    bounds.iter().map(|bound| (*bound, 0)).collect(alloc)
+}
+
+/// A value so many times.
+fn product(value: Fixed, count: u32) -> i128
+    ensures product { result ≡ value.0 *ℤ pos count }
+    ensures fits { FitsSigned w128 result }
+    ensures value_fits { FitsSigned w128 value.0 }
+{
+    i128::from(value.0) * i128::from(count)
+}
+
+/// A bucket after a value was observed so many times.
+fn raised(bucket: (Fixed, u64), value: Fixed, count: u32) -> (Fixed, u64)
+    ensures { result ≡ raised_bucket value.0 count bucket }
+{
+    let (bound, held) = bucket;
+    if value.0 <= bound.0 {
+        (bound, held.wrapping_add(u64::from(count)))
+    } else {
+        (bound, held)
+    }
+}
+
+/// Raises each bucket.
+fn raise_all(buckets: &mut [(Fixed, u64)], value: Fixed, count: u32)
+    ensures { buckets.new ≡ map (raised_bucket value.0 count) buckets.old }
+{
+    for bucket in buckets.iter_mut() {
+        *bucket = raised(*bucket, value, count);
     }
 }

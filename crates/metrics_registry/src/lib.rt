@@ -4,12 +4,14 @@
 
 mod columns;
 mod cumulative;
+mod laws;
 mod quantiles;
 mod recency;
 mod registry;
 
 pub use columns::SeriesIter;
 pub use cumulative::CumulativeHistogram;
+pub use laws::same_in_any_cuts;
 pub use quantiles::{Quantile, parse_quantiles};
 pub use recency::{MetricKindMask, Recency};
 pub use registry::Registry;

@@ -57,9 +57,8 @@ impl Quantile {
 pub fn parse_quantiles(alloc: Global, values: &[Fixed]) -> Result<Vec<Quantile>, Memory>
     ensures { IfOk result (λ quantiles. quantiles.items ≡ map (λ value. clamped value.0) values.now) }
 {
-    let mut quantiles = Vec::new(alloc);
-    for value in values {
-        quantiles.push(Quantile::new(*value))?;
-    }
-    Ok(quantiles)
+    Ok(values
+        .iter()
+        .map(|value| Quantile::new(*value))
+        .collect(alloc)?)
 }
