@@ -9,3 +9,5 @@ pub mod Masks
 pub mod Quantiles
 pub mod Cumulative
 pub mod Buckets
+pub mod Bags
+pub mod QuantileLaws

@@ -2,6 +2,7 @@
 //! cumulative histograms and quantiles of values.
 #![tactic(auto)]
 
+mod bag;
 mod columns;
 mod cumulative;
 mod laws;
@@ -9,6 +10,7 @@ mod quantiles;
 mod recency;
 mod registry;
 
+pub use bag::Bag;
 pub use columns::SeriesIter;
 pub use cumulative::CumulativeHistogram;
 pub use laws::same_in_any_cuts;

@@ -1,6 +1,7 @@
 //! Quantiles, as numbers from 0 to 1.
 
-ghost use Rattle.std.specs.Prelude.{◌≡◌, pos, map, IfOk};
+ghost use Rattle.std.specs.Prelude.{◌≡◌, ◌≤◌, pos, map, IfOk};
+ghost use Rattle.metrics_core.specs.Numbers.{one};
 ghost use Rattle.metrics_core.specs.Fixed.{of_billionths};
 ghost use Rattle.metrics_registry.specs.Quantiles.{clamped};
 
@@ -50,6 +51,14 @@ impl Quantile {
         ensures { result ≡ of_billionths (pos self.now) }
     {
         Fixed(i64::from(self.billionths))
+    }
+
+    /// Its number of billionths.
+    pub(crate) fn billionths(&self) -> u32
+        ensures billionths { result ≡ self.now }
+        ensures at_most_one { result ≤ one }
+    {
+        self.billionths
     }
 }
 
