@@ -1,0 +1,4 @@
+pub mod Found
+pub mod StoredSeries
+pub mod Observed
+pub mod Bagged

@@ -1,0 +1,5 @@
+use Rattle.metrics_registry.proofs.Observed as observed
+use Rattle.metrics_registry.proofs.laws.same_in_any_cuts.Goals as goal
+
+pub returns : goal.returns
+returns c = observed.same_in_any_cuts

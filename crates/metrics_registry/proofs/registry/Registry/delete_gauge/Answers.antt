@@ -1,0 +1,16 @@
+use Rattle.std.proofs.Common.{sym, subst}
+use Rattle.metrics_core.specs.declared.kinds.MetricKind.TheVariants.{Gauge}
+use Rattle.metrics_registry.specs.Live.{AreOf}
+use Rattle.metrics_registry.specs.Stored.{live_of}
+use Rattle.metrics_registry.proofs.Found.{are_of-without}
+use Rattle.metrics_registry.proofs.registry.Registry.delete_gauge.Goals as goal
+
+pub invariant_of-self : goal.invariant_of-self
+invariant_of-self g c = record {
+  counters = c.self.invariant.counters;
+  counters_of = c.self.invariant.counters_of;
+  gauges = c.delete.ensures.stored;
+  gauges_of = subst (AreOf Gauge c.self.inside.made) (sym c.delete.ensures.rest) (are_of-without c.args.id Gauge c.self.inside.made (live_of c.self.inside.gauge_keys.keys c.self.inside.gauges.items.items) c.self.invariant.gauges_of);
+  histograms = c.self.invariant.histograms;
+  histograms_of = c.self.invariant.histograms_of;
+}

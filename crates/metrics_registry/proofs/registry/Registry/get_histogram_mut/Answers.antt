@@ -1,0 +1,15 @@
+use Rattle.std.proofs.Common.{refl, sym, ap, ◌∙◌, inl}
+use Rattle.metrics_registry.proofs.Found.{cell_of-place, cell_of-none, with_cell-place}
+use Rattle.metrics_registry.proofs.registry.Registry.get_histogram_mut.Goals as goal
+
+pub returns-in-Some : goal.returns-in-Some
+returns-in-Some g c = (
+  ap (λ f. inl (c.histogram_at.result.ghost_name, λ cell. record c.args.self.now { histograms = f cell })) (with_cell-place c.args.id c.args.self.now.histograms c.in-Some.place c.in-Some.ensures.rises c.in-Some.ensures.place),
+  record {
+    writes_back = tt;
+    value = sym (cell_of-place c.args.id c.args.self.now.histograms c.in-Some.place c.in-Some.ensures.rises c.in-Some.ensures.place ∙ c.histogram_at.ensures.value);
+  },
+)
+
+pub returns-in-None : goal.returns-in-None
+returns-in-None g c = (refl, record { writes_back = tt; value = sym (cell_of-none c.args.id c.args.self.now.histograms c.in-None.ensures.place) })

@@ -1,0 +1,13 @@
+pub mod Live
+pub mod Places
+pub mod Stored
+pub mod ColumnLends
+pub mod StoredRegistry
+pub mod RegistryLends
+pub mod Recency
+pub mod Masks
+pub mod Quantiles
+pub mod Cumulative
+pub mod Buckets
+pub mod Bags
+pub mod QuantileLaws

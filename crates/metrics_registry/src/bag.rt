@@ -1,0 +1,156 @@
+//! Bags of values, for quantiles.
+
+ghost use Rattle.std.specs.Prelude.{◌≡◌, ℤ, ◌+◌, ◌-◌, ◌^◌, ◌≤◌, ◌<◌, [], ◌++◌, length, replicate, slice_get, option_map, IsErr, OnOk, OnErr, if◌then◌else◌};
+ghost use Rattle.std.specs.Ordering.{int_cmp, int_eq};
+ghost use Rattle.std.specs.BTreeMap.{IsOrdered};
+ghost use Rattle.metrics_core.specs.Fixed.{of_billionths};
+ghost use Rattle.metrics_core.specs.Numbers.{one};
+ghost use Rattle.metrics_registry.specs.Quantiles.{ascending, rank, nearest_rank};
+ghost use Rattle.metrics_registry.specs.Bags.{copies, repeated};
+
+use crate::Quantile;
+use metrics_core::{Fixed, Memory};
+use std::alloc::Global;
+use std::collections::BTreeMap;
+use std::marker::Model;
+
+/// A bag of fewer than 2^64 values. A contract sees it as the list of its values in ascending order. It takes memory for
+/// each distinct value once, however often the value is there.
+#[derive(Drop)]
+pub struct Bag {
+    /// From each value, in billionths, to how often it is there.
+    counts: BTreeMap<i64, u64>,
+    /// How many values there are.
+    count: u64,
+    alloc: Global,
+}
+
+impl Model for Bag {
+    ghost use Rattle.std.specs.Prelude.{◌≡◌, List, ℤ, length};
+    ghost use Rattle.metrics_registry.specs.Quantiles.{ascending};
+    ghost use Rattle.metrics_registry.specs.Bags.{repeated};
+
+    ghost Value = { List ℤ };
+
+    ghost view = { λ bag. ascending (repeated bag.counts.entries) };
+
+    ghost invariant = { λ bag. bag.count ≡ length (repeated bag.counts.entries) };
+}
+
+impl Bag {
+    /// A bag without values.
+    pub fn new(alloc: Global) -> Bag
+        ensures { result ≡ [] }
+    {
+        Bag {
+            counts: BTreeMap::new(alloc),
+            count: 0,
+            alloc,
+        }
+    }
+
+    /// Adds a value so many times. It is refused, and changes nothing, also where the bag would hold 2^64 values or more.
+    pub fn add(&mut self, value: Fixed, count: u64) -> Result<(), Memory>
+        ensures added { OnOk result (self.new ≡ ascending (self.old ++ replicate count value.0)) }
+        ensures refused { OnErr result (self.new ≡ self.old) }
+        ensures full { 2 ^ 64 ≤ length self.old + count → IsErr result }
+    {
+        let Some(total) = self.count.checked_add(count) else {
+            return Err(Memory);
+        };
+        raise(&mut self.counts, value.0, count)?;
+        self.count = total;
+        Ok(())
+    }
+
+    /// Adds all values of another bag. It is refused, and changes nothing, also where the bag would hold 2^64 values or
+    /// more.
+    pub fn merge(&mut self, other: &Bag) -> Result<(), Memory>
+        ensures merged { OnOk result (self.new ≡ ascending (self.old ++ other.now)) }
+        ensures refused { OnErr result (self.new ≡ self.old) }
+        ensures full { 2 ^ 64 ≤ length self.old + length other.now → IsErr result }
+    {
+        let Some(total) = self.count.checked_add(other.count) else {
+            return Err(Memory);
+        };
+        let mut merged = BTreeMap::new(self.alloc);
+        add_all(&mut merged, &self.counts)?;
+        add_all(&mut merged, &other.counts)?;
+        self.counts = merged;
+        self.count = total;
+        Ok(())
+    }
+
+    /// How many values there are.
+    pub fn count(&self) -> u64
+        ensures { result ≡ length self.now }
+    {
+        self.count
+    }
+
+    /// The value at a quantile by the nearest rank: that of rank q * n rounded up, at least 1, among the n values in
+    /// ascending order. It is `None` exactly where the bag is empty. It takes time linear in the distinct values.
+    pub fn quantile(&self, q: &Quantile) -> Option<Fixed>
+        ensures { result ≡ option_map of_billionths (nearest_rank q.now self.now) }
+    {
+        value_at(&self.counts, rank_of(q.billionths(), self.count))
+    }
+}
+
+/// The rank of a quantile, in billionths, among so many values.
+fn rank_of(billionths: u32, count: u64) -> u64
+    requires { billionths ≤ one }
+    ensures { result ≡ rank billionths count }
+{
+    let rounded = (u128::from(billionths) * u128::from(count) + 999_999_999) / 1_000_000_000;
+    (rounded as u64).max(1)
+}
+
+/// Raises the count of a value.
+fn raise(counts: &mut BTreeMap<i64, u64>, value: i64, count: u64) -> Result<(), Memory>
+    requires { copies value counts.old.entries + count < 2 ^ 64 }
+    ensures raised { OnOk result ((v : ℤ) → copies v counts.new.entries ≡ copies v counts.old.entries + (if int_eq v value then count else 0)) }
+    ensures refused { OnErr result (counts.new.entries ≡ counts.old.entries) }
+{
+    let held = copies_of(counts, &value);
+    counts.insert(value, held + count)?;
+    Ok(())
+}
+
+/// How often a value is there.
+fn copies_of(counts: &BTreeMap<i64, u64>, value: &i64) -> u64
+    ensures { result ≡ copies value.now counts.now.entries }
+{
+    // `len` is called for its clause that the map is in order, which the proof cites.
+    let _len = counts.len();
+    counts.get(value).copied().unwrap_or(0)
+}
+
+/// Adds all counts of one map to those of another. After a refusal some of them were added.
+fn add_all(counts: &mut BTreeMap<i64, u64>, others: &BTreeMap<i64, u64>) -> Result<(), Memory>
+    requires { (v : ℤ) → copies v counts.old.entries + copies v others.now.entries < 2 ^ 64 }
+    ensures { OnOk result ((v : ℤ) → copies v counts.new.entries ≡ copies v counts.old.entries + copies v others.now.entries) }
+{
+    for (value, count) in others {
+        raise(counts, *value, *count)?;
+    }
+    Ok(())
+}
+
+/// The value at a rank, counted from 1, among all values in ascending order.
+fn value_at(counts: &BTreeMap<i64, u64>, rank: u64) -> Option<Fixed>
+    requires { 1 ≤ rank }
+    ensures value { result ≡ option_map of_billionths (slice_get (repeated counts.now.entries) (rank - 1)) }
+    ensures ordered { IsOrdered int_cmp counts.now }
+{
+    // `len` is called for its clause that the map is in order.
+    let _len = counts.len();
+    let mut left = rank;
+    for (value, count) in counts {
+        if left <= *count {
+            return Some(Fixed(*value));
+        }
+        left -= *count;
+    }
+    None
+}

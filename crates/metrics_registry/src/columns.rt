@@ -1,0 +1,191 @@
+//! How the series of one kind are stored: their keys in a set, and in the same order their ids and cells in a column.
+
+ghost use Rattle.std.specs.Prelude.{◌≡◌, ◌<◌, List, [], ◌∷◌, ◌++◌, length, slice_get, remove, option_map, Some, None, All, OnOk, IfErr, OnErr};
+ghost use Rattle.std.specs.Option.{option_copied};
+ghost use Rattle.std.specs.Borrow.{sem};
+ghost use Rattle.metrics_core.specs.Keys.{KeyText};
+ghost use Rattle.metrics_registry.specs.Live.{id_of_key, cell_of, is_live, without};
+
+use indexmap::IndexSet;
+use metrics_core::{Key, SeriesId};
+use std::alloc::Global;
+use std::marker::Model;
+
+/// What is stored of a series beside its key.
+#[derive(Drop)]
+pub(crate) struct Series<T> {
+    id: SeriesId,
+    cell: T,
+}
+
+/// What is stored of the series of one kind beside their keys.
+#[derive(Drop)]
+pub(crate) struct Column<T> {
+    pub(crate) items: Vec<Series<T>>,
+}
+
+impl<T> Column<T> {
+    ghost use Rattle.metrics_registry.specs.ColumnLends.{lends_stored};
+    ghost use Rattle.metrics_registry.specs.Stored.{live_of, AreStored};
+    ghost use Rattle.metrics_registry.specs.Places.{IsPlace};
+
+    pub(crate) fn new(alloc: Global) -> Column<T>
+        ensures { result.items.items ≡ [] }
+    {
+        Column {
+            items: Vec::new(alloc),
+        }
+    }
+
+    /// The id of the series with an equal key.
+    pub(crate) fn find(&self, keys: &IndexSet<Key>, key: &Key) -> Option<SeriesId>
+        requires { AreStored keys.now.keys self.now.items.items }
+        ensures { result ≡ id_of_key key.now (live_of keys.now.keys self.now.items.items) }
+    {
+        let place = keys.get_index_of(key)?;
+        Some(self.items[place].id)
+    }
+
+    /// The place of the series with the id. The ids stand in the order of their numbers.
+    pub(crate) fn place(&self, id: SeriesId) -> Option<usize>
+        ensures { (keys : List KeyText) → AreStored keys self.now.items.items → IsPlace id (live_of keys self.now.items.items) result }
+    {
+        match self
+            .items
+            .binary_search_by_key(&id.number, |series: &Series<T>| series.id.number)
+        {
+            Ok(place) => {
+                if self.items[place].id == id {
+                    Some(place)
+                } else {
+                    None
+                }
+            }
+            Err(_) => None,
+        }
+    }
+
+    /// The cell of the series with the id.
+    pub(crate) fn get(&self, id: SeriesId) -> Option<&T>
+        requires { (keys : List KeyText) × AreStored keys self.now.items.items }
+        ensures { (keys : List KeyText) → AreStored keys self.now.items.items → option_copied result ≡ cell_of id (live_of keys self.now.items.items) }
+    {
+        let place = self.place(id)?;
+        Some(&self.items[place].cell)
+    }
+
+    /// The cell at a place.
+    pub(crate) fn cell_mut(&mut self, place: usize) -> &mut T
+        requires { place < length self.old.items.items }
+        ensures* writes_back { sem 𝓛 (lends_stored T.row self.entry place result) }
+        ensures value { option_map (λ series. series.cell) (slice_get self.old.items.items place) ≡ Some result.now }
+    {
+        let series = &mut self.items[place];
+        &mut series.cell
+    }
+
+    /// Adds a series behind the others. Where memory is refused, key and cell come back.
+    pub(crate) fn add(
+        &mut self,
+        keys: &mut IndexSet<Key>,
+        key: Key,
+        id: SeriesId,
+        cell: T,
+    ) -> Result<(), (Key, T)>
+        requires stored { AreStored keys.old.keys self.old.items.items }
+        requires new { id_of_key key (live_of keys.old.keys self.old.items.items) ≡ None }
+        requires above { All (λ series. series.id.number < id.number) (live_of keys.old.keys self.old.items.items) }
+        ensures added { OnOk result (live_of keys.new.keys self.new.items.items ≡ live_of keys.old.keys self.old.items.items ++ record { id = id; key = key; cell = cell } ∷ []) }
+        ensures refused { OnErr result (live_of keys.new.keys self.new.items.items ≡ live_of keys.old.keys self.old.items.items) }
+        ensures returned { IfErr result (λ parts. parts ≡ (key, cell)) }
+        ensures stored { AreStored keys.new.keys self.new.items.items }
+    {
+        match self.items.push(Series { id, cell }) {
+            Ok(()) => {}
+            Err(refused) => {
+                let Series { id: _, cell } = refused.value;
+                return Err((key, cell));
+            }
+        }
+        match keys.insert(key) {
+            Ok(_) => Ok(()),
+            Err(refused) => {
+                let Series { id: _, cell } = self.items.pop().unwrap();
+                Err((refused.value, cell))
+            }
+        }
+    }
+
+    /// Removes the series with the id. The others keep their order.
+    pub(crate) fn delete(&mut self, keys: &mut IndexSet<Key>, id: SeriesId) -> bool
+    where
+        T: Drop,
+        requires { AreStored keys.old.keys self.old.items.items }
+        ensures was_live { result ≡ is_live id (live_of keys.old.keys self.old.items.items) }
+        ensures rest { live_of keys.new.keys self.new.items.items ≡ without id (live_of keys.old.keys self.old.items.items) }
+        ensures stored { AreStored keys.new.keys self.new.items.items }
+    {
+        match self.place(id) {
+            Some(place) => {
+                remove_key(keys, place);
+                let _series = self.items.remove(place);
+                true
+            }
+            None => false,
+        }
+    }
+
+    /// The series in order.
+    pub(crate) fn iter<'a>(&'a self, keys: &'a IndexSet<Key>) -> SeriesIter<'a, T>
+        ensures { result ≡ live_of keys.now.keys self.now.items.items }
+    {
+        SeriesIter {
+            keys: keys.as_slice(),
+            series: self.items.as_slice(),
+        }
+    }
+}
+
+/// Removes the key at a place. The others keep their order.
+fn remove_key(keys: &mut IndexSet<Key>, place: usize)
+    ensures { keys.new.keys ≡ remove keys.old.keys place }
+{
+    keys.shift_remove_index(place);
+}
+
+/// The live series of one kind, in order of registration: of each its id, its key and its cell. A contract sees it as
+/// the list of the series that are left.
+#[derive(Drop)]
+pub struct SeriesIter<'a, T> {
+    keys: &'a [Key],
+    series: &'a [Series<T>],
+}
+
+impl<'a, T> Model for SeriesIter<'a, T> {
+    ghost use Rattle.std.specs.Prelude.{List};
+    ghost use Rattle.metrics_registry.specs.Live.{LiveSeries};
+
+    ghost Value = { List (LiveSeries T) };
+
+    ghost use Rattle.metrics_registry.specs.Stored.{live_of};
+
+    ghost view = { λ it. live_of it.keys.now it.series.now };
+}
+
+impl<'a, T> Iterator for SeriesIter<'a, T> {
+    type Item = (SeriesId, &'a Key, &'a T);
+
+    ghost use Rattle.std.specs.Iterator.{YieldsFirstBy, item_count};
+
+    ghost next_gives = { YieldsFirstBy (λ item. record { id = item.0; key = item.1.now; cell = item.2.now }) (λ it. it) };
+
+    ghost remaining = { item_count (λ it. it) };
+
+    fn next(&mut self) -> Option<(SeriesId, &'a Key, &'a T)> {
+        let (key, keys) = self.keys.split_first()?;
+        let (series, others) = self.series.split_first()?;
+        self.keys = keys;
+        self.series = others;
+        Some((series.id, key, &series.cell))
+    }
+}

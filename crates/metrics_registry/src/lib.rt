@@ -1,0 +1,19 @@
+//! What both exporters keep of series and of distributions: the live series of a state, when they fall idle, and bags,
+//! cumulative histograms and quantiles of values.
+#![tactic(auto)]
+
+mod bag;
+mod columns;
+mod cumulative;
+mod laws;
+mod quantiles;
+mod recency;
+mod registry;
+
+pub use bag::Bag;
+pub use columns::SeriesIter;
+pub use cumulative::CumulativeHistogram;
+pub use laws::same_in_any_cuts;
+pub use quantiles::{Quantile, parse_quantiles};
+pub use recency::{MetricKindMask, Recency};
+pub use registry::Registry;

@@ -1,0 +1,307 @@
+//! The live series of one state, by kind, and how many were ever made.
+
+ghost use Rattle.std.specs.Prelude.{◌≡◌, ◌+◌, ◌-◌, ◌^◌, ◌<◌, [], ◌∷◌, ◌++◌, length, slice_get, option_map, Some, None, OnOk, IfOk, OnErr, IfErr};
+ghost use Rattle.std.specs.Option.{option_copied, option_copied_mut};
+ghost use Rattle.std.specs.Borrow.{sem};
+ghost use Rattle.metrics_core.specs.declared.kinds.MetricKind.TheVariants.{Counter, Gauge, Histogram};
+ghost use Rattle.metrics_registry.specs.Live.{IsNumbered, id_of_key, cell_of, is_live, without, Rises};
+ghost use Rattle.metrics_registry.specs.Places.{IsPlace};
+
+use crate::columns::{Column, SeriesIter};
+use indexmap::IndexSet;
+use metrics_core::{Key, Memory, MetricKind, SeriesId};
+use std::alloc::Global;
+use std::marker::Model;
+
+/// The live series of a state: those of each kind in order of registration, each with its id, its key and its cell.
+/// Numbers of ids count all series that were ever made in it, whatever their kind. Look-ups by a key take constant time,
+/// those by an id logarithmic time.
+#[derive(Drop)]
+pub struct Registry<C, G, H> {
+    counter_keys: IndexSet<Key>,
+    counters: Column<C>,
+    gauge_keys: IndexSet<Key>,
+    gauges: Column<G>,
+    histogram_keys: IndexSet<Key>,
+    histograms: Column<H>,
+    made: u64,
+}
+
+impl<C, G, H> Model for Registry<C, G, H> {
+    ghost use Rattle.metrics_registry.specs.Live.{RegistryText};
+
+    ghost Value = { RegistryText C G H };
+
+    ghost use Rattle.metrics_registry.specs.StoredRegistry.{registry_of, IsStoredRegistry};
+
+    ghost view = { registry_of };
+
+    ghost invariant = { IsStoredRegistry };
+}
+
+impl<C: Drop, G: Drop, H: Drop> Registry<C, G, H> {
+    ghost use Rattle.metrics_registry.specs.RegistryLends.{lends_counter, lends_counter_at, lends_gauge, lends_gauge_at, lends_histogram, lends_histogram_at};
+
+    /// No series. It takes no memory until the first is added.
+    pub fn new(alloc: Global) -> Result<Registry<C, G, H>, Memory>
+        ensures empty { IfOk result (λ registry. registry ≡ record { counters = []; gauges = []; histograms = []; made = 0 }) }
+    {
+        Ok(Registry {
+            counter_keys: IndexSet::new(alloc),
+            counters: Column::new(alloc),
+            gauge_keys: IndexSet::new(alloc),
+            gauges: Column::new(alloc),
+            histogram_keys: IndexSet::new(alloc),
+            histograms: Column::new(alloc),
+            made: 0,
+        })
+    }
+
+    /// How many series were ever made.
+    pub fn made(&self) -> u64
+        ensures made { result ≡ self.now.made }
+        ensures numbered { IsNumbered self.now }
+    {
+        self.made
+    }
+
+    /// The id of the live counter with an equal key.
+    pub fn find_counter(&self, key: &Key) -> Option<SeriesId>
+        ensures { result ≡ id_of_key key.now self.now.counters }
+    {
+        self.counters.find(&self.counter_keys, key)
+    }
+
+    /// Makes a counter, which goes last. Where memory is refused, key and cell come back and nothing changed.
+    pub fn add_counter(&mut self, key: Key, cell: C) -> Result<SeriesId, (Key, C)>
+        requires new { id_of_key key self.old.counters ≡ None }
+        requires room { self.old.made < 2 ^ 64 - 1 }
+        ensures added { IfOk result (λ id. self.new ≡ record self.old { counters = self.old.counters ++ record { id = id; key = key; cell = cell } ∷ []; made = self.old.made + 1 }) }
+        ensures id { IfOk result (λ id. id ≡ record { kind = Counter; number = self.old.made }) }
+        ensures refused { OnErr result (self.new ≡ self.old) }
+        ensures returned { IfErr result (λ parts. parts ≡ (key, cell)) }
+    {
+        let id = SeriesId {
+            kind: MetricKind::Counter,
+            number: self.made,
+        };
+        match self.counters.add(&mut self.counter_keys, key, id, cell) {
+            Ok(()) => {
+                self.made += 1;
+                Ok(id)
+            }
+            Err(parts) => Err(parts),
+        }
+    }
+
+    /// The cell of a live counter. It is `None` exactly where no counter with the id is live.
+    pub fn get_counter(&self, id: SeriesId) -> Option<&C>
+        ensures { option_copied result ≡ cell_of id self.now.counters }
+    {
+        self.counters.get(id)
+    }
+
+    /// The cell of a live counter, to write. It is `None` exactly where no counter with the id is live.
+    pub fn get_counter_mut(&mut self, id: SeriesId) -> Option<&mut C>
+        ensures* writes_back { sem 𝓛 (lends_counter C.row G.row H.row self.entry id result) }
+        ensures value { option_copied_mut result ≡ cell_of id self.old.counters }
+    {
+        match self.place_of_counter(id) {
+            Some(place) => Some(self.counter_at(place)),
+            None => None,
+        }
+    }
+
+    /// The place of a live counter.
+    fn place_of_counter(&self, id: SeriesId) -> Option<usize>
+        ensures place { IsPlace id self.now.counters result }
+        ensures rises { Rises self.now.counters }
+    {
+        self.counters.place(id)
+    }
+
+    /// The cell of the counter at a place, to write.
+    fn counter_at(&mut self, place: usize) -> &mut C
+        requires { place < length self.old.counters }
+        ensures* writes_back { sem 𝓛 (lends_counter_at C.row G.row H.row self.entry place result) }
+        ensures value { option_map (λ series. series.cell) (slice_get self.old.counters place) ≡ Some result.now }
+    {
+        self.counters.cell_mut(place)
+    }
+
+    /// Removes a counter; the others keep their order. Answers false exactly where none with the id is live. It takes time
+    /// linear in the number of live series: `retain_counters` removes many at once.
+    pub fn delete_counter(&mut self, id: SeriesId) -> bool
+        ensures was_live { result ≡ is_live id self.old.counters }
+        ensures rest { self.new ≡ record self.old { counters = without id self.old.counters } }
+    {
+        self.counters.delete(&mut self.counter_keys, id)
+    }
+
+    /// The live counters, in order of registration.
+    pub fn counters(&self) -> SeriesIter<'_, C>
+        ensures { result ≡ self.now.counters }
+    {
+        self.counters.iter(&self.counter_keys)
+    }
+
+    /// The id of the live gauge with an equal key.
+    pub fn find_gauge(&self, key: &Key) -> Option<SeriesId>
+        ensures { result ≡ id_of_key key.now self.now.gauges }
+    {
+        self.gauges.find(&self.gauge_keys, key)
+    }
+
+    /// Makes a gauge, which goes last. Where memory is refused, key and cell come back and nothing changed.
+    pub fn add_gauge(&mut self, key: Key, cell: G) -> Result<SeriesId, (Key, G)>
+        requires new { id_of_key key self.old.gauges ≡ None }
+        requires room { self.old.made < 2 ^ 64 - 1 }
+        ensures added { IfOk result (λ id. self.new ≡ record self.old { gauges = self.old.gauges ++ record { id = id; key = key; cell = cell } ∷ []; made = self.old.made + 1 }) }
+        ensures id { IfOk result (λ id. id ≡ record { kind = Gauge; number = self.old.made }) }
+        ensures refused { OnErr result (self.new ≡ self.old) }
+        ensures returned { IfErr result (λ parts. parts ≡ (key, cell)) }
+    {
+        let id = SeriesId {
+            kind: MetricKind::Gauge,
+            number: self.made,
+        };
+        match self.gauges.add(&mut self.gauge_keys, key, id, cell) {
+            Ok(()) => {
+                self.made += 1;
+                Ok(id)
+            }
+            Err(parts) => Err(parts),
+        }
+    }
+
+    /// The cell of a live gauge. It is `None` exactly where no gauge with the id is live.
+    pub fn get_gauge(&self, id: SeriesId) -> Option<&G>
+        ensures { option_copied result ≡ cell_of id self.now.gauges }
+    {
+        self.gauges.get(id)
+    }
+
+    /// The cell of a live gauge, to write. It is `None` exactly where no gauge with the id is live.
+    pub fn get_gauge_mut(&mut self, id: SeriesId) -> Option<&mut G>
+        ensures* writes_back { sem 𝓛 (lends_gauge C.row G.row H.row self.entry id result) }
+        ensures value { option_copied_mut result ≡ cell_of id self.old.gauges }
+    {
+        match self.place_of_gauge(id) {
+            Some(place) => Some(self.gauge_at(place)),
+            None => None,
+        }
+    }
+
+    /// The place of a live gauge.
+    fn place_of_gauge(&self, id: SeriesId) -> Option<usize>
+        ensures place { IsPlace id self.now.gauges result }
+        ensures rises { Rises self.now.gauges }
+    {
+        self.gauges.place(id)
+    }
+
+    /// The cell of the gauge at a place, to write.
+    fn gauge_at(&mut self, place: usize) -> &mut G
+        requires { place < length self.old.gauges }
+        ensures* writes_back { sem 𝓛 (lends_gauge_at C.row G.row H.row self.entry place result) }
+        ensures value { option_map (λ series. series.cell) (slice_get self.old.gauges place) ≡ Some result.now }
+    {
+        self.gauges.cell_mut(place)
+    }
+
+    /// Removes a gauge; the others keep their order. Answers false exactly where none with the id is live. It takes time
+    /// linear in the number of live series: `retain_gauges` removes many at once.
+    pub fn delete_gauge(&mut self, id: SeriesId) -> bool
+        ensures was_live { result ≡ is_live id self.old.gauges }
+        ensures rest { self.new ≡ record self.old { gauges = without id self.old.gauges } }
+    {
+        self.gauges.delete(&mut self.gauge_keys, id)
+    }
+
+    /// The live gauges, in order of registration.
+    pub fn gauges(&self) -> SeriesIter<'_, G>
+        ensures { result ≡ self.now.gauges }
+    {
+        self.gauges.iter(&self.gauge_keys)
+    }
+
+    /// The id of the live histogram with an equal key.
+    pub fn find_histogram(&self, key: &Key) -> Option<SeriesId>
+        ensures { result ≡ id_of_key key.now self.now.histograms }
+    {
+        self.histograms.find(&self.histogram_keys, key)
+    }
+
+    /// Makes a histogram, which goes last. Where memory is refused, key and cell come back and nothing changed.
+    pub fn add_histogram(&mut self, key: Key, cell: H) -> Result<SeriesId, (Key, H)>
+        requires new { id_of_key key self.old.histograms ≡ None }
+        requires room { self.old.made < 2 ^ 64 - 1 }
+        ensures added { IfOk result (λ id. self.new ≡ record self.old { histograms = self.old.histograms ++ record { id = id; key = key; cell = cell } ∷ []; made = self.old.made + 1 }) }
+        ensures id { IfOk result (λ id. id ≡ record { kind = Histogram; number = self.old.made }) }
+        ensures refused { OnErr result (self.new ≡ self.old) }
+        ensures returned { IfErr result (λ parts. parts ≡ (key, cell)) }
+    {
+        let id = SeriesId {
+            kind: MetricKind::Histogram,
+            number: self.made,
+        };
+        match self.histograms.add(&mut self.histogram_keys, key, id, cell) {
+            Ok(()) => {
+                self.made += 1;
+                Ok(id)
+            }
+            Err(parts) => Err(parts),
+        }
+    }
+
+    /// The cell of a live histogram. It is `None` exactly where no histogram with the id is live.
+    pub fn get_histogram(&self, id: SeriesId) -> Option<&H>
+        ensures { option_copied result ≡ cell_of id self.now.histograms }
+    {
+        self.histograms.get(id)
+    }
+
+    /// The cell of a live histogram, to write. It is `None` exactly where no histogram with the id is live.
+    pub fn get_histogram_mut(&mut self, id: SeriesId) -> Option<&mut H>
+        ensures* writes_back { sem 𝓛 (lends_histogram C.row G.row H.row self.entry id result) }
+        ensures value { option_copied_mut result ≡ cell_of id self.old.histograms }
+    {
+        match self.place_of_histogram(id) {
+            Some(place) => Some(self.histogram_at(place)),
+            None => None,
+        }
+    }
+
+    /// The place of a live histogram.
+    fn place_of_histogram(&self, id: SeriesId) -> Option<usize>
+        ensures place { IsPlace id self.now.histograms result }
+        ensures rises { Rises self.now.histograms }
+    {
+        self.histograms.place(id)
+    }
+
+    /// The cell of the histogram at a place, to write.
+    fn histogram_at(&mut self, place: usize) -> &mut H
+        requires { place < length self.old.histograms }
+        ensures* writes_back { sem 𝓛 (lends_histogram_at C.row G.row H.row self.entry place result) }
+        ensures value { option_map (λ series. series.cell) (slice_get self.old.histograms place) ≡ Some result.now }
+    {
+        self.histograms.cell_mut(place)
+    }
+
+    /// Removes a histogram; the others keep their order. Answers false exactly where none with the id is live. It takes time
+    /// linear in the number of live series: `retain_histograms` removes many at once.
+    pub fn delete_histogram(&mut self, id: SeriesId) -> bool
+        ensures was_live { result ≡ is_live id self.old.histograms }
+        ensures rest { self.new ≡ record self.old { histograms = without id self.old.histograms } }
+    {
+        self.histograms.delete(&mut self.histogram_keys, id)
+    }
+
+    /// The live histograms, in order of registration.
+    pub fn histograms(&self) -> SeriesIter<'_, H>
+        ensures { result ≡ self.now.histograms }
+    {
+        self.histograms.iter(&self.histogram_keys)
+    }
+}
