@@ -16,7 +16,7 @@ use Rattle.prom_format.proofs.NameLaws.{sanitized_metric_name-is_name, sanitized
 use Rattle.prom_format.proofs.PageText.{page_read}
 use Rattle.prom_exporter.specs.State.{Series, PrometheusState}
 use Rattle.prom_exporter.specs.Families.{ExporterSettings, families_at, family_of, row_of, one_label, shown_unit, counter_suffix, counter_rows, gauge_rows, histogram_rows, summary_rows, sum_and_count_rows, distinct, names_of_kind, series_named, series_of_kind, distribution_of, distribution_family, Distribution, NativeHistogram, Histogram, Summary}
-use Rattle.prom_exporter.specs.Window.{clamped}
+use Rattle.metrics_registry.specs.Quantiles.{clamped}
 
 -- ---- lists
 

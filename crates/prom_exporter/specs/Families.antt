@@ -14,8 +14,11 @@ use Rattle.prom_format.specs.Pages.{Row, Family}
 use Rattle.prom_format.specs.Matchers.{MatcherText, rule_for}
 use Rattle.prom_format.specs.declared.families.FamilyType.{FamilyType}
 use Rattle.prom_format.specs.declared.families.FamilyType.TheVariants as types
-use Rattle.prom_exporter.specs.State.{Series, PrometheusState, Idle, description_of}
-use Rattle.prom_exporter.specs.Window.{timed_samples, window, clamped, quantile_of, bucket_count, sample_count, sample_sum}
+use Rattle.prom_exporter.specs.State.{Series, PrometheusState, description_of}
+use Rattle.metrics_registry.specs.Recency.{Idle}
+use Rattle.metrics_registry.specs.Quantiles.{clamped, quantile_of}
+use Rattle.metrics_registry.specs.Cumulative.{bucket_count, sample_count, sample_sum}
+use Rattle.prom_exporter.specs.Window.{timed_samples, window}
 use Rattle.prom_exporter.specs.Native.{NativeText}
 
 -- what the exporter was built with

@@ -1,12 +1,13 @@
 -- The state of the Prometheus exporter, and the steps of registering, describing, calling and rendering.
-use Rattle.std.specs.Prelude.{ℕ, ◌+◌, ◌-◌, ◌^◌, Bool, ◌&&◌, not, ◌==◌, nat_lt, List, [], ◌∷◌, ◌++◌, map, Option, Some, None, find, filter_map, is_some, option_map, unwrap_or, bytes_eq, if◌then◌else◌}
+use Rattle.std.specs.Prelude.{ℕ, ◌+◌, ◌-◌, ◌^◌, Bool, ◌&&◌, ◌==◌, List, [], ◌∷◌, ◌++◌, map, Option, Some, None, find, filter_map, is_some, option_map, unwrap_or, bytes_eq, if◌then◌else◌}
 use Rattle.std.specs.List.{list_any}
 use Rattle.metrics_core.specs.declared.kinds.MetricKind.{MetricKind}
 use Rattle.metrics_core.specs.declared.units.Unit.{Unit as UnitOf}
 use Rattle.metrics_core.specs.Numbers.{in_64_bits}
-use Rattle.metrics_core.specs.Kinds.{kind_eq, KindMask, mask_has}
+use Rattle.metrics_core.specs.Kinds.{kind_eq}
 use Rattle.metrics_core.specs.Keys.{KeyText, key_eq}
 use Rattle.metrics_core.specs.Calls.{Call, update_count}
+use Rattle.metrics_registry.specs.Recency.{Idle, note_left}
 use Rattle.prom_format.specs.Names.{sanitized_metric_name}
 
 -- one live series: its kind, number and key, all calls on it, and what the last page noted of it
@@ -86,25 +87,13 @@ is_live kind number s = list_any (λ series. kind_eq series.kind kind && series.
 
 -- ---- rendering
 
--- which kinds fall idle, and after how many nanoseconds
-pub record Idle : Type 0 where
-  pub mask : KindMask
-  pub timeout : ℕ
-
 abbrev pub count_of_updates : Series → ℕ
 count_of_updates series = in_64_bits (update_count series.kind series.calls)
 
--- a series with this count and moment noted; with the same count and a moment too long ago it is no longer live
-abbrev pub noted : ℕ → ℕ → Option (ℕ × ℕ) → Series → Option Series
-noted timeout t None series = Some (record series { note = Some (count_of_updates series, t) })
-noted timeout t (Some (count, moment)) series =
-    if not (count == count_of_updates series) then Some (record series { note = Some (count_of_updates series, t) })
-    else if nat_lt (moment + timeout) t then None
-    else Some series
-
+-- the series with the note that a page at a moment leaves of it; an idle one is no longer live
 abbrev pub kept_at : Option Idle → ℕ → Series → Option Series
-kept_at None t series = Some series
-kept_at (Some idle) t series = if mask_has idle.mask series.kind then noted idle.timeout t series.note series else Some series
+kept_at idle t series =
+    option_map (λ note. record series { note = note }) (note_left idle series.kind series.note (count_of_updates series) t)
 
 -- a page at moment t publishes what waits, and removes the series that are idle
 abbrev pub page_step : Option Idle → ℕ → PrometheusState → PrometheusState
