@@ -14,9 +14,9 @@ use Rattle.prom_format.specs.Pages.{Row, IsPrintable, IsPrintableRow, IsPage, pa
 use Rattle.prom_format.specs.declared.families.FamilyType.{FamilyType}
 use Rattle.prom_format.proofs.NameLaws.{sanitized_metric_name-is_name, sanitized_label_name-is_name, full_name-is_name}
 use Rattle.prom_format.proofs.PageText.{page_read}
-use Rattle.prom_exporter.specs.State.{Series, PrometheusState}
-use Rattle.prom_exporter.specs.Families.{ExporterSettings, families_at, family_of, row_of, one_label, shown_unit, counter_suffix, counter_rows, gauge_rows, histogram_rows, summary_rows, sum_and_count_rows, distinct, names_of_kind, series_named, series_of_kind, distribution_of, distribution_family, Distribution, NativeHistogram, Histogram, Summary}
-use Rattle.prom_exporter.specs.Window.{clamped}
+use Rattle.prom_exporter.specs.State.{Series, PrometheusState, live}
+use Rattle.prom_exporter.specs.Families.{ExporterSettings, families_at, family_of, row_of, one_label, shown_unit, counter_suffix, counter_rows, gauge_rows, histogram_rows, summary_rows, sum_and_count_rows, distinct, names_of_kind, series_named, distribution_of, distribution_family, Distribution, NativeHistogram, Histogram, Summary}
+use Rattle.metrics_registry.specs.Quantiles.{clamped}
 
 -- ---- lists
 
@@ -140,10 +140,10 @@ IsNameOf kind s name = IsMetricName name × (0 < length (series_named kind s nam
 
 names_are : (kind : MetricKind) (s : PrometheusState) → AllByRecursion (IsNameOf kind s) (names_of_kind kind s)
 names_are kind s = both (names_of_kind kind s)
-    (all_distinct IsMetricName _ (all_map IsMetricName (λ (series : Series). sanitized_metric_name series.key.name) (λ series. sanitized_metric_name-is_name series.key.name) (series_of_kind kind s)))
-    (each_has_one (λ (series : Series). sanitized_metric_name series.key.name) (series_of_kind kind s))
+    (all_distinct IsMetricName _ (all_map IsMetricName (λ (series : Series). sanitized_metric_name series.key.name) (λ series. sanitized_metric_name-is_name series.key.name) (live kind s)))
+    (each_has_one (λ (series : Series). sanitized_metric_name series.key.name) (live kind s))
   where
-    both : (names : List (List ℕ)) → AllByRecursion IsMetricName names → AllByRecursion (HasOne (λ (series : Series). sanitized_metric_name series.key.name) (series_of_kind kind s)) names → AllByRecursion (IsNameOf kind s) names
+    both : (names : List (List ℕ)) → AllByRecursion IsMetricName names → AllByRecursion (HasOne (λ (series : Series). sanitized_metric_name series.key.name) (live kind s)) names → AllByRecursion (IsNameOf kind s) names
     both [] h k = tt
     both (n ∷ names) h k = ((h.0, k.0), both names h.1 k.1)
 

@@ -4,7 +4,6 @@ use Rattle.metrics_core.specs.declared.kinds.MetricKind.{MetricKind}
 use Rattle.metrics_core.specs.declared.kinds.MetricKind.TheVariants as kinds
 use Rattle.metrics_core.specs.declared.units.Unit.{Unit as UnitOf}
 use Rattle.metrics_core.specs.Numbers.{page_number, whole}
-use Rattle.metrics_core.specs.Kinds.{kind_eq}
 use Rattle.metrics_core.specs.Keys.{LabelText}
 use Rattle.metrics_core.specs.Calls.{counter_value, gauge_value, samples}
 use Rattle.prom_format.specs.Names.{sanitized_metric_name, full_name}
@@ -14,8 +13,11 @@ use Rattle.prom_format.specs.Pages.{Row, Family}
 use Rattle.prom_format.specs.Matchers.{MatcherText, rule_for}
 use Rattle.prom_format.specs.declared.families.FamilyType.{FamilyType}
 use Rattle.prom_format.specs.declared.families.FamilyType.TheVariants as types
-use Rattle.prom_exporter.specs.State.{Series, PrometheusState, Idle, description_of}
-use Rattle.prom_exporter.specs.Window.{timed_samples, window, clamped, quantile_of, bucket_count, sample_count, sample_sum}
+use Rattle.prom_exporter.specs.State.{Series, PrometheusState, live, description_of}
+use Rattle.metrics_registry.specs.Recency.{Idle}
+use Rattle.metrics_registry.specs.Quantiles.{clamped, quantile_of}
+use Rattle.metrics_registry.specs.Cumulative.{bucket_count, sample_count, sample_sum}
+use Rattle.prom_exporter.specs.Window.{timed_samples, window}
 use Rattle.prom_exporter.specs.Native.{NativeText}
 
 -- what the exporter was built with
@@ -120,16 +122,13 @@ abbrev pub distinct : List (List ℕ) → List (List ℕ)
 distinct [] = []
 distinct (x ∷ xs) = x ∷ filter (λ y. not (bytes_eq x y)) (distinct xs)
 
-abbrev pub series_of_kind : MetricKind → PrometheusState → List Series
-series_of_kind kind s = filter (λ series. kind_eq series.kind kind) s.live
-
 -- the metric names of a kind, in the order of their first live series
 abbrev pub names_of_kind : MetricKind → PrometheusState → List (List ℕ)
-names_of_kind kind s = distinct (map (λ series. sanitized_metric_name series.key.name) (series_of_kind kind s))
+names_of_kind kind s = distinct (map (λ series. sanitized_metric_name series.key.name) (live kind s))
 
 -- the live series of a kind under a metric name, in order
 abbrev pub series_named : MetricKind → PrometheusState → List ℕ → List Series
-series_named kind s name = filter (λ series. bytes_eq (sanitized_metric_name series.key.name) name) (series_of_kind kind s)
+series_named kind s name = filter (λ series. bytes_eq (sanitized_metric_name series.key.name) name) (live kind s)
 
 -- the family of a kind under a metric name, where each series has these rows
 abbrev pub family_of : ExporterSettings → PrometheusState → MetricKind → List ℕ → Option (List ℕ) → FamilyType → (Series → List Row) → Family

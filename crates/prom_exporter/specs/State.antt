@@ -1,17 +1,17 @@
 -- The state of the Prometheus exporter, and the steps of registering, describing, calling and rendering.
-use Rattle.std.specs.Prelude.{ℕ, ◌+◌, ◌-◌, ◌^◌, Bool, ◌&&◌, not, ◌==◌, nat_lt, List, [], ◌∷◌, ◌++◌, map, Option, Some, None, find, filter_map, is_some, option_map, unwrap_or, bytes_eq, if◌then◌else◌}
+use Rattle.std.specs.Prelude.{ℕ, ◌+◌, ◌-◌, ◌^◌, Bool, ◌&&◌, ◌==◌, List, [], ◌∷◌, ◌++◌, map, Option, Some, None, find, filter_map, is_some, option_map, unwrap_or, bytes_eq, if◌then◌else◌}
 use Rattle.std.specs.List.{list_any}
 use Rattle.metrics_core.specs.declared.kinds.MetricKind.{MetricKind}
+use Rattle.metrics_core.specs.declared.kinds.MetricKind.TheVariants as kinds
 use Rattle.metrics_core.specs.declared.units.Unit.{Unit as UnitOf}
 use Rattle.metrics_core.specs.Numbers.{in_64_bits}
-use Rattle.metrics_core.specs.Kinds.{kind_eq, KindMask, mask_has}
 use Rattle.metrics_core.specs.Keys.{KeyText, key_eq}
 use Rattle.metrics_core.specs.Calls.{Call, update_count}
+use Rattle.metrics_registry.specs.Recency.{Idle, note_left}
 use Rattle.prom_format.specs.Names.{sanitized_metric_name}
 
--- one live series: its kind, number and key, all calls on it, and what the last page noted of it
+-- one live series: its number and key, all calls on it, and what the last page noted of it
 pub record Series : Type 0 where
-  pub kind : MetricKind
   pub number : ℕ
   pub key : KeyText
   pub calls : List Call
@@ -23,15 +23,29 @@ pub record Description : Type 0 where
   pub text : List ℕ
   pub unit : Option UnitOf
 
--- the live series in order of registration, how many were ever made, and the descriptions by metric name
+-- the live series of each kind in order of registration, how many series were ever made, and the descriptions by metric name
 pub record PrometheusState : Type 0 where
-  pub live : List Series
+  pub counters : List Series
+  pub gauges : List Series
+  pub histograms : List Series
   pub made : ℕ
   pub published : List Description
   pub pending : List Description
 
 abbrev pub empty_state : PrometheusState
-empty_state = record { live = []; made = 0; published = []; pending = [] }
+empty_state = record { counters = []; gauges = []; histograms = []; made = 0; published = []; pending = [] }
+
+-- the live series of a kind
+abbrev pub live : MetricKind → PrometheusState → List Series
+live kinds.Counter s = s.counters
+live kinds.Gauge s = s.gauges
+live kinds.Histogram s = s.histograms
+
+-- the state with other series of a kind
+abbrev pub with_live : MetricKind → List Series → PrometheusState → PrometheusState
+with_live kinds.Counter series s = record s { counters = series }
+with_live kinds.Gauge series s = record s { gauges = series }
+with_live kinds.Histogram series s = record s { histograms = series }
 
 -- ---- registering
 
@@ -41,7 +55,7 @@ no_series = 2 ^ 64 - 1
 
 -- the live series of the kind with an equal key
 abbrev pub live_series : MetricKind → KeyText → PrometheusState → Option Series
-live_series kind key s = find (λ series. kind_eq series.kind kind && key_eq series.key key) s.live
+live_series kind key s = find (λ series. key_eq series.key key) (live kind s)
 
 -- the number that a registration gives: that of the live series, or else of the next one to be made
 abbrev pub number_given : MetricKind → KeyText → PrometheusState → ℕ
@@ -52,7 +66,7 @@ abbrev pub register : MetricKind → KeyText → PrometheusState → PrometheusS
 register kind key s =
     if is_some (live_series kind key s) then s
     else if s.made == no_series then s
-    else record s { live = s.live ++ record { kind = kind; number = s.made; key = key; calls = []; note = None } ∷ []; made = s.made + 1 }
+    else record (with_live kind (live kind s ++ record { number = s.made; key = key; calls = []; note = None } ∷ []) s) { made = s.made + 1 }
 
 -- ---- describing
 
@@ -72,40 +86,36 @@ describe name unit text s =
 
 -- ---- calling
 
-abbrev pub with_call : MetricKind → ℕ → Call → Series → Series
-with_call kind number call series =
-    if kind_eq series.kind kind && series.number == number then record series { calls = series.calls ++ call ∷ [] } else series
+abbrev pub with_call : ℕ → Call → Series → Series
+with_call number call series = if series.number == number then record series { calls = series.calls ++ call ∷ [] } else series
 
 -- a call goes to the live series of the kind with the number; where none is live nothing changes
 abbrev pub call_on : MetricKind → ℕ → Call → PrometheusState → PrometheusState
-call_on kind number call s = record s { live = map (with_call kind number call) s.live }
+call_on kind number call s = with_live kind (map (with_call number call) (live kind s)) s
 
 -- whether a series of the kind with the number is live
 abbrev pub is_live : MetricKind → ℕ → PrometheusState → Bool
-is_live kind number s = list_any (λ series. kind_eq series.kind kind && series.number == number) s.live
+is_live kind number s = list_any (λ series. series.number == number) (live kind s)
 
 -- ---- rendering
 
--- which kinds fall idle, and after how many nanoseconds
-pub record Idle : Type 0 where
-  pub mask : KindMask
-  pub timeout : ℕ
+abbrev pub count_of_updates : MetricKind → Series → ℕ
+count_of_updates kind series = in_64_bits (update_count kind series.calls)
 
-abbrev pub count_of_updates : Series → ℕ
-count_of_updates series = in_64_bits (update_count series.kind series.calls)
+-- a series of a kind with the note that a page at a moment leaves of it; an idle one is no longer live
+abbrev pub kept_at : Option Idle → ℕ → MetricKind → Series → Option Series
+kept_at idle t kind series =
+    option_map (λ note. record series { note = note }) (note_left idle kind series.note (count_of_updates kind series) t)
 
--- a series with this count and moment noted; with the same count and a moment too long ago it is no longer live
-abbrev pub noted : ℕ → ℕ → Option (ℕ × ℕ) → Series → Option Series
-noted timeout t None series = Some (record series { note = Some (count_of_updates series, t) })
-noted timeout t (Some (count, moment)) series =
-    if not (count == count_of_updates series) then Some (record series { note = Some (count_of_updates series, t) })
-    else if nat_lt (moment + timeout) t then None
-    else Some series
-
-abbrev pub kept_at : Option Idle → ℕ → Series → Option Series
-kept_at None t series = Some series
-kept_at (Some idle) t series = if mask_has idle.mask series.kind then noted idle.timeout t series.note series else Some series
+abbrev pub all_kept : Option Idle → ℕ → MetricKind → PrometheusState → List Series
+all_kept idle t kind s = filter_map (kept_at idle t kind) (live kind s)
 
 -- a page at moment t publishes what waits, and removes the series that are idle
 abbrev pub page_step : Option Idle → ℕ → PrometheusState → PrometheusState
-page_step idle t s = record s { live = filter_map (kept_at idle t) s.live; published = s.published ++ s.pending; pending = [] }
+page_step idle t s = record s {
+  counters = all_kept idle t kinds.Counter s;
+  gauges = all_kept idle t kinds.Gauge s;
+  histograms = all_kept idle t kinds.Histogram s;
+  published = s.published ++ s.pending;
+  pending = [];
+}

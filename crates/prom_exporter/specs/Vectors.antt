@@ -9,7 +9,8 @@ use Rattle.metrics_core.specs.Keys.{LabelText, KeyText}
 use Rattle.metrics_core.specs.Calls.{Increment, Record}
 use Rattle.prom_format.specs.Pages.{page_text}
 use Rattle.prom_exporter.specs.State.{PrometheusState, empty_state, register, describe, call_on, page_step}
-use Rattle.prom_exporter.specs.Window.{Sample, window, sample_sum}
+use Rattle.metrics_registry.specs.Cumulative.{sample_sum}
+use Rattle.prom_exporter.specs.Window.{Sample, window}
 use Rattle.prom_exporter.specs.Native.{NativeText, Positive, native_depth, native_count, zero_count}
 use Rattle.prom_exporter.specs.Families.{ExporterSettings, families_at}
 use Rattle.prom_exporter.specs.Exporter.{default_settings, page_body}
