@@ -9,8 +9,11 @@ use Rattle.std.specs.Cmp.Lexicographic.{nat_list_eq_equiv}
 use Rattle.std.proofs.lemmas.Bool.{true≢false, or_parts}
 use Rattle.std.proofs.lemmas.List.{map-append}
 use Rattle.std.proofs.lemmas.List.Elements.{filter-append}
+use Rattle.std.specs.Borrow.{Bor}
+use Rattle.metrics_core.specs.declared.kinds.SeriesId.{SeriesId}
+use Rattle.metrics_core.specs.Keys.{KeyText}
 use Rattle.prom_exporter.specs.Families.{distinct}
-use Rattle.prom_exporter.specs.Counters.{named, grouped}
+use Rattle.prom_exporter.specs.Values.{named, grouped}
 
 symm : (a b : List ℕ) → bytes_eq a b ≡ bytes_eq b a
 symm = nat_list_eq_equiv.symm
@@ -180,3 +183,9 @@ module _ {Y V X : Type 0} (view : V → List X) (name : String Y) (group empty :
 -- the same of entries that are given by an equation
 pub shown_entries : {K V X : Type 0} (view : K × V → X) (es fs : List (K × V)) (xs : List X) → es ≡ fs → map view fs ≡ xs → map view es ≡ xs
 shown_entries view es fs xs same is = ap (map view) same ∙ is
+
+-- ---- series as they are iterated
+
+-- the key and the cell of what an iterator over series gives
+abbrev pub seen : {X : Type 0} → SeriesId × Bor KeyText × Bor X → KeyText × X
+seen item = (item.1.now, item.2.now)

@@ -1,5 +1,5 @@
 pub mod Printable
 pub mod Groups
-pub mod States
-pub mod CounterPages
 pub mod Progress
+pub mod States
+pub mod ValuePages

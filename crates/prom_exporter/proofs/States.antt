@@ -1,207 +1,210 @@
--- The state that counters make: what registering, calling and a page do to it.
-use Rattle.std.proofs.Common.{◌≡◌, ◌≢◌, ℕ, zero, suc, ◌+◌, ◌<◌, ◌≤◌, true, false, cond, ◌&&◌, eqb, List, [], ◌∷◌, ◌++◌, map, filter_map, length, Option, None, Some, refl, sym, ap, subst, ◌∙◌, arith, length-append}
-use Rattle.std.specs.Prelude.{◌==◌, unwrap_or, option_map, is_some, slice_get}
-use Rattle.std.specs.List.{list_any, range_with_len}
-use Rattle.std.specs.Map.{lookup, values_of}
-use Rattle.std.proofs.lemmas.Bool.{ne_eqb, eq-eqb}
-use Rattle.std.specs.List.{All}
-use Rattle.std.proofs.lemmas.List.Elements.{All-head, All-tail}
+-- The state that a registry of counters and gauges makes: what registering, calling and a page do to it.
+use Rattle.std.proofs.Common.{◌≡◌, ◌≢◌, ℕ, suc, ◌+◌, ◌-◌, ◌^◌, ◌<◌, ◌≤◌, Bool, true, false, cond, ◌&&◌, ◌||◌, List, [], ◌∷◌, ◌++◌, map, filter_map, length, Option, None, Some, refl, sym, ap, subst, ◌∙◌, arith}
+use Rattle.std.specs.Prelude.{◌==◌, All, find, unwrap_or, option_map, is_some}
+use Rattle.std.specs.List.{list_any}
+use Rattle.std.proofs.lemmas.Bool.{ne_eqb, eq-eqb, eqb-true}
+use Rattle.std.proofs.lemmas.Bool.Decides.{nat_tests}
 use Rattle.std.proofs.lemmas.List.{map-append}
-use Rattle.indexmap.specs.Layout.{set_value_at, length-set_value_at}
+use Rattle.std.proofs.lemmas.List.Elements.{All-head, All-tail}
+use Rattle.std.proofs.lemmas.Option.{same_Some}
 use Rattle.metrics_core.specs.declared.kinds.MetricKind.{MetricKind}
-use Rattle.metrics_core.specs.declared.kinds.MetricKind.TheVariants.{Counter, Gauge, Histogram}
+use Rattle.metrics_core.specs.declared.kinds.MetricKind.TheVariants as kinds
+use Rattle.metrics_core.specs.declared.kinds.SeriesId.{SeriesId}
 use Rattle.metrics_core.specs.Kinds.{kind_eq}
-use Rattle.metrics_core.specs.Keys.{KeyText, key_eq}
+use Rattle.metrics_core.specs.Keys.{KeyText, LabelText, key_eq}
 use Rattle.metrics_core.specs.Calls.{Call}
-use Rattle.prom_exporter.specs.State.{Series, no_series, live_series, number_given, register, with_call, call_on, is_live, kept_at}
-use Rattle.prom_exporter.specs.Exporter.{default_settings, stepped}
-use Rattle.prom_exporter.specs.Counters.{CounterText, series_of, state_of, number_of, AreAllLive}
+use Rattle.metrics_registry.specs.Live.{LiveSeries, RegistryText, id_eq, has_id, has_key, id_of_key, cell_of, set_cell, with_cell, IsBelowAll, Rises, AreOf}
+use Rattle.prom_exporter.specs.State.{Series, PrometheusState, live, with_live, no_series, live_series, number_given, register, with_call, kept_at}
+use Rattle.prom_exporter.specs.Exporter.{Exporter, settings_with, stepped}
+use Rattle.prom_exporter.specs.Values.{series_of, state_of}
+
+abbrev Cell : Type 0
+Cell = List Call
+
+abbrev has_equal_key : KeyText → Series → Bool
+has_equal_key key series = key_eq series.key key
 
 -- ---- registering
 
-module _ (symm : (a b : KeyText) → key_eq a b ≡ key_eq b a) (key : KeyText) where
-  live-found : (es : List (KeyText × CounterText)) (made : ℕ) → option_map (λ series. series.number) (live_series Counter key (state_of es made)) ≡ option_map (λ counter. counter.number) (lookup (key_eq key) es)
-  live-found [] made = refl
-  live-found (e ∷ es) made =
-      rw (symm e.0 key) (elim (key_eq key e.0) as (λ b. option_map (λ series. series.number) (cond b (Some (series_of e)) (live_series Counter key (state_of es made))) ≡ option_map (λ counter. counter.number) (cond b (Some e.1) (lookup (key_eq key) es))) [
-        | true ↦ refl
-        | false ↦ live-found es made
-      ])
+pub found_number : (key : KeyText) (es : List (LiveSeries Cell)) → option_map (λ (series : Series). series.number) (find (has_equal_key key) (map series_of es)) ≡ option_map (λ (id : SeriesId). id.number) (id_of_key key es)
+found_number key [] = refl
+found_number key (e ∷ es) = by (key_eq e.key key) refl (found_number key es)
+  where
+    by : (b : Bool) → key_eq e.key key ≡ b → option_map (λ (series : Series). series.number) (find (has_equal_key key) (map series_of es)) ≡ option_map (λ (id : SeriesId). id.number) (id_of_key key es)
+        → option_map (λ (series : Series). series.number) (cond b (Some (series_of e)) (find (has_equal_key key) (map series_of es))) ≡ option_map (λ (id : SeriesId). id.number) (option_map (λ (s : LiveSeries Cell). s.id) (cond b (Some e) (find (has_key key) es)))
+    by true is rest = refl
+    by false is rest = rest
 
-  is_some_number : {X : Type 0} (f : X → ℕ) (o : Option X) → is_some (option_map f o) ≡ is_some o
-  is_some_number f None = refl
-  is_some_number f (Some x) = refl
+is_some_mapped : {X Y : Type 0} (f : X → Y) (o : Option X) → is_some (option_map f o) ≡ is_some o
+is_some_mapped f None = refl
+is_some_mapped f (Some x) = refl
 
-  live-is_some : (es : List (KeyText × CounterText)) (made : ℕ) → is_some (live_series Counter key (state_of es made)) ≡ is_some (lookup (key_eq key) es)
-  live-is_some es made =
-      sym (is_some_number (λ series. series.number) (live_series Counter key (state_of es made)))
-      ∙ ap is_some (live-found es made)
-      ∙ is_some_number (λ counter. counter.number) (lookup (key_eq key) es)
+pub found_some : (key : KeyText) (es : List (LiveSeries Cell)) → is_some (find (has_equal_key key) (map series_of es)) ≡ is_some (id_of_key key es)
+found_some key es =
+    sym (is_some_mapped (λ (series : Series). series.number) (find (has_equal_key key) (map series_of es))) ∙ ap is_some (found_number key es)
+    ∙ is_some_mapped (λ (id : SeriesId). id.number) (id_of_key key es)
 
-  -- a counter with an equal key is live
-  pub number_given-live : (es : List (KeyText × CounterText)) (made : ℕ) (counter : CounterText) → lookup (key_eq key) es ≡ Some counter → number_given Counter key (state_of es made) ≡ counter.number
-  number_given-live es made counter found = ap (λ o. unwrap_or o made) (live-found es made) ∙ rw found refl
-
-  pub register-live : (es : List (KeyText × CounterText)) (made : ℕ) (counter : CounterText) → lookup (key_eq key) es ≡ Some counter → register Counter key (state_of es made) ≡ state_of es made
-  register-live es made counter found = rw (live-is_some es made) (rw found refl)
-
-  -- none is live
-  pub number_given-new : (es : List (KeyText × CounterText)) (made : ℕ) → lookup (key_eq key) es ≡ None → number_given Counter key (state_of es made) ≡ made
-  number_given-new es made none = ap (λ o. unwrap_or o made) (live-found es made) ∙ rw none refl
-
-  pub register-full : (es : List (KeyText × CounterText)) → lookup (key_eq key) es ≡ None → register Counter key (state_of es no_series) ≡ state_of es no_series
-  register-full es none = rw (live-is_some es no_series) (rw none refl)
-
-  pub register-new : (es : List (KeyText × CounterText)) (made : ℕ) → lookup (key_eq key) es ≡ None → made ≢ no_series
-      → register Counter key (state_of es made) ≡ state_of (es ++ (key, record { number = made; calls = [] }) ∷ []) (made + 1)
-  register-new es made none room =
-      rw (live-is_some es made) (rw (none, ne_eqb made no_series room)
-      (ap (λ l. record { live = l; made = made + 1; published = []; pending = [] }) (sym (map-append series_of es ((key, record { number = made; calls = [] }) ∷ [])))))
+-- the ids of a list are of its kind
+pub kind_of_id : (kind : MetricKind) (n : ℕ) (key : KeyText) (es : List (LiveSeries Cell)) (id : SeriesId) → AreOf kind n es → id_of_key key es ≡ Some id → id.kind ≡ kind
+kind_of_id kind n key [] id are found = absurd cc
+kind_of_id kind n key (e ∷ es) id are found = by (key_eq e.key key) found (kind_of_id kind n key es id are.2)
+  where
+    by : (b : Bool) → option_map (λ (s : LiveSeries Cell). s.id) (cond b (Some e) (find (has_key key) es)) ≡ Some id → (id_of_key key es ≡ Some id → id.kind ≡ kind) → id.kind ≡ kind
+    by true f rest = ap (λ (i : SeriesId). i.kind) (sym (same_Some e.id id f)) ∙ are.0
+    by false f rest = rest f
 
 -- ---- calling
 
--- the counter with one more call
-abbrev pub called : Call → CounterText → CounterText
-called call counter = record counter { calls = counter.calls ++ call ∷ [] }
+kind_eq_refl : (kind : MetricKind) → kind_eq kind kind ≡ true
+kind_eq_refl kinds.Counter = refl
+kind_eq_refl kinds.Gauge = refl
+kind_eq_refl kinds.Histogram = refl
 
--- the counters have the numbers from n on
-abbrev AreFrom : ℕ → List (KeyText × CounterText) → Type 0
-AreFrom n es = map number_of es ≡ range_with_len n (length es)
+module _ (id : SeriesId) where
+  same_id : (e : LiveSeries Cell) → e.id.kind ≡ id.kind → has_id id e ≡ (e.id.number == id.number)
+  same_id e kind = ap (λ k. kind_eq k id.kind && (e.id.number == id.number)) kind ∙ ap (λ b. b && (e.id.number == id.number)) (kind_eq_refl id.kind)
 
-first_number : (n : ℕ) (e : KeyText × CounterText) (es : List (KeyText × CounterText)) → AreFrom n (e ∷ es) → e.1.number ≡ n
-first_number n e es numbered = cc
+  -- series with greater numbers take no call
+  above_stay : (call : Call) (es : List (LiveSeries Cell)) → IsBelowAll id.number es → map (with_call id.number call) (map series_of es) ≡ map series_of es
+  above_stay call [] below = refl
+  above_stay call (e ∷ es) below =
+      let other : (e.id.number == id.number) ≡ false = ne_eqb e.id.number id.number (λ same. absurd (omega (arith, same, below.0))) in
+      (λ j. cond (other j) (record (series_of e) { calls = e.cell ++ call ∷ [] }) (series_of e) ∷ above_stay call es below.1 j)
 
-other_numbers : (n : ℕ) (e : KeyText × CounterText) (es : List (KeyText × CounterText)) → AreFrom n (e ∷ es) → AreFrom (n + 1) es
-other_numbers n e es numbered = cc
+  above_keep : (cell : Cell) (es : List (LiveSeries Cell)) (n : ℕ) → AreOf id.kind n es → IsBelowAll id.number es → with_cell id es cell ≡ es
+  above_keep cell [] n are below = refl
+  above_keep cell (e ∷ es) n are below =
+      let other : has_id id e ≡ false = same_id e are.0 ∙ ne_eqb e.id.number id.number (λ same. absurd (omega (arith, same, below.0))) in
+      (λ j. cond (other j) (record e { cell = cell }) e ∷ above_keep cell es n are.2 below.1 j)
 
-module _ (i : ℕ) (call : Call) where
-  -- a number that no counter has
-  below_all : (n : ℕ) (es : List (KeyText × CounterText)) → AreFrom n es → i < n → map (with_call Counter i call) (map series_of es) ≡ map series_of es
-  below_all n [] numbered below = refl
-  below_all n (e ∷ es) numbered below =
-      let other : eqb e.1.number i ≡ false = ne_eqb e.1.number i (λ same. omega (arith, first_number n e es numbered)) in
-      rw other (ap (λ l. series_of e ∷ l) (below_all (n + 1) es (other_numbers n e es numbered) (omega arith)))
+  -- a call on the series with the id
+  pub called : (call : Call) (es : List (LiveSeries Cell)) (n : ℕ) (cell : Cell) → Rises es → AreOf id.kind n es → cell_of id es ≡ Some cell
+      → map series_of (with_cell id es (cell ++ call ∷ [])) ≡ map (with_call id.number call) (map series_of es)
+  called call [] n cell rises are found = absurd cc
+  called call (e ∷ es) n cell rises are found = by (e.id.number == id.number) refl (called call es n cell rises.1 are.2)
+    where
+      by : (b : Bool) → (e.id.number == id.number) ≡ b → (cell_of id es ≡ Some cell → map series_of (with_cell id es (cell ++ call ∷ [])) ≡ map (with_call id.number call) (map series_of es))
+          → map series_of (with_cell id (e ∷ es) (cell ++ call ∷ [])) ≡ map (with_call id.number call) (map series_of (e ∷ es))
+      by true is rest =
+          let has : has_id id e ≡ true = same_id e are.0 ∙ is in
+          let here : e.cell ≡ cell = same_Some e.cell cell (sym (ap (λ b. option_map (λ (s : LiveSeries Cell). s.cell) (cond b (Some e) (find (has_id id) es))) has) ∙ found) in
+          let number : e.id.number ≡ id.number = eqb-true e.id.number id.number is in
+          let below : IsBelowAll id.number es = subst (λ m. IsBelowAll m es) number rises.0 in
+          (λ j. series_of (cond (has j) (record e { cell = cell ++ call ∷ [] }) e) ∷ map series_of (above_keep (cell ++ call ∷ []) es n are.2 below j))
+          ∙ sym (λ j. cond (is j) (record (series_of e) { calls = here j ++ call ∷ [] }) (series_of e) ∷ above_stay call es below j)
+      by false is rest =
+          let has : has_id id e ≡ false = same_id e are.0 ∙ is in
+          let later : cell_of id es ≡ Some cell = sym (ap (λ b. option_map (λ (s : LiveSeries Cell). s.cell) (cond b (Some e) (find (has_id id) es))) has) ∙ found in
+          (λ j. series_of (cond (has j) (record e { cell = cell ++ call ∷ [] }) e) ∷ rest later j)
+          ∙ sym (λ j. cond (is j) (record (series_of e) { calls = e.cell ++ call ∷ [] }) (series_of e) ∷ map (with_call id.number call) (map series_of es))
 
-  above_all : (n : ℕ) (es : List (KeyText × CounterText)) → AreFrom n es → n + length es ≤ i → map (with_call Counter i call) (map series_of es) ≡ map series_of es
-  above_all n [] numbered above = refl
-  above_all n (e ∷ es) numbered above =
-      let other : eqb e.1.number i ≡ false = ne_eqb e.1.number i (λ same. omega (arith, first_number n e es numbered)) in
-      rw other (ap (λ l. series_of e ∷ l) (above_all (n + 1) es (other_numbers n e es numbered) (omega arith)))
+  -- a series with the id is live where it has a cell
+  pub is_live_cell : (es : List (LiveSeries Cell)) (n : ℕ) → AreOf id.kind n es → list_any (λ (series : Series). series.number == id.number) (map series_of es) ≡ is_some (cell_of id es)
+  is_live_cell [] n are = refl
+  is_live_cell (e ∷ es) n are = by (e.id.number == id.number) refl (is_live_cell es n are.2)
+    where
+      by : (b : Bool) → (e.id.number == id.number) ≡ b → list_any (λ (series : Series). series.number == id.number) (map series_of es) ≡ is_some (cell_of id es)
+          → list_any (λ (series : Series). series.number == id.number) (map series_of (e ∷ es)) ≡ is_some (cell_of id (e ∷ es))
+      by true is rest =
+          let has : has_id id e ≡ true = same_id e are.0 ∙ is in
+          ap (λ b. b || list_any (λ (series : Series). series.number == id.number) (map series_of es)) is
+          ∙ sym (ap (λ b. is_some (option_map (λ (s : LiveSeries Cell). s.cell) (cond b (Some e) (find (has_id id) es)))) has)
+      by false is rest =
+          let has : has_id id e ≡ false = same_id e are.0 ∙ is in
+          ap (λ b. b || list_any (λ (series : Series). series.number == id.number) (map series_of es)) is ∙ rest
+          ∙ sym (ap (λ b. is_some (option_map (λ (s : LiveSeries Cell). s.cell) (cond b (Some e) (find (has_id id) es)))) has)
 
-  at_place : (n k : ℕ) (es : List (KeyText × CounterText)) (counter : CounterText) → AreFrom n es → i ≡ n + k → slice_get (values_of es) k ≡ Some counter
-      → map (with_call Counter i call) (map series_of es) ≡ map series_of (set_value_at es k (called call counter))
-  at_place n k [] counter numbered place found = cc
-  at_place n zero (e ∷ es) counter numbered place found =
-      let own : eqb e.1.number i ≡ true = eq-eqb e.1.number i (omega (arith, first_number n e es numbered)) in
-      let is : e.1 ≡ counter = cc in
-      rw own (λ j. series_of (e.0, called call (is j)) ∷ below_all (n + 1) es (other_numbers n e es numbered) (omega arith) j)
-  at_place n (suc k) (e ∷ es) counter numbered place found =
-      let other : eqb e.1.number i ≡ false = ne_eqb e.1.number i (λ same. omega (arith, first_number n e es numbered)) in
-      rw other (ap (λ l. series_of e ∷ l) (at_place (n + 1) k es counter (other_numbers n e es numbered) (omega arith) found))
+  -- where none is live nothing changes
+  pub none_called : (call : Call) (es : List Series) → list_any (λ (series : Series). series.number == id.number) es ≡ false → map (with_call id.number call) es ≡ es
+  none_called call [] none = refl
+  none_called call (s ∷ es) none = by (s.number == id.number) refl none (none_called call es)
+    where
+      by : (b : Bool) → (s.number == id.number) ≡ b → (b || list_any (λ (series : Series). series.number == id.number) es) ≡ false
+          → (list_any (λ (series : Series). series.number == id.number) es ≡ false → map (with_call id.number call) es ≡ es) → map (with_call id.number call) (s ∷ es) ≡ s ∷ es
+      by true is f rest = absurd cc
+      by false is f rest = (λ j. cond (is j) (record s { calls = s.calls ++ call ∷ [] }) s ∷ rest f j)
 
-  module _ (made : ℕ) where
-    -- the counter at a place has its place as its number
-    pub call_on-place : (es : List (KeyText × CounterText)) (counter : CounterText) → map number_of es ≡ range_with_len 0 (length es) → slice_get (values_of es) i ≡ Some counter
-        → call_on Counter i call (state_of es made) ≡ state_of (set_value_at es i (called call counter)) made
-    call_on-place es counter numbered found = ap (λ l. record { live = l; made = made; published = []; pending = [] }) (at_place 0 i es counter numbered (omega arith) found)
+  -- no number is past those of all series that were made
+  pub none_past : (es : List (LiveSeries Cell)) (kind : MetricKind) (n : ℕ) → AreOf kind n es → n ≤ id.number → list_any (λ (series : Series). series.number == id.number) (map series_of es) ≡ false
+  none_past [] kind n are past = refl
+  none_past (e ∷ es) kind n are past =
+      let other : (e.id.number == id.number) ≡ false = ne_eqb e.id.number id.number (λ same. absurd (omega (arith, same, past, are.1))) in
+      rw other (none_past es kind n are.2 past)
 
-    -- no counter has a number past all places
-    pub call_on-past : (es : List (KeyText × CounterText)) → map number_of es ≡ range_with_len 0 (length es) → length es ≤ i → call_on Counter i call (state_of es made) ≡ state_of es made
-    call_on-past es numbered past = ap (λ l. record { live = l; made = made; published = []; pending = [] }) (above_all 0 es numbered (omega arith))
-
-    -- series of other kinds there are none
-    called-other : (kind : MetricKind) → kind_eq Counter kind ≡ false → (es : List (KeyText × CounterText)) → map (with_call kind i call) (map series_of es) ≡ map series_of es
-    called-other kind other [] = refl
-    called-other kind other (e ∷ es) = rw other (ap (λ l. series_of e ∷ l) (called-other kind other es))
-
-    pub call_on-other : (kind : MetricKind) → kind_eq Counter kind ≡ false → (es : List (KeyText × CounterText)) → call_on kind i call (state_of es made) ≡ state_of es made
-    call_on-other kind other es = ap (λ l. record { live = l; made = made; published = []; pending = [] }) (called-other kind other es)
-
-    -- a number past all places, of any kind
-    pub call_on-none : (kind : MetricKind) (es : List (KeyText × CounterText)) → map number_of es ≡ range_with_len 0 (length es) → length es ≤ i → call_on kind i call (state_of es made) ≡ state_of es made
-    call_on-none Counter es numbered past = call_on-past es numbered past
-    call_on-none Gauge es numbered past = call_on-other Gauge refl es
-    call_on-none Histogram es numbered past = call_on-other Histogram refl es
-
--- ---- which numbers are live
-
-module _ (i : ℕ) where
-  live_below : (n k : ℕ) (es : List (KeyText × CounterText)) → AreFrom n es → i ≡ n + k → k < length es → list_any (λ series. kind_eq series.kind Counter && series.number == i) (map series_of es) ≡ true
-  live_below n k [] numbered place below = absurd (omega arith)
-  live_below n zero (e ∷ es) numbered place below =
-      let own : eqb e.1.number i ≡ true = eq-eqb e.1.number i (omega (arith, first_number n e es numbered)) in rw own refl
-  live_below n (suc k) (e ∷ es) numbered place below =
-      let other : eqb e.1.number i ≡ false = ne_eqb e.1.number i (λ same. omega (arith, first_number n e es numbered)) in
-      rw other (live_below (n + 1) k es (other_numbers n e es numbered) (omega arith) (omega arith))
-
-  live_above : (n : ℕ) (es : List (KeyText × CounterText)) → AreFrom n es → n + length es ≤ i → list_any (λ series. kind_eq series.kind Counter && series.number == i) (map series_of es) ≡ false
-  live_above n [] numbered above = refl
-  live_above n (e ∷ es) numbered above =
-      let other : eqb e.1.number i ≡ false = ne_eqb e.1.number i (λ same. omega (arith, first_number n e es numbered)) in
-      rw other (live_above (n + 1) es (other_numbers n e es numbered) (omega arith))
-
-  module _ (made : ℕ) where
-    pub is_live-place : (es : List (KeyText × CounterText)) → map number_of es ≡ range_with_len 0 (length es) → i < length es → is_live Counter i (state_of es made) ≡ true
-    is_live-place es numbered below = live_below 0 i es numbered (omega arith) below
-
-    pub is_live-past : (es : List (KeyText × CounterText)) → map number_of es ≡ range_with_len 0 (length es) → length es ≤ i → is_live Counter i (state_of es made) ≡ false
-    is_live-past es numbered past = live_above 0 es numbered (omega arith)
-
-    pub is_live-other : (kind : MetricKind) → kind_eq Counter kind ≡ false → (es : List (KeyText × CounterText)) → is_live kind i (state_of es made) ≡ false
-    is_live-other kind other [] = refl
-    is_live-other kind other (e ∷ es) = rw other (is_live-other kind other es)
-
-    pub is_live-none : (kind : MetricKind) (es : List (KeyText × CounterText)) → map number_of es ≡ range_with_len 0 (length es) → length es ≤ i → is_live kind i (state_of es made) ≡ false
-    is_live-none Counter es numbered past = is_live-past es numbered past
-    is_live-none Gauge es numbered past = is_live-other Gauge refl es
-    is_live-none Histogram es numbered past = is_live-other Histogram refl es
-
--- ---- all that were made are live
-
-numbers-push : (n : ℕ) (es : List (KeyText × CounterText)) (e : KeyText × CounterText) → AreFrom n es → e.1.number ≡ n + length es → AreFrom n (es ++ e ∷ [])
-numbers-push n [] e numbered next = let own : e.1.number ≡ n = omega arith in ap (λ m. m ∷ []) own
-numbers-push n (first ∷ es) e numbered next =
-    let rest : AreFrom (n + 1) (es ++ e ∷ []) = numbers-push (n + 1) es e (other_numbers n first es numbered) (omega arith) in
-    (λ j. first_number n first es numbered j ∷ rest j)
-
-pub all_live-push : (es : List (KeyText × CounterText)) (made : ℕ) (key : KeyText) → AreAllLive es made → AreAllLive (es ++ (key, record { number = made; calls = [] }) ∷ []) (made + 1)
-all_live-push es made key all = record {
-  numbered = numbers-push 0 es (key, record { number = made; calls = [] }) all.numbered (omega (arith, all.counted));
-  counted = omega (arith, all.counted, length-append es ((key, record { number = made; calls = [] }) ∷ []));
-}
-
-module _ (counter other : CounterText) (same : other.number ≡ counter.number) where
-  numbers-set : (es : List (KeyText × CounterText)) (i : ℕ) → slice_get (values_of es) i ≡ Some counter → map number_of (set_value_at es i other) ≡ map number_of es
-  numbers-set [] i found = refl
-  numbers-set (e ∷ es) zero found = let is : other.number ≡ e.1.number = cc in ap (λ n. n ∷ map number_of es) is
-  numbers-set (e ∷ es) (suc i) found = ap (λ l. number_of e ∷ l) (numbers-set es i found)
-
-  pub all_live-set : (es : List (KeyText × CounterText)) (made i : ℕ) → slice_get (values_of es) i ≡ Some counter → AreAllLive es made → AreAllLive (set_value_at es i other) made
-  all_live-set es made i found all = record {
-    numbered = numbers-set es i found ∙ all.numbered ∙ ap (range_with_len 0) (sym (length-set_value_at es i other));
-    counted = all.counted ∙ sym (length-set_value_at es i other);
-  }
-
--- the same counter at its place
-pub set-same : (es : List (KeyText × CounterText)) (i : ℕ) (counter : CounterText) → slice_get (values_of es) i ≡ Some counter → set_value_at es i counter ≡ es
-set-same [] i counter found = refl
-set-same (e ∷ es) zero counter found = let is : counter ≡ e.1 = cc in ap (λ c. (e.0, c) ∷ es) is
-set-same (e ∷ es) (suc i) counter found = ap (λ l. e ∷ l) (set-same es i counter found)
-
--- what holds of all live series holds of the counter at a place
-pub live-place : (P : Series → Type 0) (es : List (KeyText × CounterText)) (i : ℕ) (counter : CounterText) → All P (map series_of es) → slice_get (values_of es) i ≡ Some counter → (key : KeyText) × P (series_of (key, counter))
-live-place P [] i counter all found = cc
-live-place P (e ∷ es) zero counter all found =
-    let is : e.1 ≡ counter = cc in (e.0, subst (λ c. P (series_of (e.0, c))) is (All-head P (series_of e) (map series_of es) all))
-live-place P (e ∷ es) (suc i) counter all found = live-place P es i counter (All-tail P (series_of e) (map series_of es) all) found
+  -- what holds of all series holds of the one with the id
+  pub of_cell : (P : Cell → Type 0) (es : List (LiveSeries Cell)) (cell : Cell) → All (λ (series : Series). P series.calls) (map series_of es) → cell_of id es ≡ Some cell → P cell
+  of_cell P [] cell all found = absurd cc
+  of_cell P (e ∷ es) cell all found = by (has_id id e) found (of_cell P es cell (All-tail (λ (series : Series). P series.calls) (series_of e) (map series_of es) all))
+    where
+      by : (b : Bool) → option_map (λ (s : LiveSeries Cell). s.cell) (cond b (Some e) (find (has_id id) es)) ≡ Some cell → (cell_of id es ≡ Some cell → P cell) → P cell
+      by true f rest = subst P (same_Some e.cell cell f) (All-head (λ (series : Series). P series.calls) (series_of e) (map series_of es) all)
+      by false f rest = rest f
 
 -- ---- a page
 
-kept_all : (t : ℕ) (live : List Series) → filter_map (kept_at None t) live ≡ live
-kept_all t [] = refl
-kept_all t (series ∷ live) = ap (λ l. series ∷ l) (kept_all t live)
+all_stay : (t : ℕ) (kind : MetricKind) (es : List Series) → filter_map (kept_at None t kind) es ≡ es
+all_stay t kind [] = refl
+all_stay t kind (s ∷ es) = ap (λ l. s ∷ l) (all_stay t kind es)
 
--- where no series fall idle and nothing waits, a page changes nothing
-pub stepped-same : (t : ℕ) (es : List (KeyText × CounterText)) (made : ℕ)
-    → stepped t (record { settings = default_settings; state = state_of es made }) ≡ record { settings = default_settings; state = state_of es made }
-stepped-same t es made = ap (λ l. record { settings = default_settings; state = record { live = l; made = made; published = []; pending = [] } }) (kept_all t (map series_of es))
+pub stepped-same : {H : Type 0} (t : ℕ) (globals : List LabelText) (registry : RegistryText Cell Cell H) → stepped t (record { settings = settings_with globals; state = state_of registry }) ≡ record { settings = settings_with globals; state = state_of registry }
+stepped-same t globals registry =
+    (λ j. record {
+      settings = settings_with globals;
+      state = record { counters = all_stay t kinds.Counter (map series_of registry.counters) j; gauges = all_stay t kinds.Gauge (map series_of registry.gauges) j; histograms = []; made = registry.made; published = []; pending = [] };
+    })
+
+-- ---- registering, as a whole
+
+-- a registry with other counters, or other gauges
+abbrev pub with_counters : {H : Type 0} → RegistryText Cell Cell H → List (LiveSeries Cell) → ℕ → RegistryText Cell Cell H
+with_counters registry counters made = record registry { counters = counters; made = made }
+
+abbrev pub with_gauges : {H : Type 0} → RegistryText Cell Cell H → List (LiveSeries Cell) → ℕ → RegistryText Cell Cell H
+with_gauges registry gauges made = record registry { gauges = gauges; made = made }
+
+abbrev new_id : MetricKind → ℕ → SeriesId
+new_id kind number = record { kind = kind; number = number }
+
+abbrev pub new_series : MetricKind → ℕ → KeyText → LiveSeries Cell
+new_series kind number key = record { id = new_id kind number; key = key; cell = [] }
+
+-- the series of a kind
+abbrev of_kind : {H : Type 0} → MetricKind → RegistryText Cell Cell H → List (LiveSeries Cell)
+of_kind kinds.Counter registry = registry.counters
+of_kind kinds.Gauge registry = registry.gauges
+of_kind kinds.Histogram registry = []
+
+live_is : {H : Type 0} (kind : MetricKind) (registry : RegistryText Cell Cell H) → live kind (state_of registry) ≡ map series_of (of_kind kind registry)
+live_is kinds.Counter registry = refl
+live_is kinds.Gauge registry = refl
+live_is kinds.Histogram registry = refl
+
+module _ {H : Type 0} (kind : MetricKind) (key : KeyText) (registry : RegistryText Cell Cell H) where
+  number_found : option_map (λ (series : Series). series.number) (live_series kind key (state_of registry)) ≡ option_map (λ (id : SeriesId). id.number) (id_of_key key (of_kind kind registry))
+  number_found = ap (λ es. option_map (λ (series : Series). series.number) (find (has_equal_key key) es)) (live_is kind registry) ∙ found_number key (of_kind kind registry)
+
+  some_found : is_some (live_series kind key (state_of registry)) ≡ is_some (id_of_key key (of_kind kind registry))
+  some_found = ap (λ es. is_some (find (has_equal_key key) es)) (live_is kind registry) ∙ found_some key (of_kind kind registry)
+
+  -- a series with an equal key is live
+  pub register-live : (id : SeriesId) → id_of_key key (of_kind kind registry) ≡ Some id → register kind key (state_of registry) ≡ state_of registry
+  register-live id found = ap (λ b. cond b (state_of registry) (registered_else)) (some_found ∙ ap is_some found)
+    where
+      registered_else : PrometheusState
+      registered_else = cond (registry.made == no_series) (state_of registry) (record (with_live kind (live kind (state_of registry) ++ record { number = registry.made; key = key; calls = []; note = None } ∷ []) (state_of registry)) { made = registry.made + 1 })
+
+  pub id-live : (n : ℕ) (id : SeriesId) → AreOf kind n (of_kind kind registry) → id_of_key key (of_kind kind registry) ≡ Some id → id ≡ new_id kind (number_given kind key (state_of registry))
+  id-live n id are found =
+      let given : number_given kind key (state_of registry) ≡ id.number = ap (λ o. unwrap_or o registry.made) (number_found ∙ ap (option_map (λ (i : SeriesId). i.number)) found) in
+      (λ j. new_id (kind_of_id kind n key (of_kind kind registry) id are found j) (sym given j))
+
+  -- none is live
+  pub number-new : id_of_key key (of_kind kind registry) ≡ None → number_given kind key (state_of registry) ≡ registry.made
+  number-new none = ap (λ o. unwrap_or o registry.made) (number_found ∙ ap (option_map (λ (i : SeriesId). i.number)) none)
+
+  pub register-full : id_of_key key (of_kind kind registry) ≡ None → registry.made ≡ no_series → register kind key (state_of registry) ≡ state_of registry
+  register-full none full = rw (some_found, none, eq-eqb registry.made no_series full) refl
+
+  pub register-new : id_of_key key (of_kind kind registry) ≡ None → registry.made ≢ no_series
+      → register kind key (state_of registry) ≡ record (with_live kind (live kind (state_of registry) ++ series_of (new_series kind registry.made key) ∷ []) (state_of registry)) { made = registry.made + 1 }
+  register-new none room = rw (some_found, none, ne_eqb registry.made no_series room) refl

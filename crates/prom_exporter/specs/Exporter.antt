@@ -1,5 +1,6 @@
 -- An exporter as its contracts see it: what it was built with, and its state.
 use Rattle.std.specs.Prelude.{ℕ, List, [], ◌∷◌, map, pos, None, false}
+use Rattle.metrics_core.specs.Keys.{LabelText}
 use Rattle.prom_format.specs.Pages.{Family, body_text}
 use Rattle.prom_exporter.specs.State.{PrometheusState, page_step}
 use Rattle.prom_exporter.specs.Families.{ExporterSettings, families_at}
@@ -22,6 +23,10 @@ default_settings = record {
   total_suffix = false;
   globals = [];
 }
+
+-- the settings with these global labels, and otherwise those of a new builder
+abbrev pub settings_with : List LabelText → ExporterSettings
+settings_with globals = record default_settings { globals = globals }
 
 -- the exporter after the page step at a moment
 abbrev pub stepped : ℕ → Exporter → Exporter

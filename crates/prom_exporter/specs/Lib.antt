@@ -3,5 +3,5 @@ pub mod Window
 pub mod Native
 pub mod Families
 pub mod Exporter
-pub mod Counters
+pub mod Values
 pub mod Vectors

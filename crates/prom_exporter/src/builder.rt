@@ -1,34 +1,58 @@
 //! The settings that an exporter is built with.
 
-ghost use Rattle.std.specs.Prelude.{◌≡◌, IfOk, IfErr};
+ghost use Rattle.std.specs.Prelude.{◌≡◌, string_bytes, IfOk, IfErr};
+ghost use Rattle.metrics_core.specs.Keys.{put_label};
 ghost use Rattle.prom_exporter.specs.State.{empty_state};
 ghost use Rattle.prom_exporter.specs.Exporter.{default_settings};
 
 use crate::{BuildError, PrometheusState};
+use indexmap::IndexMap;
 use metrics_core::Memory;
+use prom_format::put_label;
 use std::alloc::Global;
 use std::marker::Model;
 
-/// What an exporter is to be built with.
+/// What an exporter is to be built with. A call that refuses a setting consumes the builder.
 #[derive(Drop)]
-pub struct PrometheusBuilder {}
+pub struct PrometheusBuilder {
+    globals: IndexMap<String, String>,
+}
 
 impl Model for PrometheusBuilder {
+    ghost use Rattle.prom_format.specs.LabelSets.{labels_of};
     ghost use Rattle.prom_exporter.specs.Families.{ExporterSettings};
-    ghost use Rattle.prom_exporter.specs.Exporter.{default_settings};
+    ghost use Rattle.prom_exporter.specs.Exporter.{settings_with};
 
     ghost Value = { ExporterSettings };
 
-    ghost view = { λ _. default_settings };
+    ghost view = { λ builder. settings_with (labels_of builder.globals.entries) };
 }
 
 impl PrometheusBuilder {
     /// The default settings: quantiles 0, 0.5, 0.9, 0.95, 0.99, 0.999 and 1 over three buckets of 20 seconds, no
     /// buckets, no idle timeout, no global labels, names as they are.
-    pub fn new(_alloc: Global) -> Result<PrometheusBuilder, Memory>
+    pub fn new(alloc: Global) -> Result<PrometheusBuilder, Memory>
         ensures defaults { IfOk result (λ builder. builder ≡ default_settings) }
     {
-        Ok(PrometheusBuilder {})
+        Ok(PrometheusBuilder {
+            globals: IndexMap::new(alloc),
+        })
+    }
+
+    /// A label that each series has, unless its key has one with the same label key. Of equal label keys the last value
+    /// counts, in the place of the first.
+    pub fn add_global_label(
+        self,
+        alloc: Global,
+        key: &str,
+        value: &str,
+    ) -> Result<PrometheusBuilder, BuildError>
+        ensures added { IfOk result (λ builder. builder ≡ record self { globals = put_label self.globals (record { key = key.now; value = value.now }) }) }
+        ensures refused { IfErr result (λ error. error ≡ BuildError.Memory) }
+    {
+        let PrometheusBuilder { mut globals } = self;
+        put_label(&mut globals, key, value, alloc)?;
+        Ok(PrometheusBuilder { globals })
     }
 
     /// An exporter with these settings and no series.
@@ -36,6 +60,7 @@ impl PrometheusBuilder {
         ensures built { IfOk result (λ exporter. exporter ≡ record { settings = self; state = empty_state }) }
         ensures refused { IfErr result (λ error. error ≡ BuildError.Memory) }
     {
-        Ok(PrometheusState::new(alloc))
+        let PrometheusBuilder { globals } = self;
+        Ok(PrometheusState::new(alloc, globals)?)
     }
 }

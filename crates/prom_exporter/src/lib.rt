@@ -2,7 +2,7 @@
 #![tactic(auto)]
 
 mod builder;
-mod counters;
+mod cells;
 mod errors;
 mod families;
 mod laws;

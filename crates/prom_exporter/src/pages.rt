@@ -5,30 +5,31 @@ ghost use Rattle.std.specs.Map.Iter.{deref_pair};
 ghost use Rattle.metrics_core.specs.Outside.{Rose, GrewBy, GrewByFront};
 ghost use Rattle.prom_format.specs.LabelSets.{labels_of};
 ghost use Rattle.prom_format.specs.Pages.{row_text, block_text, body_text};
-ghost use Rattle.prom_exporter.specs.Counters.{group_of, counter_row, counter_family};
+ghost use Rattle.prom_exporter.specs.Values.{group_of, value_row, value_family};
 
 use crate::BuildError;
-use crate::counters::CounterSeries;
+use crate::cells::Shown;
 use crate::families::Members;
 use indexmap::IndexMap;
 use metrics_core::{Key, Memory, Sink, write_whole};
-use prom_format::{LabelSet, push_count, write_metric_line, write_type_line};
+use prom_format::{FamilyType, LabelSet, write_metric_line, write_type_line};
 use std::alloc::Global;
 
 /// Where so many bytes of a page are in memory they go to the sink.
 const PIECE: usize = 64 * 1024;
 
-/// Writes the blocks of families of counters. Where the sink or the memory fails a front of them was written.
-pub(crate) fn write_families<K: Sink>(
+/// Writes the blocks of families of one type. Where the sink or the memory fails a front of them was written.
+pub(crate) fn write_families<C: Shown, K: Sink>(
     alloc: Global,
-    families: &IndexMap<String, Members<'_>>,
+    family_type: FamilyType,
+    families: &IndexMap<String, Members<'_, C>>,
     globals: &IndexMap<String, String>,
     sink: &mut K,
 ) -> Result<(), BuildError>
     ensures body { OnOk result (GrewBy (K.written sink.old) (K.written sink.new)
-        (body_text (map (counter_family (labels_of globals.now.entries)) (map group_of families.now.entries)))) }
+        (body_text (map (value_family family_type C.shown (labels_of globals.now.entries)) (map group_of families.now.entries)))) }
     ensures front { OnErr result (GrewByFront (K.written sink.old) (K.written sink.new)
-        (body_text (map (counter_family (labels_of globals.now.entries)) (map group_of families.now.entries)))) }
+        (body_text (map (value_family family_type C.shown (labels_of globals.now.entries)) (map group_of families.now.entries)))) }
     ensures cause { result ≡ Err BuildError.WriteFault → Rose (K.faults sink.old) (K.faults sink.new) }
     ensures never_falls { K.faults sink.old ≤ K.faults sink.new }
 {
@@ -37,6 +38,7 @@ pub(crate) fn write_families<K: Sink>(
         push_family(
             alloc,
             &mut buffer,
+            family_type,
             name.as_str(),
             members.as_slice(),
             globals,
@@ -50,18 +52,19 @@ pub(crate) fn write_families<K: Sink>(
     Ok(())
 }
 
-/// Appends the block of a family of counters.
-fn push_family(
+/// Appends the block of a family.
+fn push_family<C: Shown>(
     alloc: Global,
     buffer: &mut String,
+    family_type: FamilyType,
     name: &str,
-    members: &[(&Key, &CounterSeries)],
+    members: &[(&Key, &C)],
     globals: &IndexMap<String, String>,
 ) -> Result<(), Memory>
     ensures { OnOk result (string_bytes buffer.new ≡ string_bytes buffer.old
-        ++ block_text (counter_family (labels_of globals.now.entries) (name.now, map deref_pair members.now))) }
+        ++ block_text (value_family family_type C.shown (labels_of globals.now.entries) (name.now, map deref_pair members.now))) }
 {
-    write_type_line(buffer, name, None, None, "counter")?;
+    write_type_line(buffer, name, None, None, family_type.as_str())?;
     for member in members {
         push_row(alloc, buffer, name, member.0, member.1, globals)?;
     }
@@ -69,19 +72,19 @@ fn push_family(
     Ok(())
 }
 
-/// Appends the row of a counter.
-fn push_row(
+/// Appends the row of a series.
+fn push_row<C: Shown>(
     alloc: Global,
     buffer: &mut String,
     name: &str,
     key: &Key,
-    counter: &CounterSeries,
+    cell: &C,
     globals: &IndexMap<String, String>,
 ) -> Result<(), Memory>
-    ensures { OnOk result (string_bytes buffer.new ≡ string_bytes buffer.old ++ row_text (counter_row (labels_of globals.now.entries) name.now (key.now, counter.now))) }
+    ensures { OnOk result (string_bytes buffer.new ≡ string_bytes buffer.old ++ row_text (value_row C.shown (labels_of globals.now.entries) name.now (key.now, cell.now))) }
 {
     let labels = LabelSet::from_key_and_global(alloc, key, globals)?;
     let mut value = String::new(alloc);
-    push_count(&mut value, counter.total())?;
+    cell.push_value(&mut value)?;
     write_metric_line(buffer, name, None, &labels, None, value.as_str(), None)
 }

@@ -1,0 +1,127 @@
+-- The page of a state of counters and gauges: its families are the groups of its series.
+use Rattle.std.proofs.Common.{◌≡◌, ℕ, Bool, true, false, List, [], ◌∷◌, ◌++◌, map, filter, filter_map, None, refl, sym, ap, ◌∙◌, append-nil, append_assoc}
+use Rattle.std.specs.Prelude.{Option, Some, codes, bytes_eq, decimal, flat_map, ℤ}
+use Rattle.std.specs.Iterator.{Yields}
+use Rattle.std.specs.Map.Iter.{TakesFirst}
+use Rattle.std.proofs.lemmas.Grind.{flat_map-append}
+use Rattle.std.proofs.lemmas.List.{map-append}
+use Rattle.std.proofs.lemmas.Map.Iter.{rest_so_far, rest_more}
+use Rattle.std.proofs.lemmas.Slice.Eq.{bytes_eq-Decides}
+use Rattle.metrics_core.specs.Characters.{line}
+use Rattle.metrics_core.specs.Numbers.{page_number}
+use Rattle.metrics_core.specs.declared.kinds.MetricKind.{MetricKind}
+use Rattle.metrics_core.specs.declared.kinds.MetricKind.TheVariants as kinds
+use Rattle.metrics_core.specs.Keys.{KeyText, LabelText, label_set}
+use Rattle.metrics_core.specs.Calls.{Call}
+use Rattle.metrics_registry.specs.Live.{LiveSeries, RegistryText}
+use Rattle.prom_format.proofs.PageText.{label_set_braced}
+use Rattle.prom_format.specs.Names.{sanitized_metric_name}
+use Rattle.prom_format.specs.Pages.{Row, Family, label_set_text, row_text, body_text, block_text}
+use Rattle.prom_format.specs.Lines.{shown_label_set, metric_line}
+use Rattle.prom_format.specs.declared.families.FamilyType.{FamilyType}
+use Rattle.prom_format.specs.declared.families.FamilyType.TheVariants as types
+use Rattle.prom_exporter.specs.State.{Series, PrometheusState, live}
+use Rattle.prom_exporter.specs.Families.{distinct, names_of_kind, counter_rows, gauge_rows, family_of}
+use Rattle.prom_exporter.specs.Families as pages
+use Rattle.prom_exporter.specs.Exporter.{settings_with, page_body}
+use Rattle.prom_exporter.specs.Values.{series_of, state_of, counter_shown, gauge_shown, named, grouped, member_of, metric_name, value_row, value_family, value_families}
+use Rattle.prom_exporter.proofs.States.{stepped-same}
+
+abbrev Cell : Type 0
+Cell = List Call
+
+abbrev metric : Series → List ℕ
+metric series = sanitized_metric_name series.key.name
+
+names_of_series : (es : List (LiveSeries Cell)) → map metric (map series_of es) ≡ map metric_name (map member_of es)
+names_of_series [] = refl
+names_of_series (e ∷ es) = ap (λ l. metric_name (member_of e) ∷ l) (names_of_series es)
+
+-- each series has one row
+module _ (shown : Cell → ℤ) (globals : List LabelText) (rows : Series → List Row) (one : (e : LiveSeries Cell) → rows (series_of e) ≡ value_row shown globals (metric_name (member_of e)) (member_of e) ∷ []) where
+  rows_step : (name : List ℕ) (e : LiveSeries Cell) (es : List (LiveSeries Cell)) (b : Bool) → bytes_eq (metric_name (member_of e)) name ≡ b
+      → flat_map rows (filter (λ series. bytes_eq (metric series) name) (map series_of es)) ≡ map (value_row shown globals name) (named metric_name (map member_of es) name)
+      → flat_map rows (filter (λ series. bytes_eq (metric series) name) (map series_of (e ∷ es))) ≡ map (value_row shown globals name) (named metric_name (map member_of (e ∷ es)) name)
+  rows_step name e es true is rest =
+      let same : metric_name (member_of e) ≡ name = (bytes_eq-Decides (metric_name (member_of e)) name).0 is in
+      rw is ((λ j. one e j ++ rest j) ∙ ap (λ n. value_row shown globals n (member_of e) ∷ map (value_row shown globals name) (named metric_name (map member_of es) name)) same)
+  rows_step name e es false is rest = rw is rest
+
+  rows_named : (name : List ℕ) (es : List (LiveSeries Cell))
+      → flat_map rows (filter (λ series. bytes_eq (metric series) name) (map series_of es)) ≡ map (value_row shown globals name) (named metric_name (map member_of es) name)
+  rows_named name [] = refl
+  rows_named name (e ∷ es) = rows_step name e es (bytes_eq (metric_name (member_of e)) name) refl (rows_named name es)
+
+  families_named : (type : FamilyType) (es : List (LiveSeries Cell)) (names : List (List ℕ))
+      → map (λ name. record { help = None; name = name; type = type; rows = flat_map rows (filter (λ series. bytes_eq (metric series) name) (map series_of es)) }) names
+      ≡ map (value_family type shown globals) (map (λ name. (name, named metric_name (map member_of es) name)) names)
+  families_named type es [] = refl
+  families_named type es (name ∷ names) = (λ j. record { help = None; name = name; type = type; rows = rows_named name es j } ∷ families_named type es names j)
+
+  families_of_kind : (type : FamilyType) (es : List (LiveSeries Cell))
+      → map (λ name. record { help = None; name = name; type = type; rows = flat_map rows (filter (λ series. bytes_eq (metric series) name) (map series_of es)) }) (distinct (map metric (map series_of es)))
+      ≡ value_families type shown globals es
+  families_of_kind type es =
+      ap (λ names. map (λ name. record { help = None; name = name; type = type; rows = flat_map rows (filter (λ series. bytes_eq (metric series) name) (map series_of es)) }) (distinct names)) (names_of_series es)
+      ∙ families_named type es (distinct (map metric_name (map member_of es)))
+
+abbrev row_of_series : LiveSeries Cell → ℤ → List LabelText → List Row
+row_of_series e value labels = record { name = metric_name (member_of e); labels = labels; value = value } ∷ []
+
+one_row : (globals : List LabelText) (e : LiveSeries Cell) (value : ℤ) → row_of_series e value (shown_label_set globals e.key.labels ++ []) ≡ row_of_series e value (shown_label_set globals e.key.labels)
+one_row globals e value = ap (row_of_series e value) (append-nil (shown_label_set globals e.key.labels))
+
+module _ {H : Type 0} (globals : List LabelText) (t : ℕ) (registry : RegistryText Cell Cell H) where
+  pub families_are : pages.families_at (settings_with globals) t (state_of registry) ≡ value_families types.Counter counter_shown globals registry.counters ++ value_families types.Gauge gauge_shown globals registry.gauges
+  families_are =
+      append-nil _
+      ∙ (λ j.
+        families_of_kind counter_shown globals (counter_rows (settings_with globals) (state_of registry)) (λ e. one_row globals e (counter_shown e.cell)) types.Counter registry.counters j
+        ++ families_of_kind gauge_shown globals (gauge_rows (settings_with globals) (state_of registry)) (λ e. one_row globals e (gauge_shown e.cell)) types.Gauge registry.gauges j)
+
+  -- the body of the page is the text of the groups
+  pub page_body-values : page_body t (record { settings = settings_with globals; state = state_of registry })
+      ≡ body_text (value_families types.Counter counter_shown globals registry.counters) ++ body_text (value_families types.Gauge gauge_shown globals registry.gauges)
+  page_body-values =
+      ap (λ exporter. body_text (pages.families_at (settings_with globals) t exporter.state)) (stepped-same t globals registry)
+      ∙ ap body_text families_are
+      ∙ flat_map-append block_text (value_families types.Counter counter_shown globals registry.counters) (value_families types.Gauge gauge_shown globals registry.gauges)
+
+-- ---- lines
+
+-- a row is the line with its value in its page spelling
+pub row_text-value : {X : Type 0} (shown : X → ℤ) (globals : List LabelText) (name : List ℕ) (member : KeyText × X)
+    → row_text (value_row shown globals name member) ≡ metric_line name None (label_set globals member.0.labels) None (page_number (shown member.1)) None
+row_text-value shown globals name member = (λ j. line (name ++ label_set_braced (label_set globals member.0.labels) j ++ codes " " ++ page_number (shown member.1)))
+
+-- ---- a body, family by family
+
+module _ {E X : Type 0} (shown : X → Family) (seen : E → X) where
+  abbrev body : List E → List ℕ
+  body es = body_text (map shown (map seen es))
+
+  pub body-append : (es fs : List E) → body (es ++ fs) ≡ body es ++ body fs
+  body-append es fs =
+      ap (λ l. body_text (map shown l)) (map-append seen es fs)
+      ∙ ap body_text (map-append shown (map seen es) (map seen fs))
+      ∙ flat_map-append block_text (map shown (map seen es)) (map shown (map seen fs))
+
+  pub body-push : (es : List E) (e : E) → body (es ++ e ∷ []) ≡ body es ++ block_text (shown (seen e))
+  body-push es e = body-append es (e ∷ []) ∙ ap (λ l. body es ++ l) (append-nil (block_text (shown (seen e))))
+
+  -- a loop over all has gone over some, and others are left
+  module _ {A : Type 0} (deref : A → E) (some : List A) where
+    pub body-yielded : (all start left : List E) → start ≡ all → Yields (TakesFirst deref) start some left → body all ≡ body (map deref some) ++ body left
+    body-yielded all start left from yielded = ap body (sym from ∙ rest_so_far deref some start left yielded) ∙ body-append (map deref some) left
+
+    -- one more
+    pub body-yielded_push : (x : A) → body (map deref (some ++ x ∷ [])) ≡ body (map deref some) ++ block_text (shown (seen (deref x)))
+    body-yielded_push x = ap body (map-append deref some (x ∷ [])) ∙ body-push (map deref some) (deref x)
+
+    pub body-yielded_more : (all start left after : List E) (x : A) (r : Option A) → start ≡ all → Yields (TakesFirst deref) start some left → r ≡ Some x → TakesFirst deref left r after
+        → body all ≡ body (map deref (some ++ x ∷ [])) ++ body after
+    body-yielded_more all start left after x r from yielded is step =
+        body-yielded all start left from yielded
+        ∙ ap (λ l. body (map deref some) ++ body l) (rest_more deref left after r x is step)
+        ∙ sym (append_assoc (body (map deref some)) (block_text (shown (seen (deref x)))) (body after))
+        ∙ ap (λ l. l ++ body after) (sym (body-yielded_push x))

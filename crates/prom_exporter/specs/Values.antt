@@ -1,0 +1,73 @@
+-- Counters and gauges as the exporter keeps them, and the state and the families that they make.
+use Rattle.std.specs.Prelude.{string_bytes, ℕ, List, [], ◌∷◌, map, filter, ℤ, None, bytes_eq}
+use Rattle.std.specs.Borrow.{Bor}
+use Rattle.std.specs.Map.Iter.{deref_pair}
+use Rattle.std.specs.declared.string.String.{String}
+use Rattle.std.specs.declared.vec.Vec.{Vec}
+use Rattle.std.specs.declared.alloc.Global.{Global}
+use Rattle.metrics_core.specs.Numbers.{whole}
+use Rattle.metrics_core.specs.Keys.{KeyText, LabelText}
+use Rattle.metrics_core.specs.Calls.{Call, counter_value, gauge_value}
+use Rattle.metrics_registry.specs.Live.{LiveSeries, RegistryText}
+use Rattle.prom_format.specs.Names.{sanitized_metric_name}
+use Rattle.prom_format.specs.Lines.{shown_label_set}
+use Rattle.prom_format.specs.Pages.{Row, Family}
+use Rattle.prom_format.specs.declared.families.FamilyType.{FamilyType}
+use Rattle.prom_exporter.specs.State.{Series, PrometheusState}
+use Rattle.prom_exporter.specs.Families.{distinct}
+
+-- ---- the state
+
+-- a live series, whose cell is seen as all calls on it
+abbrev pub series_of : LiveSeries (List Call) → Series
+series_of series = record { number = series.id.number; key = series.key; calls = series.cell; note = None }
+
+-- the state of a registry, where nothing was described
+abbrev pub state_of : {H : Type 0} → RegistryText (List Call) (List Call) H → PrometheusState
+state_of registry = record {
+  counters = map series_of registry.counters;
+  gauges = map series_of registry.gauges;
+  histograms = [];
+  made = registry.made;
+  published = [];
+  pending = [];
+}
+
+-- what a page shows of a counter and of a gauge, in billionths
+abbrev pub counter_shown : List Call → ℤ
+counter_shown calls = whole (counter_value calls)
+
+abbrev pub gauge_shown : List Call → ℤ
+gauge_shown calls = gauge_value calls
+
+-- ---- the families
+
+-- the members of a list that have a name
+abbrev pub named : {X : Type 0} → (X → List ℕ) → List X → List ℕ → List X
+named name_of xs name = filter (λ x. bytes_eq (name_of x) name) xs
+
+-- a list in groups, one for each name: the names in the order of their first members, the members in theirs
+abbrev pub grouped : {X : Type 0} → (X → List ℕ) → List X → List (List ℕ × List X)
+grouped name_of xs = map (λ name. (name, named name_of xs name)) (distinct (map name_of xs))
+
+-- a series as a member of a family: its key and its cell
+abbrev pub member_of : {X : Type 0} → LiveSeries X → KeyText × X
+member_of series = (series.key, series.cell)
+
+abbrev pub metric_name : {X : Type 0} → KeyText × X → List ℕ
+metric_name member = sanitized_metric_name member.0.name
+
+-- a group as the program has it: the text of its name, and references to its members
+abbrev pub group_of : {X : Type 0} → String Global × Vec (Bor KeyText × Bor X) Global → List ℕ × List (KeyText × X)
+group_of group = (string_bytes group.0, map deref_pair group.1.items)
+
+-- the row of a series under a metric name, where a page shows so much of its cell
+abbrev pub value_row : {X : Type 0} → (X → ℤ) → List LabelText → List ℕ → KeyText × X → Row
+value_row shown globals name member = record { name = name; labels = shown_label_set globals member.0.labels; value = shown member.1 }
+
+-- the family of the series under a metric name
+abbrev pub value_family : {X : Type 0} → FamilyType → (X → ℤ) → List LabelText → List ℕ × List (KeyText × X) → Family
+value_family type shown globals group = record { help = None; name = group.0; type = type; rows = map (value_row shown globals group.0) group.1 }
+
+abbrev pub value_families : {X : Type 0} → FamilyType → (X → ℤ) → List LabelText → List (LiveSeries X) → List Family
+value_families type shown globals live = map (value_family type shown globals) (grouped metric_name (map member_of live))
