@@ -19,7 +19,7 @@ one : (c x : ℕ) → x ≢ c → Lacks c (x ∷ [])
 one c x h = All-cons (λ x. x ≢ c) x [] h (All-nil (λ x. x ≢ c))
 
 -- the decimal form of a number has digits alone
-Lacks-decimal : (c n : ℕ) → n < 2 ^ 64 → ¬ (IsInRange 48 57 c) → Lacks c (decimal n)
+pub Lacks-decimal : (c n : ℕ) → n < 2 ^ 64 → ¬ (IsInRange 48 57 c) → Lacks c (decimal n)
 Lacks-decimal c n small other = All-from_get_or (λ x. x ≢ c) (decimal n) 0
     (λ i h e. other (subst (IsInRange 48 57) e (digit_at (decimal n) i (decimal_is_IsNumeral n small).0.1 h)))
 

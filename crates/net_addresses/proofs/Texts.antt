@@ -14,7 +14,8 @@ use Rattle.std.specs.Net.Socket.{v4_ip, v4_port, v6_ip, v6_port}
 use Rattle.std.specs.Net.Grammar.{IsIpv4Text, IsIpv6Text, IsIpText}
 use Rattle.net_addresses.specs.Readings.{Reads, Lacks}
 use Rattle.net_addresses.specs.Addresses.{IsNumber, IsPortBehind, IsSocketV4, IsSocketV6Behind, IsSocket, NetworkText, IsNetwork, IsNetworkOf, family_bits}
-use Rattle.net_addresses.proofs.Alphabets.{Lacks-dotted, Lacks-colon_hex, Lacks-ip, slash_is_foreign, bracket_is_foreign}
+use Rattle.std.proofs.lemmas.List.Elements.{All-nil, All-cons, All-append}
+use Rattle.net_addresses.proofs.Alphabets.{Lacks-decimal, Lacks-dotted, Lacks-colon_hex, Lacks-ip, slash_is_foreign, bracket_is_foreign}
 use Rattle.net_addresses.proofs.Splits.{Lacks-split, same_split}
 
 no_colon : (ip : List ℕ) (a : SocketAddrV4) → IsIpv4Text ip (v4_ip a) → Lacks 58 ip
@@ -112,3 +113,20 @@ network_unique text m n (inr (ip, length, e, is_of)) k =
     let ips = IsIpText_unique ip m.address n.address is_of.0 other.0 in
     let prefixes = same_number (family_bits m.address) length _ _ (family_wide m.address) is_of.1 (subst (λ (a : IpAddr). IsNumber (family_bits a) length n.prefix) (sym ips) other.1) in
     λ i. record { address = ips i; prefix = prefixes i }
+
+-- no slash stands in a socket
+Lacks-port : (port : List ℕ) (n : ℕ) → IsNumber 65535 port n → Lacks 47 port
+Lacks-port port n h = subst (Lacks 47) (sym h.1) (Lacks-decimal 47 n (omega (arith, h.0)) (λ k. omega (arith, k)))
+
+more : (x : ℕ) (xs : List ℕ) → x ≢ 47 → Lacks 47 xs → Lacks 47 (x ∷ xs)
+more = All-cons (λ c. c ≢ 47)
+
+pub Lacks-socket : (text : List ℕ) (a : SocketAddr) → IsSocket text a → Lacks 47 text
+Lacks-socket text (Socket.V4 a) (ip, port, e, is_ip, is_port) =
+    let front : Lacks 47 ip = Lacks-dotted 47 ip _ (λ k. omega (arith, k)) (λ p. omega (arith, p)) is_ip in
+    subst (Lacks 47) (sym e) (All-append (λ c. c ≢ 47) ip (58 ∷ port) front (more 58 port (λ p. omega (arith, p)) (Lacks-port port _ is_port)))
+Lacks-socket text (Socket.V6 a) (behind, e, (ip, behind', e₁, is_ip, (port, e₂, is_port), _, _)) =
+    let front : Lacks 47 ip = Lacks-colon_hex 47 ip _ slash_is_foreign is_ip in
+    let port_lacks : Lacks 47 behind' = subst (Lacks 47) (sym e₂) (more 58 port (λ p. omega (arith, p)) (Lacks-port port _ is_port)) in
+    let all : Lacks 47 behind = subst (Lacks 47) (sym e₁) (All-append (λ c. c ≢ 47) ip (93 ∷ behind') front (more 93 behind' (λ p. omega (arith, p)) port_lacks)) in
+    subst (Lacks 47) (sym e) (more 91 behind (λ p. omega (arith, p)) all)
