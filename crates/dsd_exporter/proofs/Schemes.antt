@@ -1,7 +1,7 @@
 -- Where the scheme of a text ends, and what that says of the address that the text writes.
-use Rattle.std.proofs.Common.{◌≡◌, ◌≢◌, ℕ, suc, ◌+◌, ◌-◌, ◌<◌, ◌≤◌, ◌⊎◌, Option, Some, None, List, [], ◌∷◌, ◌++◌, length, take, drop, codes, string_bytes, Bor, sym, ap, subst, ◌∙◌, append_assoc, refl, arith, inl, inr, length-append}
+use Rattle.std.proofs.Common.{◌≡◌, ◌≢◌, ℕ, ◌+◌, ◌<◌, ◌≤◌, Option, Some, None, List, [], ◌∷◌, ◌++◌, length, take, drop, codes, Bor, sym, ap, subst, ◌∙◌, append_assoc, refl, arith, inl, inr, length-append}
 use Rattle.std.specs.Prelude.{MatchOption}
-use Rattle.std.specs.Str.Pattern.{FindsText, LacksTextAt}
+use Rattle.std.specs.Str.Pattern.{FindsText}
 use Rattle.std.proofs.lemmas.Str.Pattern.{split_text_parts}
 use Rattle.std.proofs.lemmas.List.Elements.{All-nil, All-cons, All-head, All-tail}
 use Rattle.std.specs.declared.net.socket_addr.SocketAddr.{SocketAddr}

@@ -1,5 +1,6 @@
--- Which payload limits, in bytes, are refused: in this order, one under 6, the shortest line; for UDP one over 65527, what
--- a datagram holds (RFC 768 within RFC 8200, with its 8 bytes of header); and one over 2 ^ 32 - 1, what a length of 4 bytes tells.
+-- Which payload limits, in bytes, are refused, in this order: one under 6, the length of the shortest line; for UDP one over
+-- 65527, what a datagram of 65535 bytes holds behind its header of 8 (RFC 768); and one over 2 ^ 32 - 1, what the four bytes
+-- before a payload of a Unix stream tell.
 use Rattle.std.specs.Prelude.{ℕ, Bool, ◌&&◌, true, false, nat_lt, Option, Some, None, if◌then◌else◌}
 use Rattle.dsd_exporter.specs.declared.faults.LimitFault.{LimitFault}
 use Rattle.dsd_exporter.specs.declared.faults.LimitFault.TheVariants.{Low, Udp, Bound}

@@ -1,5 +1,5 @@
 -- What `parse` makes of a text that begins as a decimal number does.
-use Rattle.std.proofs.Common.{◌≡◌, ◌≢◌, ℕ, zero, suc, ◌+◌, ◌*◌, ◌-◌, ◌^◌, ◌<◌, ◌≤◌, List, [], ◌∷◌, length, get_or, decimal, Result, Ok, Err, true, sym, subst, arith, refl, rules, lit<}
+use Rattle.std.proofs.Common.{◌≡◌, ◌≢◌, ℕ, zero, suc, ◌^◌, ◌<◌, List, length, get_or, decimal, Result, Ok, Err, true, sym, subst, arith, refl, rules, lit<}
 use Rattle.std.specs.Prelude.{MatchResult}
 use Rattle.std.specs.Str.{all_ascii_digits}
 use Rattle.std.specs.Str.Parse.{ParsesUnsigned, digits_value}

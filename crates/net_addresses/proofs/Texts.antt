@@ -1,5 +1,5 @@
 -- Where a text is split at the first place of a character, its parts are those that a socket or a network has.
-use Rattle.std.proofs.Common.{◌≡◌, ◌≢◌, ℕ, ◌+◌, ◌^◌, ◌<◌, ◌≤◌, ◌⊎◌, Option, Some, None, List, [], ◌∷◌, ◌++◌, decimal, subst, sym, ap, ◌∙◌, arith, inl, inr}
+use Rattle.std.proofs.Common.{◌≡◌, ◌≢◌, ℕ, ◌^◌, ◌<◌, Option, Some, None, List, [], ◌∷◌, ◌++◌, subst, sym, ap, ◌∙◌, arith, inl, inr}
 use Rattle.std.specs.Prelude.{MatchOption}
 use Rattle.std.proofs.lemmas.List.Elements.{All-head}
 use Rattle.std.proofs.lemmas.Fmt.{decimal_injective}
@@ -14,7 +14,7 @@ use Rattle.std.specs.Net.Socket.{v4_ip, v4_port, v6_ip, v6_port}
 use Rattle.std.specs.Net.Grammar.{IsIpv4Text, IsIpv6Text, IsIpText}
 use Rattle.net_addresses.specs.Readings.{Reads, Lacks}
 use Rattle.net_addresses.specs.Addresses.{IsNumber, IsPortBehind, IsSocketV4, IsSocketV6Behind, IsSocket, NetworkText, IsNetwork, IsNetworkOf, family_bits}
-use Rattle.std.proofs.lemmas.List.Elements.{All-nil, All-cons, All-append}
+use Rattle.std.proofs.lemmas.List.Elements.{All-cons, All-append}
 use Rattle.net_addresses.proofs.Alphabets.{Lacks-decimal, Lacks-dotted, Lacks-colon_hex, Lacks-ip, slash_is_foreign, bracket_is_foreign}
 use Rattle.net_addresses.proofs.Splits.{Lacks-split, same_split}
 

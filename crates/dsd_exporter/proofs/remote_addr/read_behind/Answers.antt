@@ -1,4 +1,4 @@
-use Rattle.std.proofs.Common.{◌≡◌, ℕ, List, codes, false, rules}
+use Rattle.std.proofs.Common.{false, rules}
 use Rattle.std.specs.Prelude.{IsTrue}
 use Rattle.dsd_exporter.specs.Remotes.{no_scheme_text}
 use Rattle.dsd_exporter.proofs.Schemes.{refusal_behind}

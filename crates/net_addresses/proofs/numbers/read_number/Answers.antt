@@ -1,4 +1,4 @@
-use Rattle.std.proofs.Common.{◌≡◌, ◌≢◌, ℕ, ◌+◌, ◌^◌, ◌<◌, ◌≤◌, List, length, get_or, decimal, subst, sym, ◌∙◌, arith, rules, true, false}
+use Rattle.std.proofs.Common.{◌≡◌, ◌≢◌, ℕ, List, length, get_or, subst, sym, ◌∙◌, arith, rules, true, false}
 use Rattle.std.specs.Prelude.{IsTrue}
 use Rattle.std.proofs.lemmas.Fmt.{decimal_injective}
 use Rattle.net_addresses.proofs.Numerals.{parsed, decimal_begins}

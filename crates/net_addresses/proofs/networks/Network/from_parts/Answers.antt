@@ -1,4 +1,4 @@
-use Rattle.std.proofs.Common.{◌≡◌, ◌∙◌}
+use Rattle.std.proofs.Common.{◌≡◌}
 use Rattle.net_addresses.specs.Addresses.{family_bits}
 use Rattle.net_addresses.proofs.Texts.{no_length}
 use Rattle.net_addresses.proofs.networks.Network.from_parts.Goals as goal
