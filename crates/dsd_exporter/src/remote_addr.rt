@@ -99,8 +99,8 @@ fn read_behind(alloc: Global, scheme: &str, rest: &str) -> Result<RemoteAddr, Bu
 }
 
 impl RemoteAddr {
-    /// The address that a text writes: `unix://PATH`, `unixgram://PATH`, `udp://SOCKET` or a numeric socket alone. It is
-    /// refused with a reason exactly where it writes none, and never for want of memory where it writes a UDP socket.
+    /// The address that a text writes: `unix://PATH`, `unixgram://PATH`, `udp://SOCKET` or a numeric socket alone. Where it
+    /// writes none it is refused with the reason, or for want of memory for the reason. A UDP socket takes no memory.
     pub fn from_text(alloc: Global, addr: &str) -> Result<RemoteAddr, BuildError>
         ensures read { IfOk result (λ remote. IsRemote addr.now (remote_text remote)) }
         ensures refused { IfErr result (IsRefusal addr.now) }
