@@ -1,6 +1,6 @@
 //! What stands for a list of labels.
 
-ghost use Rattle.std.specs.Prelude.{◌≡◌, IfOk, map};
+ghost use Rattle.std.specs.Prelude.{◌≡◌, IfOk, OnErr, map};
 ghost use Rattle.std.specs.Slice.Iter.{iter_rest};
 ghost use Rattle.metrics_core.specs.Pairs.{label_of_pair};
 
@@ -12,19 +12,25 @@ use std::slice;
 
 /// A value that stands for a list of labels.
 pub trait IntoLabels {
-    ghost use Rattle.std.specs.Prelude.{List};
+    ghost use Rattle.std.specs.Prelude.{⊤, List};
     ghost use Rattle.metrics_core.specs.Keys.{LabelText};
 
     /// The labels that the value stands for, in their order.
     ghost labels: { Self → List LabelText };
 
+    /// The call takes memory, and may be refused it.
+    ghost may_refuse: { Self → Type 0 } = { λ _. ⊤ };
+
     /// Those labels.
     fn into_labels(self, alloc: Global) -> Result<Vec<Label>, Memory>
-        ensures { IfOk result (λ list. list.items ≡ labels self) };
+        ensures labels { IfOk result (λ list. list.items ≡ labels self) }
+        ensures refused { OnErr result (may_refuse self) };
 }
 
 impl IntoLabels for Vec<Label> {
     ghost labels = { λ list. list.items };
+
+    ghost may_refuse = { λ _. ⊥ };
 
     fn into_labels(self, _alloc: Global) -> Result<Vec<Label>, Memory> {
         Ok(self)

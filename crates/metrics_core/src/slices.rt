@@ -1,6 +1,6 @@
 //! Lists that are owned, borrowed or shared.
 
-ghost use Rattle.std.specs.Prelude.{◌≡◌, [], IfOk};
+ghost use Rattle.std.specs.Prelude.{◌≡◌, ◌⊎◌, [], IfOk, IsOk};
 ghost use Rattle.std.specs.Arc.{arc_value};
 ghost use Rattle.std.specs.Cow.{cow_slice_items};
 ghost use Rattle.std.specs.Hash as fed;
@@ -100,6 +100,7 @@ impl<'a, T: Clone + Drop> CowSlice<'a, T> {
     pub fn clone(&self, alloc: Global) -> Result<CowSlice<'a, T>, Memory>
         ensures items { IfOk result (λ copy. ClonesAreEqual T.is_clone → cow_items copy ≡ cow_items self.now) }
         ensures kind { IfOk result (λ copy. holding_of_items copy ≡ holding_of_items self.now) }
+        ensures no_memory { holding_of_items self.now ≡ Lent → IsOk result }
     {
         match self {
             CowSlice::Owned(items) => Ok(CowSlice::Owned(Vec::from_clones(
@@ -115,6 +116,7 @@ impl<'a, T: Clone + Drop> CowSlice<'a, T> {
     pub fn to_retained(&self, alloc: Global) -> Result<CowSlice<'a, T>, Memory>
         ensures items { IfOk result (λ copy. ClonesAreEqual T.is_clone → cow_items copy ≡ cow_items self.now) }
         ensures kind { IfOk result (λ copy. holding_of_items copy ≡ retained (holding_of_items self.now)) }
+        ensures no_memory { holding_of_items self.now ≡ Lent → IsOk result }
     {
         match self {
             CowSlice::Owned(items) => {
@@ -129,6 +131,7 @@ impl<'a, T: Clone + Drop> CowSlice<'a, T> {
     /// The items, owned. Those with one owner are handed out as they are.
     pub fn into_owned(self, alloc: Global) -> Result<Vec<T>, Memory>
         ensures items { IfOk result (λ items. ClonesAreEqual T.is_clone → items.items ≡ cow_items self.entry) }
+        ensures no_memory { holding_of_items self.entry ≡ Alone → IsOk result }
     {
         match self {
             CowSlice::Owned(items) => Ok(items),
@@ -144,6 +147,7 @@ impl<'a, T: Clone + Drop> CowSlice<'a, T> {
     pub fn to_std(self, alloc: Global) -> Result<borrow::CowSlice<'a, T>, Memory>
         ensures items { IfOk result (λ items. ClonesAreEqual T.is_clone → cow_slice_items items ≡ cow_items self.entry) }
         ensures kind { IfOk result (λ items. std_holding_of_items items ≡ handed_over (holding_of_items self.entry)) }
+        ensures no_memory { (holding_of_items self.entry ≡ Lent) ⊎ (holding_of_items self.entry ≡ Alone) → IsOk result }
     {
         match self {
             CowSlice::Borrowed(items) => Ok(borrow::CowSlice::Borrowed(items)),

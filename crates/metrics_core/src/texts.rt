@@ -1,6 +1,6 @@
 //! Texts that are owned, borrowed or shared.
 
-ghost use Rattle.std.specs.Prelude.{◌≡◌, [], string_bytes, bytes_eq, IfOk, Some, refl};
+ghost use Rattle.std.specs.Prelude.{◌≡◌, ◌⊎◌, [], string_bytes, bytes_eq, IfOk, IsOk, Some, refl};
 ghost use Rattle.std.specs.Arc.{arc_value};
 ghost use Rattle.std.specs.Cow.{cow_str_bytes};
 ghost use Rattle.std.specs.Ordering.{nat_cmp};
@@ -100,6 +100,7 @@ impl<'a> CowStr<'a> {
     pub fn clone(&self, alloc: Global) -> Result<CowStr<'a>, Memory>
         ensures text { IfOk result (λ copy. cow_text copy ≡ cow_text self.now) }
         ensures kind { IfOk result (λ copy. holding_of copy ≡ holding_of self.now) }
+        ensures no_memory { holding_of self.now ≡ Lent → IsOk result }
     {
         match self {
             CowStr::Owned(text) => Ok(CowStr::Owned(String::from_str(alloc, text.as_str())?)),
@@ -112,6 +113,7 @@ impl<'a> CowStr<'a> {
     pub fn to_retained(&self, alloc: Global) -> Result<CowStr<'a>, Memory>
         ensures text { IfOk result (λ copy. cow_text copy ≡ cow_text self.now) }
         ensures kind { IfOk result (λ copy. holding_of copy ≡ retained (holding_of self.now)) }
+        ensures no_memory { holding_of self.now ≡ Lent → IsOk result }
     {
         match self {
             CowStr::Owned(text) => {
@@ -126,6 +128,7 @@ impl<'a> CowStr<'a> {
     /// The text, owned. A text with one owner is handed out as it is.
     pub fn into_owned(self, alloc: Global) -> Result<String, Memory>
         ensures text { IfOk result (λ text. string_bytes text ≡ cow_text self.entry) }
+        ensures no_memory { holding_of self.entry ≡ Alone → IsOk result }
     {
         match self {
             CowStr::Owned(text) => Ok(text),
@@ -141,6 +144,7 @@ impl<'a> CowStr<'a> {
     pub fn to_std(self, alloc: Global) -> Result<borrow::CowStr<'a>, Memory>
         ensures text { IfOk result (λ text. cow_str_bytes text ≡ cow_text self.entry) }
         ensures kind { IfOk result (λ text. std_holding_of text ≡ handed_over (holding_of self.entry)) }
+        ensures no_memory { (holding_of self.entry ≡ Lent) ⊎ (holding_of self.entry ≡ Alone) → IsOk result }
     {
         match self {
             CowStr::Borrowed(text) => Ok(borrow::CowStr::Borrowed(text)),

@@ -1,17 +1,23 @@
--- What a guard of a scope shows, and which recorder is the current one.
-use Rattle.std.specs.Prelude.{◌≡◌, Option, Some, None, option_copied}
-use Rattle.std.specs.Borrow.{MutBor}
+-- What a guard of a scope shows, what a scope is after its guard's end, and which recorder is the current one.
+use Rattle.std.specs.Prelude.{◌≡◌, ⊤, [], Option, Some, None}
+use Rattle.std.specs.Borrow.{MutBor, follows_so, Fml, RattleType}
 use Rattle.metrics_facade.specs.declared.scope.LocalRecorderGuard.{LocalRecorderGuard}
 use Rattle.metrics_facade.specs.declared.scope.Current.{Current}
 use Rattle.metrics_facade.specs.declared.scope.Current.TheVariants.{Local, Global, Noop}
+use Rattle.metrics_facade.specs.contracts.scope.RecorderScope as scope_rows
+use mathlib.Core.Option.{none}
+use mir.Syntax.{named}
 
--- the scope that the guard holds
-abbrev pub held_scope : {R : Type 0} → LocalRecorderGuard R → MutBor (Option R)
-held_scope guard = guard.scope
+-- the recorder that counts while the guard lives
+abbrev pub guarding_recorder : {R : Type 0} → LocalRecorderGuard R → R
+guarding_recorder guard = guard.recorder.now
 
--- the recorder that the guard's end sets again
-abbrev pub former_recorder : {R : Type 0} → LocalRecorderGuard R → Option R
-former_recorder guard = option_copied guard.former
+-- once the borrow of the scope has ended, it has the local recorder that it had before. `named 1` is the place of the
+-- recorder's lifetime in the signature.
+abbrev pub IsRestored : (R : RattleType) → MutBor (Option R.Denot) → Fml
+IsRestored R scope =
+    let row = scope_rows.the_row (record { mir = named 1; lft = [] }) R in
+    follows_so row row scope.ghost_name none (λ _ _. ⊤) (λ last. last ≡ scope.now)
 
 -- the current recorder: the local one, otherwise the global one, otherwise none
 abbrev pub IsCurrent : {R : Type 0} → Option R → Option R → Current R → Type 0

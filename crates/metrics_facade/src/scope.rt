@@ -45,49 +45,40 @@ impl<'a, R> RecorderScope<'a, R> {
     }
 }
 
-/// A scope with a local recorder set. Its end sets the former one again.
-pub struct LocalRecorderGuard<'s, 'a, R> {
-    scope: &'s mut RecorderScope<'a, R>,
-    former: Option<&'a R>,
+/// A local recorder that counts in place of a scope's own. As long as it lives it borrows that scope, which shows its
+/// former recorder again once the guard has ended.
+#[derive(Drop)]
+pub struct LocalRecorderGuard<'s, R> {
+    recorder: &'s R,
 }
 
-impl<'s, 'a, R> LocalRecorderGuard<'s, 'a, R> {
-    ghost use Rattle.metrics_facade.specs.Scopes.{held_scope};
+impl<'s, R> LocalRecorderGuard<'s, R> {
+    ghost use Rattle.metrics_facade.specs.Scopes.{guarding_recorder};
 
-    /// The scope, with the local recorder set, for guards and calls within. What is left in it does not matter to the
-    /// guard's end.
-    pub fn scope(&mut self) -> &mut RecorderScope<'a, R>
-        ensures { result.now ≡ (held_scope self.old).now }
+    /// A scope with the guard's recorder, for guards and calls within. What becomes of it does not matter to the guard.
+    pub fn scope(&self) -> RecorderScope<'_, R>
+        ensures { result ≡ Some (guarding_recorder self.now) }
     {
-        &mut *self.scope
+        RecorderScope {
+            current: Some(self.recorder),
+        }
     }
 }
 
-impl<'s, 'a, R> Drop for LocalRecorderGuard<'s, 'a, R> {
-    ghost use Rattle.metrics_facade.specs.Scopes.{former_recorder};
+ghost use Rattle.std.specs.Borrow.{sem};
+ghost use Rattle.metrics_facade.specs.Scopes.{guarding_recorder, IsRestored, IsCurrent};
 
-    fn drop(self)
-        ensures { self.exit.0.now ≡ former_recorder self.entry }
-    {
-        let LocalRecorderGuard { scope, former } = self;
-        scope.set(former);
-    }
-}
-
-ghost use Rattle.metrics_facade.specs.Scopes.{held_scope, former_recorder, IsCurrent};
-
-/// Sets the local recorder of a scope until the guard's end.
+/// Sets the local recorder of a scope until the guard's end. The scope is lent to the guard until then, and then has the
+/// recorder that it had at the call, whatever was done with the guard and its scope.
 pub fn set_default_local_recorder<'s, 'a, R>(
     scope: &'s mut RecorderScope<'a, R>,
     recorder: &'a R,
-) -> LocalRecorderGuard<'s, 'a, R>
-    ensures same_scope { (held_scope result).ghost_name ≡ scope.entry.ghost_name }
-    ensures current { (held_scope result).now ≡ Some recorder.now }
-    ensures former { former_recorder result ≡ scope.old }
+) -> LocalRecorderGuard<'s, R>
+    ensures* restored { sem 𝓛 (IsRestored R.row scope.entry) }
+    ensures current { guarding_recorder result ≡ recorder.now }
 {
-    let former = scope.current();
-    scope.set(Some(recorder));
-    LocalRecorderGuard { scope, former }
+    let _ = scope;
+    LocalRecorderGuard { recorder }
 }
 
 /// Calls a function with the scope whose local recorder is this one, and sets the former one again.

@@ -1,6 +1,6 @@
 //! Worked examples of handles, recorders and scopes.
 
-ghost use Rattle.std.specs.Prelude.{◌≡◌, ⊤};
+ghost use Rattle.std.specs.Prelude.{◌≡◌, ⊤, Some};
 ghost use Rattle.metrics_core.specs.Calls.{counter_step};
 
 use crate::*;
@@ -63,8 +63,79 @@ fn values_out_of_range_are_refused(rt: HostRuntime) {
 }
 
 /// A recorder that carries a number and hands out handles that do nothing.
-#[derive(Drop)]
+#[derive(Clone, Copy)]
 struct Numbered(u64);
+
+impl Recorder for Numbered {
+    type Counter = Counter<NoopCell>;
+
+    type Gauge = Gauge<NoopCell>;
+
+    type Histogram = Histogram<NoopCell>;
+
+    fn describe_counter<R: Wait>(
+        &self,
+        rt: &R,
+        alloc: Global,
+        key: KeyName,
+        unit: Option<Unit>,
+        description: SharedString,
+    ) -> Result<(), Memory> {
+        NoopRecorder.describe_counter(rt, alloc, key, unit, description)
+    }
+
+    fn describe_gauge<R: Wait>(
+        &self,
+        rt: &R,
+        alloc: Global,
+        key: KeyName,
+        unit: Option<Unit>,
+        description: SharedString,
+    ) -> Result<(), Memory> {
+        NoopRecorder.describe_gauge(rt, alloc, key, unit, description)
+    }
+
+    fn describe_histogram<R: Wait>(
+        &self,
+        rt: &R,
+        alloc: Global,
+        key: KeyName,
+        unit: Option<Unit>,
+        description: SharedString,
+    ) -> Result<(), Memory> {
+        NoopRecorder.describe_histogram(rt, alloc, key, unit, description)
+    }
+
+    fn register_counter<R: Wait>(
+        &self,
+        rt: &R,
+        alloc: Global,
+        key: &Key,
+        metadata: &Metadata<'_>,
+    ) -> Result<Counter<NoopCell>, Memory> {
+        NoopRecorder.register_counter(rt, alloc, key, metadata)
+    }
+
+    fn register_gauge<R: Wait>(
+        &self,
+        rt: &R,
+        alloc: Global,
+        key: &Key,
+        metadata: &Metadata<'_>,
+    ) -> Result<Gauge<NoopCell>, Memory> {
+        NoopRecorder.register_gauge(rt, alloc, key, metadata)
+    }
+
+    fn register_histogram<R: Wait>(
+        &self,
+        rt: &R,
+        alloc: Global,
+        key: &Key,
+        metadata: &Metadata<'_>,
+    ) -> Result<Histogram<NoopCell>, Memory> {
+        NoopRecorder.register_histogram(rt, alloc, key, metadata)
+    }
+}
 
 fn register<R: Wait, T: Recorder>(
     rt: &R,
@@ -116,24 +187,50 @@ fn local(scope: &RecorderScope<'_, Numbered>) -> u64 {
     scope.current().map_or(0, |recorder| recorder.0)
 }
 
+/// The recorders that count within two guards, one in the other, and in the outer one after the end of the inner.
+fn in_guards<'a, R: Copy>(
+    scope: &mut RecorderScope<'a, R>,
+    outer_recorder: &'a R,
+    inner_recorder: &'a R,
+) -> (Option<R>, Option<R>)
+    ensures restored { scope.new ≡ scope.old }
+    ensures inner { result.0 ≡ Some inner_recorder.now }
+    ensures outer { result.1 ≡ Some outer_recorder.now }
+{
+    let outer = set_default_local_recorder(scope, outer_recorder);
+    let mut within = outer.scope();
+    let inner = set_default_local_recorder(&mut within, inner_recorder);
+    let innermost = inner.scope().current().copied();
+    drop(inner);
+    (innermost, within.current().copied())
+}
+
+/// The number that counts in a call within a guard, and the one that counts in the guard after the call.
+fn called_in_guard<'a>(
+    scope: &mut RecorderScope<'a, Numbered>,
+    guarding: &'a Numbered,
+    called: &'a Numbered,
+) -> (u64, u64) {
+    let guard = set_default_local_recorder(scope, guarding);
+    let mut within = guard.scope();
+    let number = with_local_recorder(&mut within, called, |innermost| local(innermost));
+    (number, local(&within))
+}
+
 #[test]
-fn the_innermost_recorder_counts(rt: HostRuntime) {
-    let (root, next, last) = (Numbered(1), Numbered(2), Numbered(3));
+fn the_innermost_recorder_counts(rt: HostRuntime) -> Result<(), Fail> {
+    let first = Numbered(1);
+    let second = Numbered(2);
     let mut scope = RecorderScope::new();
-    let mut outer = set_default_local_recorder(&mut scope, &root);
-    assert_eq!(rt; local(outer.scope()), 1);
-    {
-        let mut inner = set_default_local_recorder(outer.scope(), &next);
-        assert_eq!(rt; local(inner.scope()), 2);
-        assert_eq!(rt;
-            with_local_recorder(inner.scope(), &last, |within| local(within)),
-            3
-        );
-        assert_eq!(rt; local(inner.scope()), 2);
-    }
-    assert_eq!(rt; local(outer.scope()), 1);
-    drop(outer);
+    let (inner, outer) = in_guards(&mut scope, &first, &second);
+    assert_eq!(rt; inner.ok_or("none")?.0, 2);
+    let outer = outer.ok_or("none")?;
+    assert_eq!(rt; outer.0, 1);
     assert_eq!(rt; local(&scope), 0);
+    assert_eq!(rt; called_in_guard(&mut scope, &first, &second), (2, 1));
+    assert_eq!(rt; local(&scope), 0);
+    register(&rt, rt.alloc(), &outer)?.increment(&mut (), 1);
+    Ok(())
 }
 
 fn crosses_threads<T: Send + Sync>() {}

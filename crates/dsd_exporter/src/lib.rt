@@ -1,0 +1,12 @@
+//! The DogStatsD exporter: where its lines are sent, and what settings it refuses.
+#![tactic(auto)]
+
+mod faults;
+mod limits;
+mod remote_addr;
+#[cfg(test)]
+mod tests;
+
+pub use faults::{BuildError, LimitFault};
+pub use limits::limit_fault;
+pub use remote_addr::{RemoteAddr, remote_texts_have_one_reading};

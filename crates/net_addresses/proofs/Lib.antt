@@ -1,0 +1,4 @@
+pub mod Alphabets
+pub mod Splits
+pub mod Numerals
+pub mod Texts

@@ -1,0 +1,10 @@
+//! Answers to those who fetch the page over HTTP.
+#![tactic(auto)]
+
+mod answers;
+mod heads;
+mod paths;
+#[cfg(test)]
+mod tests;
+
+pub use answers::{answers_are_determined, respond};
