@@ -11,7 +11,8 @@ use Rattle.legal_history.proofs.Lists.{calls-append}
 use Rattle.legal_history.specs.Object.{Runs, Keeps, Made, Told}
 
 module _ {S C : Type 0} (Step : C → S → S → Type 0) (start : S) where
-  runs_more : (x y z : S) (cs : List C) (c : C) → Runs Step x cs y → Step c y z → Runs Step x (cs ++ c ∷ []) z
+  -- one more call
+  pub runs_more : (x y z : S) (cs : List C) (c : C) → Runs Step x cs y → Step c y z → Runs Step x (cs ++ c ∷ []) z
   runs_more x y z [] c e s = (z, subst (λ (w : S). Step c w z) (sym e) s, refl)
   runs_more x y z (d ∷ cs) c r s = (r.0, r.1, runs_more r.0 y z cs c r.2 s)
 
