@@ -2,7 +2,7 @@
 use Rattle.std.proofs.Common.{◌≡◌, ◌≢◌, ℕ, zero, suc, ◌+◌, ◌<◌, ◌≤◌, ◌==◌, ◌⊎◌, Bool, true, false, List, [], ◌∷◌, ◌++◌, length, take, set, refl, sym, ap, ◌∙◌, subst, inl, inr, ⊎_elim, arith, eq-eqb, ne_eqb, append_assoc}
 use Rattle.std.proofs.Math.ListN.{length-set}
 use Rattle.std.proofs.lemmas.List.{append-nil}
-use mathlib.Core.Option.{some}
+use mathlib.Core.Option.{some, some-ne-none, some-injective}
 use lib.ListN.{get_elem?}
 use Rattle.atomic_table.proofs.Lists.{at_set}
 use Rattle.legal_history.specs.declared.history.View.{View}
@@ -15,7 +15,7 @@ use Rattle.cell_lanes.specs.declared.lane.Lane.{Lane}
 use Rattle.cell_lanes.specs.declared.lane.Slot.{Slot}
 use Rattle.cell_lanes.specs.declared.lane.Job.{Job}
 use Rattle.cell_lanes.specs.Calls.{Made, StandAs}
-use Rattle.cell_lanes.specs.Lanes.{Owns, SlotsFit, lent_on, slot_calls, cells_of, SlotsKept, Fresh, SlotsMade, LineFit, LaneReady, LaneRan, JobRan, JobsFit, JobsFresh, JobsRan, Fit}
+use Rattle.cell_lanes.specs.Lanes.{Owns, SlotsFit, lent_on, slot_calls, cells_of, SlotsKept, Fresh, SlotsMade, Each, Lends, Stays, AllTaken, LineFit, LaneReady, LaneRan, JobRan, JobsFit, JobsFresh, JobsRan, Fit}
 use Rattle.cell_lanes.proofs.Lists.{below_some}
 
 pub take_none : {A : Type 0} (xs : List A) → take 0 xs ≡ []
@@ -125,9 +125,25 @@ module _ {L : Type 0} where
       let f = fit s x.0 x.1 in
       (subst (λ n. n < length cs) (sym k.0) f.0, λ c at. k.1 (fixed c) (f.1 c (subst (λ n. get_elem? cs n ≡ some c) k.0 at)))
 
+cell_here : {L : Type 0} (xs : List (Slot L)) (s : ℕ) (y : Slot L) → get_elem? xs s ≡ some y → get_elem? (cells_of xs) s ≡ some y.cell
+cell_here [] s y e = absurd (some-ne-none y (sym e))
+cell_here (x ∷ xs) zero y e = ap (λ (z : Slot _). some z.cell) (some-injective x y e)
+cell_here (x ∷ xs) (suc s) y e = cell_here xs s y e
+
 -- a lane that has a pass for each cell that it names is ready
-pub ready : {L M K : Type 0} (knows : L → View M) (count : ℕ) (a : Lane K) (x : Job L) → Fit count a → Fresh knows x.slots.items → cells_of x.slots.items ≡ a.cells.items → LaneReady knows a x
-ready knows count a x fit fresh full = (fresh, λ k y e. let b = fit.lines k y e in let n = ap length full in omega (arith, cells_length x.slots.items))
+pub ready : {S F L M K : Type 0} (root : S → View M) (fixed : S → F) (knows : L → View M) (owns : F → L → Type 0) (takes : F → K → Type 0) (n : ℕ → ℕ) (cs ds : List S) (ls : List (Lane K)) (l : ℕ) (a : Lane K) (x : Job L)
+    → get_elem? ls l ≡ some a → length ds ≡ length cs → Each (λ j. Lends root (Stays fixed) (n j)) cs ds → Fit (length cs) a → AllTaken fixed takes cs ls → Fresh knows x.slots.items → cells_of x.slots.items ≡ a.cells.items → SlotsFit (Owns fixed owns) ds x.slots.items
+    → LaneReady knows owns takes a x
+ready {S} root fixed knows owns takes n cs ds ls l a x at len lends fit taken fresh full slots = (
+  fresh,
+  (λ k y e. let b = fit.lines k y e in let m = ap length full in omega (arith, cells_length x.slots.items)),
+  (λ k line y e f.
+      let g = slots line.slot y f in
+      let d = below_some ds y.cell g.0 in
+      let c = below_some cs y.cell (let b = g.0 in omega arith) in
+      let same : fixed d.0 ≡ fixed c.0 = (lends y.cell c.0 d.0 c.1 d.1).kept in
+      (fixed c.0, subst (λ h. owns h y.lent) same (g.1 d.0 d.1), taken l a k line y.cell c.0 at e (subst (λ ns. get_elem? ns line.slot ≡ some y.cell) full (cell_here x.slots.items line.slot y f)) c.1)),
+)
 
 -- the jobs of lanes that have all run
 module _ {S L M K : Type 0} (knows : L → View M) (stands : K → List M → Type 0) (owns : S → L → Type 0) (ls : List (Lane K)) (xs ys : List (Job L)) (len : length ys ≡ length xs) (many : length xs ≡ length ls)

@@ -116,6 +116,15 @@ JobsFit {L = L} owns cs jobs = (l : ℕ) (x : Job L) → get_elem? jobs l ≡ so
 abbrev pub SlotsKept : {S L : Type 0} → (S → L → Type 0) → List (Slot L) → List (Slot L) → Type 0
 SlotsKept {S} {L} owns xs ys = (length ys ≡ length xs) × ((s : ℕ) (x y : Slot L) → get_elem? xs s ≡ some x → get_elem? ys s ≡ some y → (y.cell ≡ x.cell) × ((c : S) → owns c x.lent → owns c y.lent))
 
+-- what each line has a pass of takes its call
+abbrev pub LinesTaken : {F L K : Type 0} → (F → L → Type 0) → (F → K → Type 0) → List (Slot L) → List (Line K) → Type 0
+LinesTaken {F} {L} {K} owns takes slots lines = (k : ℕ) (x : Line K) (y : Slot L) → get_elem? lines k ≡ some x → get_elem? slots x.slot ≡ some y → (f : F) × owns f y.lent × takes f x.call
+
+-- each lane's calls are on things that take them
+abbrev pub AllTaken : {S F K : Type 0} → (S → F) → (F → K → Type 0) → List S → List (Lane K) → Type 0
+AllTaken {S} {F} {K} fixed takes cs lanes = (l : ℕ) (a : Lane K) (k : ℕ) (x : Line K) (j : ℕ) (c : S)
+    → get_elem? lanes l ≡ some a → get_elem? a.lines.items k ≡ some x → get_elem? a.cells.items x.slot ≡ some j → get_elem? cs j ≡ some c → takes (fixed c) x.call
+
 -- how many passes of cell j are out with these jobs
 abbrev pub lent_on : {L : Type 0} → ℕ → List (Job L) → ℕ
 lent_on j [] = 0
@@ -167,6 +176,6 @@ module _ {L M : Type 0} (knows : L → View M) where
     abbrev pub LaneRan : {S : Type 0} → (S → L → Type 0) → Lane K → Job L → Job L → Type 0
     LaneRan owns lane before after = SlotsKept owns before.slots.items after.slots.items × SlotsMade (take after.done lane.lines.items) after.slots.items × (after.done ≤ length lane.lines.items)
 
-  -- a lane has fresh passes, one for each of its lines
-  abbrev pub LaneReady : {K : Type 0} → Lane K → Job L → Type 0
-  LaneReady lane job = Fresh job.slots.items × LineFit (length job.slots.items) lane.lines.items
+  -- a lane has fresh passes, one for each of its lines, of things that take the calls
+  abbrev pub LaneReady : {F K : Type 0} → (F → L → Type 0) → (F → K → Type 0) → Lane K → Job L → Type 0
+  LaneReady owns takes lane job = Fresh job.slots.items × LineFit (length job.slots.items) lane.lines.items × LinesTaken owns takes job.slots.items lane.lines.items

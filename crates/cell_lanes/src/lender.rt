@@ -35,6 +35,9 @@ pub trait Lender: Send {
     /// The pass was lent by one of which this is fixed.
     ghost owns: { Self.Fixed → Self.Lent → Type 0 };
 
+    /// One of which this is fixed takes this call.
+    ghost takes: { Self.Fixed → Self.Call → Type 0 };
+
     /// What a lane asks for may stand in the history as these calls: mostly one, none where the call changes nothing.
     ghost stands_as: { Self.Call → List Self.Entry → Type 0 };
 
@@ -53,6 +56,7 @@ pub trait Lender: Send {
         lent: &mut Self::Lent,
         call: &Self::Call,
     ) -> Result<(), Memory>
+        requires { (by : Self.Fixed) × owns by lent.old × takes by call.now }
         ensures made { OnOk result (Made (stands_as call.now) (knows lent.old) (knows lent.new)) }
         ensures refused { OnErr result (knows lent.new ≡ knows lent.old) }
         ensures kept { (by : Self.Fixed) → owns by lent.old → owns by lent.new };

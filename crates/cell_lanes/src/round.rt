@@ -6,7 +6,7 @@ ghost use Rattle.legal_history.specs.Order.{times};
 ghost use Rattle.cell_lanes.specs.declared.lane.Line.{Line};
 ghost use Rattle.cell_lanes.specs.declared.lane.Lane.{Lane};
 ghost use Rattle.cell_lanes.specs.declared.lane.Job.{Job};
-ghost use Rattle.cell_lanes.specs.Lanes.{Each, Roots, Stays, Owns, Home, AtRest, Lends, Takes, Same, Grew, AllFit, AllDone, SlotsFit, SlotsKept, Fresh, SlotsMade, LineFit, LaneReady, LaneRan, cells_of, given, JobsFit, JobsFresh, JobsRan, lent_on, all_given, done_of};
+ghost use Rattle.cell_lanes.specs.Lanes.{Each, Roots, Stays, Owns, Home, AtRest, Lends, Takes, Same, Grew, AllFit, AllDone, SlotsFit, SlotsKept, Fresh, SlotsMade, LineFit, LinesTaken, AllTaken, LaneReady, LaneRan, cells_of, given, JobsFit, JobsFresh, JobsRan, lent_on, all_given, done_of};
 
 use crate::hook::LaneHook;
 use crate::lane::{Job, Lane, Line, Slot};
@@ -82,6 +82,7 @@ fn run_slots<R: Wait, H: LaneHook, S: Lender>(
 ) -> usize
     requires fresh { Fresh S.knows slots.old }
     requires lines { LineFit (length slots.old) lines.now }
+    requires taken { LinesTaken S.owns S.takes slots.old lines.now }
     ensures kept { SlotsKept S.owns slots.old slots.new }
     ensures made { SlotsMade S.knows S.stands_as (take result lines.now) slots.new }
     ensures done { result ≤ length lines.now }
@@ -112,6 +113,7 @@ fn run_job<R: Wait, H: LaneHook, S: Lender>(
 )
     requires fresh { Fresh S.knows job.old.slots.items }
     requires lines { LineFit (length job.old.slots.items) lines.now }
+    requires taken { LinesTaken S.owns S.takes job.old.slots.items lines.now }
     ensures kept { SlotsKept S.owns job.old.slots.items job.new.slots.items }
     ensures made { SlotsMade S.knows S.stands_as (take job.new.done lines.now) job.new.slots.items }
     ensures done { job.new.done ≤ length lines.now }
@@ -128,7 +130,7 @@ fn run_all<R: Threads + Wait + Sync, H: LaneHook + Sync, S: Lender>(
     lanes: &[Lane<S::Call>],
 )
     requires len { length jobs.old ≡ length lanes.now }
-    requires ready { (l : ℕ) (a : Lane S.Call) (x : Job S.Lent) → get_elem? lanes.now l ≡ some a → get_elem? jobs.old l ≡ some x → LaneReady S.knows a x }
+    requires ready { (l : ℕ) (a : Lane S.Call) (x : Job S.Lent) → get_elem? lanes.now l ≡ some a → get_elem? jobs.old l ≡ some x → LaneReady S.knows S.owns S.takes a x }
     ensures ran { (l : ℕ) (a : Lane S.Call) (x y : Job S.Lent) → get_elem? lanes.now l ≡ some a → get_elem? jobs.old l ≡ some x → get_elem? jobs.new l ≡ some y → LaneRan S.knows S.stands_as S.owns a x y }
 {
     thread::for_each_mut(
@@ -136,7 +138,7 @@ fn run_all<R: Threads + Wait + Sync, H: LaneHook + Sync, S: Lender>(
         jobs,
         MAX_LANES,
         &|l: usize, job: &mut Job<S::Lent>|
-            requires { (l < length lanes.now) × ((a : Lane S.Call) → get_elem? lanes.now l ≡ some a → LaneReady S.knows a job.now) }
+            requires { (l < length lanes.now) × ((a : Lane S.Call) → get_elem? lanes.now l ≡ some a → LaneReady S.knows S.owns S.takes a job.now) }
             ensures { (a : Lane S.Call) → get_elem? lanes.entry.now l ≡ some a → LaneRan S.knows S.stands_as S.owns a job.entry.now job.exit.now }
         { run_job::<R, H, S>(rt, alloc, hook, l, job, lanes[l].lines.as_slice()) },
     );
@@ -166,6 +168,7 @@ fn lend_and_run<R: Threads + Wait + Sync, H: LaneHook + Sync, S: Lender>(
 ) -> Result<(), Memory>
     requires roots { Roots S.root shared.old }
     requires fit { AllFit (length shared.old) lanes.now }
+    requires taken { AllTaken S.fixed S.takes shared.old lanes.now }
     requires room { (jobs.old.items ≡ []) × (vec_len jobs.old ≡ 0) × (length lanes.now ≤ vec_capacity jobs.old) }
     ensures lends { Each (λ j. Lends S.root (Stays S.fixed) (lent_on j jobs.new.items)) shared.old shared.new }
     ensures fit { JobsFit (Owns S.fixed S.owns) shared.new jobs.new.items }
@@ -232,6 +235,7 @@ pub fn run_lanes<R: Threads + Wait + Sync, H: LaneHook + Sync, S: Lender>(
 ) -> Result<(), Memory>
     requires roots { Roots S.root shared.old × AtRest S.root shared.old }
     requires fit { AllFit (length shared.old) lanes.now }
+    requires taken { AllTaken S.fixed S.takes shared.old lanes.now }
     ensures roots { Roots S.root shared.new × AtRest S.root shared.new }
     ensures stays { Each (λ j. Stays S.fixed) shared.old shared.new }
     ensures grew { (done : ℕ → ℕ) × OnOk result (AllDone lanes.now done) × Each (Grew S.root S.stands_as lanes.now done) shared.old shared.new }

@@ -12,7 +12,8 @@ returns-in-Err-clause-ran g c = jobs_fresh g.S.Lender.knows g.S.Lender.stands_as
 pub run_all-requires-clause-ready : goal.run_all-requires-clause-ready
 run_all-requires-clause-ready g c κs within = λ l a x e f.
     let at = subst (λ xs. get_elem? xs l ≡ some x) c.as_mut_slice.ensures.value f in
-    ready g.S.Lender.knows (length c.args.shared.now) a x (c.requires.fit l a e) (c.lend_all.ensures.fresh.0 l a x e at).1 (c.in-Ok.ensures.ok.1 l a x e at)
+    ready g.S.Lender.root g.S.Lender.fixed g.S.Lender.knows g.S.Lender.owns g.S.Lender.takes (λ j. lent_on j c.lend_all.new.jobs.items) c.args.shared.now c.lend_all.new.shared c.args.lanes.now l a x e c.lend_all.auto.shared c.lend_all.ensures.lends
+    (c.requires.fit l a e) c.requires.taken (c.lend_all.ensures.fresh.0 l a x e at).1 (c.in-Ok.ensures.ok.1 l a x e at) (c.lend_all.ensures.fit l x at)
 
 pub returns-clause-lends : goal.returns-clause-lends
 returns-clause-lends g c =

@@ -4,7 +4,7 @@ use Rattle.std.proofs.lemmas.List.{take_more}
 use Rattle.atomic_table.proofs.Lists.{at_index}
 use Rattle.cell_lanes.specs.declared.lane.Slot.{Slot}
 use Rattle.cell_lanes.specs.Lanes.{SlotsMade}
-use Rattle.cell_lanes.proofs.Lists.{at_or, take_whole}
+use Rattle.cell_lanes.proofs.Lists.{at_or, below_some, take_whole}
 use Rattle.cell_lanes.proofs.Running.{kept_set, made_more, made_same}
 use Rattle.cell_lanes.proofs.round.run_slots.Goals as goal
 
@@ -22,6 +22,17 @@ bounds-slots-index g c =
     let x = c.index-lines-call.result in
     let b : x.slot < length c.args.slots.now = c.requires.lines c.loop-call.call x (at_index c.args.lines.now c.loop-call.call x c.loop-call-test.true c.index-lines-call.is) in
     omega (arith, i.kept.0)
+
+pub make-outcome-requires : goal.make-outcome-requires
+make-outcome-requires g c =
+    let i = c.loop-call.invariant in
+    let x = c.index-lines-call.result in
+    let at_x = at_index c.args.lines.now c.loop-call.call x c.loop-call-test.true c.index-lines-call.is in
+    let b : x.slot < length c.args.slots.now = c.requires.lines c.loop-call.call x at_x in
+    let k : x.slot < length c.loop-call.slots = omega (arith, i.kept.0) in
+    let old = below_some c.args.slots.now x.slot b in
+    let t = c.requires.taken c.loop-call.call x old.0 at_x old.1 in
+    (t.0, (i.kept.1 x.slot old.0 (slice_index_or c.loop-call.slots x.slot c.index-slots-index.result) old.1 (at_or c.loop-call.slots x.slot c.index-slots-index.result k)).1 t.0 t.1, t.2)
 
 pub returns-in-Err-clause-kept : goal.returns-in-Err-clause-kept
 returns-in-Err-clause-kept g c =
