@@ -1,5 +1,5 @@
 -- Counters and gauges that a state keeps and lends.
-use Rattle.std.specs.Prelude.{◌≡◌, List, [], ◌∷◌, ⊤}
+use Rattle.std.specs.Prelude.{◌≡◌, ℕ, List, [], ◌∷◌, ◌++◌, map, ℤ, ⊤}
 use Rattle.std.specs.Arc.{arc_value}
 use Rattle.legal_history.specs.declared.history.View.{View}
 use Rattle.series_cells.specs.declared.calls.ValueCall.{ValueCall}
@@ -15,6 +15,10 @@ use Rattle.series_cells.specs.declared.gauge.PromGauge.{PromGauge}
 use Rattle.series_cells.specs.declared.gauge_series.GaugeSeries.{GaugeSeries}
 use Rattle.series_cells.specs.declared.lent_gauge.LentGauge.{LentGauge}
 use Rattle.series_cells.specs.declared.pass.CellPass.{CellPass}
+use Rattle.metrics_core.specs.Calls.{counter_value, gauge_value}
+use Rattle.legal_history.specs.History.{calls}
+use Rattle.legal_history.specs.Order.{taken, IsOrder}
+use Rattle.series_cells.specs.Values.{calls_of}
 use Rattle.series_cells.specs.Pass.{view_of}
 
 -- a counter: what its root pass knows, and the cell
@@ -72,3 +76,10 @@ StandsAsGauge call made = made ≡ gauge_entry call ∷ []
 
 abbrev pub AnyGaugeCall : PromGauge → GaugeCall → Type 0
 AnyGaugeCall cell call = ⊤
+
+-- the value after the calls that the root had seen and then, in one order, what the lanes asked for
+abbrev pub PlayedByCounter : (ℕ → List CounterCall) → View ValueCall → ℕ → Type 0
+PlayedByCounter asked v n = (order : List ℕ) × IsOrder order (λ l. map counter_entry (asked l)) × (n ≡ counter_value (calls_of (calls v.seen ++ taken order (λ l. map counter_entry (asked l)))))
+
+abbrev pub PlayedByGauge : (ℕ → List GaugeCall) → View ValueCall → ℤ → Type 0
+PlayedByGauge asked v z = (order : List ℕ) × IsOrder order (λ l. map gauge_entry (asked l)) × (z ≡ gauge_value (calls_of (calls v.seen ++ taken order (λ l. map gauge_entry (asked l)))))

@@ -15,6 +15,7 @@ mod gauge_series;
 mod lent_counter;
 mod lent_gauge;
 mod pass;
+mod rounds;
 mod rules;
 mod views;
 
@@ -26,3 +27,7 @@ pub use gauge_series::GaugeSeries;
 pub use lent_counter::LentCounter;
 pub use lent_gauge::LentGauge;
 pub use pass::CellPass;
+pub use rounds::{run_counters, run_gauges};
+
+#[cfg(test)]
+mod tests;
