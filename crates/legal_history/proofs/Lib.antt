@@ -1,0 +1,7 @@
+pub mod Fronts
+pub mod Lists
+pub mod Steps
+pub mod Orders
+pub mod Placed
+pub mod Rounds
+pub mod Objects

@@ -1,0 +1,5 @@
+pub mod History
+pub mod Places
+pub mod Order
+pub mod News
+pub mod Object

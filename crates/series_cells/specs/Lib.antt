@@ -1,0 +1,4 @@
+pub mod Values
+pub mod Cell
+pub mod Pass
+pub mod Series
