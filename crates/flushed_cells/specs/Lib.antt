@@ -1,0 +1,5 @@
+pub mod Seats
+pub mod Passes
+pub mod Counters
+pub mod Gauges
+pub mod Cells

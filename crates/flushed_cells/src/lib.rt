@@ -1,0 +1,12 @@
+//! Counters and gauges that threads share and that are flushed: the DogStatsD cells.
+#![tactic(auto)]
+
+pub mod counter;
+pub mod counter_calls;
+pub mod counter_state;
+pub mod gauge_state;
+pub mod pass;
+pub mod rule;
+
+pub use counter::DsdCounter;
+pub use pass::DsdPass;
