@@ -1,0 +1,2 @@
+pub mod CellSteps
+pub mod GaugeSteps

@@ -1,0 +1,9 @@
+use Rattle.std.proofs.Common.{arith}
+use Rattle.series_cells.specs.Values.{counter_step, itself}
+use Rattle.series_cells.proofs.CellSteps.{looks}
+use Rattle.series_cells.proofs.counter.PromCounter.load.Goals as goal
+
+pub load-requires : goal.load-requires
+load-requires c =
+    let p = c.args.pass.now in
+    (c.requires, omega (arith, c.args.self.now.two), looks counter_step 0 itself _ p.seat.id p.seat.me p.live)

@@ -1,0 +1,46 @@
+-- What contracts read of cells and their passes.
+use Rattle.std.specs.Prelude.{◌≡◌, ℕ, ◌%◌, ◌^◌, ◌≤◌, List, [], ◌∷◌, ℤ, length}
+use Rattle.metrics_core.specs.Calls.{Call, counter_value, gauge_value}
+use Rattle.legal_history.specs.declared.history.Entry.{Entry}
+use Rattle.legal_history.specs.declared.history.View.{View}
+use Rattle.legal_history.specs.History.{calls, after, looked, Sees}
+use Rattle.series_cells.specs.declared.calls.ValueCall.{ValueCall}
+use Rattle.series_cells.specs.declared.counter.PromCounter.{PromCounter}
+use Rattle.series_cells.specs.declared.gauge.PromGauge.{PromGauge}
+use Rattle.series_cells.specs.declared.pass.CellPass.{CellPass}
+use Rattle.series_cells.specs.Values.{call_of, calls_of}
+
+-- what a pass knows of the history
+abbrev pub view_of : CellPass → View ValueCall
+view_of p = p.seat.me.0.history
+
+-- how many calls it knows to be counted
+abbrev pub known_of : CellPass → ℕ
+known_of p = p.seat.me.0.known
+
+abbrev pub IsCounterPass : PromCounter → CellPass → Type 0
+IsCounterPass c p = p.seat.table_id ≡ c.table.shared.table_id
+
+abbrev pub IsGaugePass : PromGauge → CellPass → Type 0
+IsGaugePass g p = p.seat.table_id ≡ g.table.shared.table_id
+
+-- the call goes behind a history that begins with all that the pass had seen, and the pass has then seen that history and the call
+abbrev pub Calls : ValueCall → View ValueCall → View ValueCall → Type 0
+Calls c v w = (log : List (Entry ValueCall)) × Sees v log × (w ≡ after v log (c ∷ []))
+
+-- the value of a counter after a history that begins with all that the pass had seen; the pass has then seen it
+abbrev pub ReadsCounter : View ValueCall → ℕ → View ValueCall → Type 0
+ReadsCounter v n w = (log : List (Entry ValueCall)) × Sees v log × (n ≡ counter_value (calls_of (calls log))) × (w ≡ looked v log)
+
+-- the same of a gauge
+abbrev pub ReadsGauge : View ValueCall → ℤ → View ValueCall → Type 0
+ReadsGauge v z w = (log : List (Entry ValueCall)) × Sees v log × (z ≡ gauge_value (calls_of (calls log))) × (w ≡ looked v log)
+
+-- n is, modulo 2 ^ 64, the number of calls that were counted: at least all that the pass knew, and not more than the calls of a history that begins with all that it had seen. With no other pass out it is the number of all calls
+abbrev pub ReadsUpdates : View ValueCall → ℕ → ℕ → ℕ → Type 0
+ReadsUpdates v known n now =
+    (known ≤ now) × (n ≡ now % 2 ^ 64) × ((log : List (Entry ValueCall)) × Sees v log × (now ≤ length log)) × (v.number ≡ 0 → v.out ≡ 0 → now ≡ length v.seen)
+
+-- a call of the definitions was made with the pass
+abbrev pub Follows : CellPass → Call → CellPass → Type 0
+Follows p call q = (c : ValueCall) × (call_of c ≡ call) × Calls c (view_of p) (view_of q)

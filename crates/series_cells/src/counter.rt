@@ -1,0 +1,116 @@
+//! A counter that threads share.
+ghost use Rattle.std.specs.Prelude.{◌≡◌, ◌<◌, max, IfOk, IsOk};
+ghost use Rattle.legal_history.specs.History.{Settled, first, lender, child, taker};
+ghost use Rattle.series_cells.specs.declared.calls.ValueCall.TheVariants.{Increment, Absolute};
+
+use crate::pass::CellPass;
+use crate::rules;
+use crate::rules::CounterWords;
+use crate::views::CellView;
+use atomic_table::Table;
+use metrics_core::Memory;
+use std::alloc::Global;
+
+/// A counter, from 0, and the number of its updates.
+#[derive(Drop)]
+pub struct PromCounter {
+    table: Table<(), CellView, (), CounterWords, Global>,
+    ghost two: { table.shared.table_id.words ≡ 2 },
+}
+
+impl PromCounter {
+    ghost use Rattle.series_cells.specs.Pass.{IsCounterPass, view_of, known_of, Calls, ReadsCounter, ReadsUpdates};
+
+    /// A counter at 0, with no updates, and its root pass.
+    pub fn new(alloc: Global) -> Result<(PromCounter, CellPass), Memory>
+        ensures { IfOk result (λ made. IsCounterPass made.0 made.1 × (view_of made.1 ≡ first) × (known_of made.1 ≡ 0) × Settled (view_of made.1)) }
+    {
+        let (table, seat) = Table::of_words(alloc, &[0, 0], &())?;
+        Ok((PromCounter { table }, CellPass { seat, root: true }))
+    }
+
+    /// Adds to the counter, modulo 2^64.
+    pub fn increment(&self, pass: &mut CellPass, value: u64)
+        requires { IsCounterPass self.now pass.old }
+        ensures pass { IsCounterPass self.now pass.new }
+        ensures call { Calls (Increment value) (view_of pass.old) (view_of pass.new) }
+        ensures counted { known_of pass.old < known_of pass.new }
+    {
+        self.table
+            .shared
+            .fetch_add::<rules::Increments>(&mut pass.seat, 0, value);
+        self.table
+            .shared
+            .fetch_add::<rules::Counts>(&mut pass.seat, 1, 1);
+    }
+
+    /// Raises the counter to this value, where it is less.
+    pub fn absolute(&self, pass: &mut CellPass, value: u64)
+        requires { IsCounterPass self.now pass.old }
+        ensures pass { IsCounterPass self.now pass.new }
+        ensures call { Calls (Absolute value) (view_of pass.old) (view_of pass.new) }
+        ensures counted { known_of pass.old < known_of pass.new }
+    {
+        self.table
+            .shared
+            .fetch_max::<rules::Raises>(&mut pass.seat, 0, value);
+        self.table
+            .shared
+            .fetch_add::<rules::Counts>(&mut pass.seat, 1, 1);
+    }
+
+    /// The value after a beginning of the history that has all that the pass had seen. The pass has then seen that beginning.
+    pub fn load(&self, pass: &mut CellPass) -> u64
+        requires { IsCounterPass self.now pass.old }
+        ensures pass { IsCounterPass self.now pass.new }
+        ensures value { ReadsCounter (view_of pass.old) result (view_of pass.new) }
+        ensures known { known_of pass.new ≡ known_of pass.old }
+    {
+        self.table
+            .shared
+            .load::<rules::ReadsCounter>(&mut pass.seat, 0)
+    }
+
+    /// The number of calls that were counted, modulo 2^64. It counts all calls that the pass knew to be counted, and where
+    /// no other pass is out it is the number of all calls.
+    pub fn updates(&self, pass: &mut CellPass) -> u64
+        requires { IsCounterPass self.now pass.old }
+        ensures pass { IsCounterPass self.now pass.new }
+        ensures view { view_of pass.new ≡ view_of pass.old }
+        ensures count { ReadsUpdates (view_of pass.old) (known_of pass.old) result (known_of pass.new) }
+    {
+        self.table
+            .shared
+            .load::<rules::ReadsCount>(&mut pass.seat, 1)
+    }
+
+    /// Lends a new pass of the counter, which has seen what the root pass has seen and has made no call. It is not refused:
+    /// a pass of this kind takes no memory.
+    pub fn split(&self, _alloc: Global, pass: &mut CellPass) -> Result<CellPass, Memory>
+        requires pass { IsCounterPass self.now pass.old }
+        requires root { (view_of pass.old).number ≡ 0 }
+        ensures made { IsOk result }
+        ensures pass { IsCounterPass self.now pass.new × IfOk result (IsCounterPass self.now) }
+        ensures root { (view_of pass.new ≡ lender (view_of pass.old)) × (known_of pass.new ≡ known_of pass.old) }
+        ensures child { IfOk result (λ new. (view_of new ≡ child (view_of pass.old)) × (known_of new ≡ known_of pass.old)) }
+    {
+        let seat = self.table.shared.split_seat::<rules::Lends>(&mut pass.seat);
+        Ok(CellPass { seat, root: false })
+    }
+
+    /// Gives a pass of the counter back to its root pass, which has then seen what either had seen, and holds the calls of
+    /// both.
+    pub fn join(&self, pass: &mut CellPass, child: CellPass)
+        requires pass { IsCounterPass self.now pass.old }
+        requires root { (view_of pass.old).number ≡ 0 }
+        requires child { IsCounterPass self.now child }
+        ensures pass { IsCounterPass self.now pass.new }
+        ensures view { view_of pass.new ≡ taker (view_of pass.old) (view_of child) }
+        ensures known { known_of pass.new ≡ max (known_of pass.old) (known_of child) }
+    {
+        let CellPass { seat, root: _ } = child;
+        self.table
+            .shared
+            .join_seat::<rules::Lends>(&mut pass.seat, seat);
+    }
+}

@@ -1,0 +1,20 @@
+//! Counters and gauges that threads share, each with one legal history.
+//!
+//! A cell has two words in memory: its value, and the number of its updates. A caller has a pass of the cell, and an
+//! update is two atomic steps, one on each word. So no call waits, and none but `new` and `split` takes memory. The calls of
+//! all passes stand in one history (`legal_history`), and a read gives the value after a beginning of it that has all that the
+//! pass had seen.
+#![tactic(auto)]
+
+mod calls;
+mod counter;
+mod faces;
+mod gauge;
+mod pass;
+mod rules;
+mod views;
+
+pub use calls::ValueCall;
+pub use counter::PromCounter;
+pub use gauge::PromGauge;
+pub use pass::CellPass;
