@@ -4,7 +4,13 @@ use Rattle.std.proofs.lemmas.Bool.{eqb-true}
 use denote.Enum.Bare.{sameb, same_true, true_same}
 use Rattle.flushed_cells.specs.declared.counter_state.CounterState.{CounterState}
 use Rattle.flushed_cells.specs.contracts.counter_state.CounterMode.{the_type}
+use Rattle.std.specs.Prelude.{ℤ}
+use Rattle.std.specs.Ordering.{int_eq}
+use Rattle.std.proofs.lemmas.Bool.Decides.{Decides-int_eq}
+use Rattle.metrics_core.specs.Fixed.{of_billionths}
+use Rattle.flushed_cells.specs.declared.gauge_state.GaugeState.{GaugeState}
 use Rattle.flushed_cells.specs.Counters.{counter_of}
+use Rattle.flushed_cells.specs.Gauges.{gauge_of}
 
 both : (a b : Bool) → (a && b) ≡ true → (a ≡ true) × (b ≡ true)
 both true b e = (refl, e)
@@ -29,3 +35,23 @@ counter_itself x = both_true (sameb the_type x.mode x.mode) _ (true_same the_typ
 
 pub counters_unlike : (x y : CounterState) → same_counter x y ≡ false → x ≡ y → ⊥
 counters_unlike x y f e = true≢false (sym (subst (λ (z : CounterState). same_counter x z ≡ true) e (counter_itself x)) ∙ f)
+
+abbrev pub same_gauge : GaugeState → GaugeState → Bool
+same_gauge x y = int_eq x.value.0 y.value.0 && eqb x.updates y.updates
+
+same_values : (a b : ℤ) → int_eq a b ≡ true → a ≡ b
+same_values a b e = (Decides-int_eq a b).0 e
+
+value_itself : (a : ℤ) → int_eq a a ≡ true
+value_itself a = (Decides-int_eq a a).1 refl
+
+pub gauges_alike : (x y : GaugeState) → same_gauge x y ≡ true → x ≡ y
+gauges_alike x y e =
+    let a = both (int_eq x.value.0 y.value.0) (eqb x.updates y.updates) e in
+    λ i. gauge_of (of_billionths (same_values x.value.0 y.value.0 a.0 i)) (eqb-true x.updates y.updates a.1 i)
+
+gauge_itself : (x : GaugeState) → same_gauge x x ≡ true
+gauge_itself x = both_true (int_eq x.value.0 x.value.0) (eqb x.updates x.updates) (value_itself x.value.0) (eq-eqb x.updates x.updates refl)
+
+pub gauges_unlike : (x y : GaugeState) → same_gauge x y ≡ false → x ≡ y → ⊥
+gauges_unlike x y f e = true≢false (sym (subst (λ (z : GaugeState). same_gauge x z ≡ true) e (gauge_itself x)) ∙ f)
