@@ -22,22 +22,22 @@ module _ {C : Type 0} where
   pub sit_set : (passes seats : List (View C)) (i : ℕ) (v w : View C) → Sit passes seats → get_elem? seats i ≡ some v → v.live ≡ true → w.number ≡ v.number → Sit (set passes v.number w) (set seats i w)
   sit_set passes seats i v w s at live same = record {
     there = λ j u here alive. ⊎_elim
-      (λ (q : (j ≡ i) × (w ≡ u)).
+        (λ (q : (j ≡ i) × (w ≡ u)).
         subst (λ (z : View C). get_elem? (set passes v.number w) z.number ≡ some z) q.1
         (subst (λ (n : ℕ). get_elem? (set passes v.number w) n ≡ some w) (sym same) (set_here passes v.number w (some_below passes v.number v (s.there i v at live)))))
-      (λ (q : (j ≢ i) × (get_elem? seats j ≡ some u)).
+        (λ (q : (j ≢ i) × (get_elem? seats j ≡ some u)).
         set_else passes v.number u.number w (λ e. q.0 (s.once j i u v q.1 at alive live e)) ∙ s.there j u q.1 alive)
-      (at_set seats i j w u here);
+        (at_set seats i j w u here);
     once = λ j k u t here there alive lives e. ⊎_elim
-      (λ (q : (j ≡ i) × (w ≡ u)). ⊎_elim
+        (λ (q : (j ≡ i) × (w ≡ u)). ⊎_elim
         (λ (r : (k ≡ i) × (w ≡ t)). q.0 ∙ sym r.0)
         (λ (r : (k ≢ i) × (get_elem? seats k ≡ some t)). absurd (r.0 (s.once k i t v r.1 at lives live (sym e ∙ (sym (number_is w u q.1) ∙ same)))))
         (at_set seats i k w t there))
-      (λ (q : (j ≢ i) × (get_elem? seats j ≡ some u)). ⊎_elim
+        (λ (q : (j ≢ i) × (get_elem? seats j ≡ some u)). ⊎_elim
         (λ (r : (k ≡ i) × (w ≡ t)). absurd (q.0 (s.once j i u v q.1 at alive live (e ∙ (sym (number_is w t r.1) ∙ same)))))
         (λ (r : (k ≢ i) × (get_elem? seats k ≡ some t)). s.once j k u t q.1 r.1 alive lives e)
         (at_set seats i k w t there))
-      (at_set seats i j w u here);
+        (at_set seats i j w u here);
   }
 
   pub sit_same : (passes seats : List (View C)) (i : ℕ) (v : View C) → Sit passes seats → get_elem? seats i ≡ some v → Sit passes (set seats i v)
@@ -47,73 +47,73 @@ module _ {C : Type 0} where
   pub sit_new : (passes seats : List (View C)) (w : View C) → Sit passes seats → w.number ≡ length passes → Sit (passes ++ w ∷ []) (seats ++ w ∷ [])
   sit_new passes seats w s same = record {
     there = λ j u here alive. ⊎_elim
-      (λ (q : get_elem? seats j ≡ some u). at_longer passes (w ∷ []) u.number u (s.there j u q alive))
-      (λ (q : (j ≡ length seats) × (w ≡ u)).
+        (λ (q : get_elem? seats j ≡ some u). at_longer passes (w ∷ []) u.number u (s.there j u q alive))
+        (λ (q : (j ≡ length seats) × (w ≡ u)).
         subst (λ (z : View C). get_elem? (passes ++ w ∷ []) z.number ≡ some z) q.1 (at_last passes w w.number (sym same)))
-      (at_snoc_index seats w u j here);
+        (at_snoc_index seats w u j here);
     once = λ j k u t here there alive lives e. ⊎_elim
-      (λ (q : get_elem? seats j ≡ some u). ⊎_elim
+        (λ (q : get_elem? seats j ≡ some u). ⊎_elim
         (λ (r : get_elem? seats k ≡ some t). s.once j k u t q r alive lives e)
         (λ (r : (k ≡ length seats) × (w ≡ t)).
-          let n : u.number < length passes = some_below passes u.number u (s.there j u q alive) in
-          let m : u.number ≡ length passes = e ∙ (sym (number_is w t r.1) ∙ same) in
-          absurd (omega arith))
+        let n : u.number < length passes = some_below passes u.number u (s.there j u q alive) in
+        let m : u.number ≡ length passes = e ∙ (sym (number_is w t r.1) ∙ same) in
+        absurd (omega arith))
         (at_snoc_index seats w t k there))
-      (λ (q : (j ≡ length seats) × (w ≡ u)). ⊎_elim
+        (λ (q : (j ≡ length seats) × (w ≡ u)). ⊎_elim
         (λ (r : get_elem? seats k ≡ some t).
-          let n : t.number < length passes = some_below passes t.number t (s.there k t r lives) in
-          let m : t.number ≡ length passes = sym e ∙ (sym (number_is w u q.1) ∙ same) in
-          absurd (omega arith))
+        let n : t.number < length passes = some_below passes t.number t (s.there k t r lives) in
+        let m : t.number ≡ length passes = sym e ∙ (sym (number_is w u q.1) ∙ same) in
+        absurd (omega arith))
         (λ (r : (k ≡ length seats) × (w ≡ t)). q.0 ∙ sym r.0)
         (at_snoc_index seats w t k there))
-      (at_snoc_index seats w u j here);
+        (at_snoc_index seats w u j here);
   }
 
   -- a pass leaves its seat
   pub sit_gone : (passes seats : List (View C)) (i : ℕ) (v : View C) → Sit passes seats → get_elem? seats i ≡ some v → v.live ≡ true → Sit (set passes v.number nobody) (set seats i nobody)
   sit_gone passes seats i v s at live = record {
     there = λ j u here alive. ⊎_elim
-      (λ (q : (j ≡ i) × (nobody ≡ u)). absurd (not_nobody u q.1 alive))
-      (λ (q : (j ≢ i) × (get_elem? seats j ≡ some u)).
+        (λ (q : (j ≡ i) × (nobody ≡ u)). absurd (not_nobody u q.1 alive))
+        (λ (q : (j ≢ i) × (get_elem? seats j ≡ some u)).
         set_else passes v.number u.number nobody (λ e. q.0 (s.once j i u v q.1 at alive live e)) ∙ s.there j u q.1 alive)
-      (at_set seats i j nobody u here);
+        (at_set seats i j nobody u here);
     once = λ j k u t here there alive lives e. ⊎_elim
-      (λ (q : (j ≡ i) × (nobody ≡ u)). absurd (not_nobody u q.1 alive))
-      (λ (q : (j ≢ i) × (get_elem? seats j ≡ some u)). ⊎_elim
+        (λ (q : (j ≡ i) × (nobody ≡ u)). absurd (not_nobody u q.1 alive))
+        (λ (q : (j ≢ i) × (get_elem? seats j ≡ some u)). ⊎_elim
         (λ (r : (k ≡ i) × (nobody ≡ t)). absurd (not_nobody t r.1 lives))
         (λ (r : (k ≢ i) × (get_elem? seats k ≡ some t)). s.once j k u t q.1 r.1 alive lives e)
         (at_set seats i k nobody t there))
-      (at_set seats i j nobody u here);
+        (at_set seats i j nobody u here);
   }
 
   -- a pass goes from its seat to a new one
   pub sit_moved : (passes seats : List (View C)) (i : ℕ) (v : View C) → Sit passes seats → get_elem? seats i ≡ some v → v.live ≡ true → Sit passes (set seats i nobody ++ v ∷ [])
   sit_moved passes seats i v s at live = record {
     there = λ j u here alive. ⊎_elim
-      (λ (q : get_elem? (set seats i nobody) j ≡ some u). (stayed j u q alive).1)
-      (λ (q : (j ≡ length (set seats i nobody)) × (v ≡ u)). subst (λ (z : View C). get_elem? passes z.number ≡ some z) q.1 (s.there i v at live))
-      (at_snoc_index (set seats i nobody) v u j here);
+        (λ (q : get_elem? (set seats i nobody) j ≡ some u). (stayed j u q alive).1)
+        (λ (q : (j ≡ length (set seats i nobody)) × (v ≡ u)). subst (λ (z : View C). get_elem? passes z.number ≡ some z) q.1 (s.there i v at live))
+        (at_snoc_index (set seats i nobody) v u j here);
     once = λ j k u t here there alive lives e. ⊎_elim
-      (λ (q : get_elem? (set seats i nobody) j ≡ some u). ⊎_elim
+        (λ (q : get_elem? (set seats i nobody) j ≡ some u). ⊎_elim
         (λ (r : get_elem? (set seats i nobody) k ≡ some t). s.once j k u t (stayed j u q alive).2 (stayed k t r lives).2 alive lives e)
         (λ (r : (k ≡ length (set seats i nobody)) × (v ≡ t)).
-          let a = stayed j u q alive in
-          absurd (a.0 (s.once j i u v a.2 at alive live (e ∙ sym (number_is v t r.1)))))
+        let a = stayed j u q alive in
+        absurd (a.0 (s.once j i u v a.2 at alive live (e ∙ sym (number_is v t r.1)))))
         (at_snoc_index (set seats i nobody) v t k there))
-      (λ (q : (j ≡ length (set seats i nobody)) × (v ≡ u)). ⊎_elim
+        (λ (q : (j ≡ length (set seats i nobody)) × (v ≡ u)). ⊎_elim
         (λ (r : get_elem? (set seats i nobody) k ≡ some t).
-          let a = stayed k t r lives in
-          absurd (a.0 (s.once k i t v a.2 at lives live (sym e ∙ sym (number_is v u q.1)))))
+        let a = stayed k t r lives in
+        absurd (a.0 (s.once k i t v a.2 at lives live (sym e ∙ sym (number_is v u q.1)))))
         (λ (r : (k ≡ length (set seats i nobody)) × (v ≡ t)). q.0 ∙ sym r.0)
         (at_snoc_index (set seats i nobody) v t k there))
-      (at_snoc_index (set seats i nobody) v u j here);
+        (at_snoc_index (set seats i nobody) v u j here);
   }
     where
       stayed : (j : ℕ) (u : View C) → get_elem? (set seats i nobody) j ≡ some u → u.live ≡ true → (j ≢ i) × (get_elem? passes u.number ≡ some u) × (get_elem? seats j ≡ some u)
       stayed j u here alive = ⊎_elim
-        (λ (q : (j ≡ i) × (nobody ≡ u)). absurd (not_nobody u q.1 alive))
-        (λ (q : (j ≢ i) × (get_elem? seats j ≡ some u)). (q.0, s.there j u q.1 alive, q.1))
-        (at_set seats i j nobody u here)
+          (λ (q : (j ≡ i) × (nobody ≡ u)). absurd (not_nobody u q.1 alive))
+          (λ (q : (j ≢ i) × (get_elem? seats j ≡ some u)). (q.0, s.there j u q.1 alive, q.1))
+          (at_set seats i j nobody u here)
 
 module _ {S C : Type 0} (Step : C → S → S → Type 0) (start : S) where
   pub opens_seated : Seated {C = C} Step start start (first ∷ [])
@@ -128,10 +128,11 @@ module _ {S C : Type 0} (Step : C → S → S → Type 0) (start : S) where
     where
       zero_at : (i : ℕ) (v : View C) → get_elem? (first ∷ []) i ≡ some v → i ≡ 0
       zero_at i v at = let h : i < 1 = some_below (first ∷ []) i v at in omega arith
+
       only : (i : ℕ) (v : View C) → get_elem? (first ∷ []) i ≡ some v → get_elem? (first ∷ []) v.number ≡ some v
-      only i v at = 
-        let here : get_elem? (first ∷ []) 0 ≡ some v = subst (λ n. get_elem? (first ∷ []) n ≡ some v) (zero_at i v at) at in
-        subst (λ (z : View C). get_elem? (first ∷ []) z.number ≡ some z) (some-injective first v here) refl
+      only i v at =
+          let here : get_elem? (first ∷ []) 0 ≡ some v = subst (λ n. get_elem? (first ∷ []) n ≡ some v) (zero_at i v at) at in
+          subst (λ (z : View C). get_elem? (first ∷ []) z.number ≡ some z) (some-injective first v here) refl
 
   -- a call where the state is as expected, or nothing
   pub exchanges : (x old new : S) (same : Bool) → (same ≡ true → x ≡ old) → (same ≡ false → ¬ (x ≡ old)) → (seats : List (View C)) (i : ℕ) (v : View C) (c : C) → v.live ≡ true → Step c old new → Seated Step start x seats → get_elem? seats i ≡ some v

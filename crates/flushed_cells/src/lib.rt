@@ -9,6 +9,8 @@ pub mod gauge_calls;
 pub mod gauge_state;
 pub mod pass;
 pub mod rule;
+#[cfg(test)]
+mod tests;
 
 pub use counter::DsdCounter;
 pub use gauge::DsdGauge;

@@ -22,8 +22,8 @@ join_pass-requires c =
         (
           (c.requires.passes.0, given.0 ∙ (c.requires.passes.1 ∙ sym c.requires.passes.0), given.2),
           λ x seats k at apart there.
-            merges_seated CounterStep counter_start x seats c.args.pass.now.seat.id (view_of c.args.pass.now) c.split_pass-fresh.result.id (cell_view c.split_pass-fresh.result)
-            c.args.pass.now.live c.requires.root (ap (λ (v : View CounterCall). v.live) given.1 ∙ c.args.child.live) k at apart there,
+              merges_seated CounterStep counter_start x seats c.args.pass.now.seat.id (view_of c.args.pass.now) c.split_pass-fresh.result.id (cell_view c.split_pass-fresh.result)
+              c.args.pass.now.live c.requires.root (ap (λ (v : View CounterCall). v.live) given.1 ∙ c.args.child.live) k at apart there,
         ),
       ),
     )
