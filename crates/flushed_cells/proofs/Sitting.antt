@@ -6,9 +6,9 @@ use lib.ListN.{get_elem?}
 use Rattle.atomic_table.proofs.Lists.{at_set, set_here, set_else, set_again, at_longer, at_last}
 use Rattle.legal_history.specs.declared.history.View.{View}
 use Rattle.legal_history.specs.History.{first, nobody, lender, child, taker, after}
-use Rattle.legal_history.specs.Object.{Keeps, Made}
+use Rattle.legal_history.specs.Object.{Keeps, Made, Told}
 use Rattle.legal_history.proofs.Steps.{some_below, one_at, at_snoc_index}
-use Rattle.legal_history.proofs.Objects.{turn, forks, merges, opens}
+use Rattle.legal_history.proofs.Objects.{turn, tells, forks, merges, opens}
 use Rattle.flushed_cells.specs.Seats.{Sit, Seated, Exchanged}
 
 module _ {C : Type 0} where
@@ -158,6 +158,9 @@ module _ {S C : Type 0} (Step : C → S → S → Type 0) (start : S) where
 
   pub peeks : (x : S) (seats : List (View C)) (i : ℕ) (v : View C) → Seated Step start x seats → get_elem? seats i ≡ some v → (w : View C) × Seated Step start x (set seats i w) × (w ≡ v)
   peeks x seats i v k at = (v, record { passes = k.passes; keeps = k.keeps; sit = sit_same k.passes seats i v k.sit at }, refl)
+
+  pub tells_seated : (x : S) (seats : List (View C)) (i : ℕ) (v : View C) → v.live ≡ true → Seated Step start x seats → get_elem? seats i ≡ some v → (w : View C) × Seated Step start x (set seats i w) × ((w ≡ v) × Told Step start v x)
+  tells_seated x seats i v live k at = (v, record { passes = k.passes; keeps = k.keeps; sit = sit_same k.passes seats i v k.sit at }, (refl, tells Step start x k.passes v.number v live k.keeps (k.sit.there i v at live)))
 
   pub forks_seated : (x : S) (seats : List (View C)) (i : ℕ) (v : View C) → v.live ≡ true → v.number ≡ 0 → Seated Step start x seats → get_elem? seats i ≡ some v → Seated Step start x (set seats i (lender v) ++ child v ∷ [])
   forks_seated x seats i v live root k at = record {

@@ -61,6 +61,17 @@ impl<N: AskedCounter> Outcome<CounterState, View<CounterCall>> for Exchange<N> {
     ghost then = { λ v x y w. Exchanged CounterStep counter_start N.call N.expected v x w };
 }
 
+/// A look at the state.
+pub struct CounterLook;
+
+impl Outcome<CounterState, View<CounterCall>> for CounterLook {
+    ghost use Rattle.std.specs.Prelude.{◌≡◌};
+    ghost use Rattle.legal_history.specs.Object.{Told};
+    ghost use Rattle.flushed_cells.specs.Counters.{CounterStep, counter_start};
+
+    ghost then = { λ v x y w. (w ≡ v) × Told CounterStep counter_start v x };
+}
+
 /// A pass of a counter.
 pub type CounterPass = DsdPass<CounterState, CounterCall>;
 
@@ -137,6 +148,18 @@ impl DsdCounter {
         let DsdPass { mut seat, root: _ } = child;
         let fresh = self.cell.split_pass::<Moves>(&mut seat);
         self.cell.join_pass::<Lends>(&mut pass.seat, fresh);
+    }
+
+    /// With no other pass out, the root has seen the whole history and knows whose each call is. This makes sure of it, and
+    /// changes nothing.
+    pub fn settle<R: Wait>(&self, rt: &R, pass: &mut CounterPass)
+        requires pass { IsCounterPass self.now pass.old }
+        requires root { ((view_of pass.old).number ≡ 0) × ((view_of pass.old).out ≡ 0) }
+        ensures pass { IsCounterPass self.now pass.new }
+        ensures same { view_of pass.new ≡ view_of pass.old }
+        ensures settled { Settled (view_of pass.old) }
+    {
+        self.cell.load_as::<CounterLook, R>(rt, &mut pass.seat);
     }
 
     // Makes a change, and answers the state at which it was made.

@@ -61,6 +61,17 @@ impl<N: AskedGauge> Outcome<GaugeState, View<GaugeCall>> for Exchange<N> {
     ghost then = { λ v x y w. Exchanged GaugeStep gauge_start N.call N.expected v x w };
 }
 
+/// A look at the state.
+pub struct GaugeLook;
+
+impl Outcome<GaugeState, View<GaugeCall>> for GaugeLook {
+    ghost use Rattle.std.specs.Prelude.{◌≡◌};
+    ghost use Rattle.legal_history.specs.Object.{Told};
+    ghost use Rattle.flushed_cells.specs.Gauges.{GaugeStep, gauge_start};
+
+    ghost then = { λ v x y w. (w ≡ v) × Told GaugeStep gauge_start v x };
+}
+
 /// A pass of a gauge.
 pub type GaugePass = DsdPass<GaugeState, GaugeCall>;
 
@@ -155,6 +166,18 @@ impl DsdGauge {
         let DsdPass { mut seat, root: _ } = child;
         let fresh = self.cell.split_pass::<Moves>(&mut seat);
         self.cell.join_pass::<Lends>(&mut pass.seat, fresh);
+    }
+
+    /// With no other pass out, the root has seen the whole history and knows whose each call is. This makes sure of it, and
+    /// changes nothing.
+    pub fn settle<R: Wait>(&self, rt: &R, pass: &mut GaugePass)
+        requires pass { IsGaugePass self.now pass.old }
+        requires root { ((view_of pass.old).number ≡ 0) × ((view_of pass.old).out ≡ 0) }
+        ensures pass { IsGaugePass self.now pass.new }
+        ensures same { view_of pass.new ≡ view_of pass.old }
+        ensures settled { Settled (view_of pass.old) }
+    {
+        self.cell.load_as::<GaugeLook, R>(rt, &mut pass.seat);
     }
 
     // Makes a change, and answers the state at which it was made.

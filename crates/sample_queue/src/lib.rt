@@ -11,6 +11,8 @@ pub mod laws;
 pub mod pass;
 pub mod queue;
 pub mod rule;
+#[cfg(test)]
+mod tests;
 
 pub use calls::Entry;
 pub use histograms::{DsdHistogram, PromHistogram};

@@ -76,6 +76,18 @@ impl<T: Drop> SampleQueue<T> {
         self.queue.pop_as::<Pops, R>(rt, &mut pass.seat)
     }
 
+    /// With no other pass out, the root has seen the whole history and knows whose each call is. This makes sure of it, and
+    /// changes nothing.
+    pub fn settle<R: Wait>(&self, rt: &R, pass: &mut SamplePass<T>)
+        requires pass { IsSamplePass self.now pass.old }
+        requires root { ((view_of pass.old).number ≡ 0) × ((view_of pass.old).out ≡ 0) }
+        ensures pass { IsSamplePass self.now pass.new }
+        ensures same { view_of pass.new ≡ view_of pass.old }
+        ensures settled { Settled (view_of pass.old) }
+    {
+        self.queue.len_as::<Pops, R>(rt, &mut pass.seat);
+    }
+
     /// A new pass of this queue, for another caller. It knows what the root knows, and has made no call.
     pub fn split(&self, _alloc: Global, pass: &mut SamplePass<T>) -> Result<SamplePass<T>, Memory>
         requires pass { IsSamplePass self.now pass.old }
