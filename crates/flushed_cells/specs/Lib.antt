@@ -2,4 +2,5 @@ pub mod Seats
 pub mod Passes
 pub mod Counters
 pub mod Gauges
+pub mod Totals
 pub mod Cells

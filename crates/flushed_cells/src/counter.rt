@@ -2,7 +2,7 @@
 
 ghost use Rattle.std.specs.Prelude.{◌≡◌, true, MatchBool, IfOk, OnErr};
 ghost use Rattle.crossbeam_utils.specs.Seq.{cell_view};
-ghost use Rattle.legal_history.specs.Object.{Made};
+ghost use Rattle.legal_history.specs.Object.{Made, Runs};
 ghost use Rattle.flushed_cells.specs.Counters.{CounterStep, counter_start, answered};
 
 use crate::counter_calls::{CounterCall, CounterChange};
@@ -86,12 +86,13 @@ pub struct DsdCounter {
 impl DsdCounter {
     ghost use Rattle.flushed_cells.specs.Cells.{IsCounterPass};
     ghost use Rattle.flushed_cells.specs.Passes.{view_of};
+    ghost use Rattle.flushed_cells.specs.declared.counter_state.CounterState.{CounterState as StateOf};
     ghost use Rattle.flushed_cells.specs.declared.counter_calls.CounterCall.TheVariants.{Increment, Absolute, Flush};
-    ghost use Rattle.legal_history.specs.History.{Settled, first, lender, child, taker};
+    ghost use Rattle.legal_history.specs.History.{Settled, calls, first, lender, child, taker};
 
     /// A new counter, with its root pass.
     pub fn new(alloc: Global) -> Result<(DsdCounter, CounterPass), Memory>
-        ensures { IfOk result (λ made. IsCounterPass made.0 made.1 × (view_of made.1 ≡ first)) }
+        ensures { IfOk result (λ made. IsCounterPass made.0 made.1 × (view_of made.1 ≡ first) × Settled (view_of made.1)) }
     {
         let (cell, seat) = RuledSeqCell::ruled(alloc, CounterState::START)?;
         Ok((DsdCounter { cell }, DsdPass { seat, root: true }))
@@ -158,6 +159,7 @@ impl DsdCounter {
         ensures pass { IsCounterPass self.now pass.new }
         ensures same { view_of pass.new ≡ view_of pass.old }
         ensures settled { Settled (view_of pass.old) }
+        ensures state { (state : StateOf) × Runs CounterStep counter_start (calls (view_of pass.old).seen) state }
     {
         self.cell.load_as::<CounterLook, R>(rt, &mut pass.seat);
     }

@@ -2,7 +2,7 @@
 
 ghost use Rattle.std.specs.Prelude.{◌≡◌, true, MatchBool, IfOk, OnErr};
 ghost use Rattle.crossbeam_utils.specs.Seq.{cell_view};
-ghost use Rattle.legal_history.specs.Object.{Made};
+ghost use Rattle.legal_history.specs.Object.{Made, Runs};
 ghost use Rattle.flushed_cells.specs.Gauges.{GaugeStep, gauge_start, answered};
 
 use crate::gauge_calls::{GaugeCall, GaugeChange};
@@ -86,13 +86,14 @@ pub struct DsdGauge {
 impl DsdGauge {
     ghost use Rattle.flushed_cells.specs.Cells.{IsGaugePass};
     ghost use Rattle.flushed_cells.specs.Passes.{view_of};
+    ghost use Rattle.flushed_cells.specs.declared.gauge_state.GaugeState.{GaugeState as StateOf};
     ghost use Rattle.flushed_cells.specs.declared.gauge_calls.GaugeCall.TheVariants.{Update, Flush};
     ghost use Rattle.metrics_core.specs.declared.gauge_values.GaugeValue.TheVariants.{Absolute, Increment, Decrement};
-    ghost use Rattle.legal_history.specs.History.{Settled, first, lender, child, taker};
+    ghost use Rattle.legal_history.specs.History.{Settled, calls, first, lender, child, taker};
 
     /// A new gauge, with its root pass.
     pub fn new(alloc: Global) -> Result<(DsdGauge, GaugePass), Memory>
-        ensures { IfOk result (λ made. IsGaugePass made.0 made.1 × (view_of made.1 ≡ first)) }
+        ensures { IfOk result (λ made. IsGaugePass made.0 made.1 × (view_of made.1 ≡ first) × Settled (view_of made.1)) }
     {
         let (cell, seat) = RuledSeqCell::ruled(alloc, GaugeState::START)?;
         Ok((DsdGauge { cell }, DsdPass { seat, root: true }))
@@ -176,6 +177,7 @@ impl DsdGauge {
         ensures pass { IsGaugePass self.now pass.new }
         ensures same { view_of pass.new ≡ view_of pass.old }
         ensures settled { Settled (view_of pass.old) }
+        ensures state { (state : StateOf) × Runs GaugeStep gauge_start (calls (view_of pass.old).seen) state }
     {
         self.cell.load_as::<GaugeLook, R>(rt, &mut pass.seat);
     }

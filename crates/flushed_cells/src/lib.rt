@@ -1,17 +1,28 @@
-//! Counters and gauges that threads share and that are flushed: the DogStatsD cells.
+//! Counters and gauges that threads share and that are flushed.
+//!
+//! A cell holds its whole state, and each call is one exchange of it: an update, or a flush, which answers what is pending and
+//! how many updates there were, both of one point. A call may try again where another came between, so it takes the
+//! runtime. A caller has a pass of the cell. The calls of all passes, flushes with their answers, stand in one history
+//! (`legal_history`), in which each flush answers what a cell of one thread answers there (`specs/Counters.antt`,
+//! `specs/Gauges.antt`).
 #![tactic(auto)]
 
-pub mod counter;
-pub mod counter_calls;
-pub mod counter_state;
-pub mod gauge;
-pub mod gauge_calls;
-pub mod gauge_state;
-pub mod pass;
-pub mod rule;
+mod counter;
+mod counter_calls;
+mod counter_state;
+mod gauge;
+mod gauge_calls;
+mod gauge_state;
+pub mod laws;
+mod pass;
+mod rule;
 #[cfg(test)]
 mod tests;
 
-pub use counter::DsdCounter;
-pub use gauge::DsdGauge;
+pub use counter::{CounterPass, DsdCounter};
+pub use counter_calls::{CounterCall, CounterChange};
+pub use counter_state::{CounterMode, CounterState};
+pub use gauge::{DsdGauge, GaugePass};
+pub use gauge_calls::{GaugeCall, GaugeChange};
+pub use gauge_state::GaugeState;
 pub use pass::DsdPass;

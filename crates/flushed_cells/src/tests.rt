@@ -2,11 +2,7 @@
 
 ghost use Rattle.flushed_cells.specs.Cells.{IsCounterPass};
 
-use crate::counter::CounterPass;
-use crate::counter_calls::CounterChange;
-use crate::gauge::GaugePass;
-use crate::gauge_calls::GaugeChange;
-use crate::{DsdCounter, DsdGauge};
+use crate::{CounterChange, CounterPass, DsdCounter, DsdGauge, GaugeChange, GaugePass};
 use metrics_core::{Fixed, GaugeValue, Memory};
 use std::alloc::Global;
 use std::sync::Wait;
