@@ -10,3 +10,8 @@ ghost use Rattle.sample_queue.specs.Queues.{QueueStep, pushed, popped};
 pub fn first_in_first_out<T>()
     ensures { (cs : List (QueueCall T)) (items : List (Entry T)) → Runs QueueStep [] cs items → pushed cs ≡ popped cs ++ items }
 {}
+
+/// The calls of a history determine what a queue holds after them.
+pub fn one_queue_after_calls<T>()
+    ensures { (cs : List (QueueCall T)) (items others : List (Entry T)) → Runs QueueStep [] cs items → Runs QueueStep [] cs others → items ≡ others }
+{}

@@ -5,16 +5,16 @@
 //! over all passes, is a beginning of what was pushed, each entry once (`laws::first_in_first_out`).
 #![tactic(auto)]
 
-pub mod calls;
-pub mod histograms;
+mod calls;
+mod histograms;
 pub mod laws;
-pub mod pass;
-pub mod queue;
-pub mod rule;
+mod pass;
+mod queue;
+mod rule;
 #[cfg(test)]
 mod tests;
 
-pub use calls::Entry;
+pub use calls::{Entry, QueueCall};
 pub use histograms::{DsdHistogram, PromHistogram};
 pub use pass::SamplePass;
 pub use queue::SampleQueue;

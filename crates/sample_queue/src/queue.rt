@@ -33,7 +33,7 @@ impl<T: Drop> SampleQueue<T> {
 
     /// An empty queue, with its root pass.
     pub fn new(alloc: Global) -> Result<(SampleQueue<T>, SamplePass<T>), Memory>
-        ensures { IfOk result (λ made. IsSamplePass made.0 made.1 × (view_of made.1 ≡ first)) }
+        ensures { IfOk result (λ made. IsSamplePass made.0 made.1 × (view_of made.1 ≡ first) × Settled (view_of made.1)) }
     {
         let (queue, seat) = RuledSegQueue::with_rule(alloc)?;
         Ok((SampleQueue { queue }, SamplePass { seat, root: true }))
@@ -84,6 +84,7 @@ impl<T: Drop> SampleQueue<T> {
         ensures pass { IsSamplePass self.now pass.new }
         ensures same { view_of pass.new ≡ view_of pass.old }
         ensures settled { Settled (view_of pass.old) }
+        ensures items { (items : List (EntryOf T)) × Runs QueueStep [] (calls (view_of pass.old).seen) items }
     {
         self.queue.len_as::<Pops, R>(rt, &mut pass.seat);
     }
