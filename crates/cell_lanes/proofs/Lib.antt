@@ -1,0 +1,5 @@
+pub mod Lists
+pub mod Lending
+pub mod Running
+pub mod Returning
+pub mod Jobs

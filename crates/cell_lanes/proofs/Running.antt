@@ -1,0 +1,170 @@
+-- What the calls of a lane do to its passes.
+use Rattle.std.proofs.Common.{◌≡◌, ◌≢◌, ℕ, zero, suc, ◌+◌, ◌<◌, ◌≤◌, ◌==◌, ◌⊎◌, Bool, true, false, List, [], ◌∷◌, ◌++◌, length, take, set, refl, sym, ap, ◌∙◌, subst, inl, inr, ⊎_elim, arith, eq-eqb, ne_eqb, append_assoc}
+use Rattle.std.proofs.Math.ListN.{length-set}
+use Rattle.std.proofs.lemmas.List.{append-nil}
+use mathlib.Core.Option.{some, some-ne-none, some-injective}
+use lib.ListN.{get_elem?}
+use Rattle.atomic_table.proofs.Lists.{at_set}
+use Rattle.legal_history.specs.declared.history.View.{View}
+use Rattle.legal_history.specs.History.{keep}
+use Rattle.legal_history.specs.Order.{times}
+use Rattle.legal_history.proofs.Lists.{keep-append}
+use Rattle.legal_history.proofs.Steps.{one_at, some_below}
+use Rattle.cell_lanes.specs.declared.lane.Line.{Line}
+use Rattle.cell_lanes.specs.declared.lane.Lane.{Lane}
+use Rattle.cell_lanes.specs.declared.lane.Slot.{Slot}
+use Rattle.cell_lanes.specs.declared.lane.Job.{Job}
+use Rattle.cell_lanes.specs.Calls.{Made, StandAs}
+use Rattle.cell_lanes.specs.Lanes.{Owns, SlotsFit, lent_on, slot_calls, cells_of, SlotsKept, Fresh, SlotsMade, Each, Lends, Stays, AllTaken, LineFit, LaneReady, LaneRan, JobRan, JobsFit, JobsFresh, JobsRan, Fit}
+use Rattle.cell_lanes.proofs.Lists.{below_some}
+
+pub take_none : {A : Type 0} (xs : List A) → take 0 xs ≡ []
+take_none [] = refl
+take_none (x ∷ xs) = refl
+
+-- one more
+stand_more : {K M : Type 0} (stands : K → List M → Type 0) (ks : List K) (k : K) (cs ds : List M) → StandAs stands ks cs → stands k ds → StandAs stands (ks ++ k ∷ []) (cs ++ ds)
+stand_more stands [] k cs ds all one = (ds, [], one, refl, ap (λ l. l ++ ds) all ∙ sym (append-nil ds))
+stand_more stands (x ∷ xs) k cs ds all one = (all.0, all.1 ++ ds, all.2, stand_more stands xs k all.1 ds all.3 one, ap (λ l. l ++ ds) all.4 ∙ append_assoc all.0 all.1 ds)
+
+slot_one : {K : Type 0} (s : ℕ) (xs : List (Line K)) (x : Line K) → slot_calls s (xs ++ x ∷ []) ≡ slot_calls s xs ++ keep (x.slot == s) x.call []
+slot_one s [] x = refl
+slot_one s (y ∷ ys) x = ap (keep (y.slot == s) y.call) (slot_one s ys x) ∙ keep-append (y.slot == s) y.call (slot_calls s ys) (keep (x.slot == s) x.call [])
+
+slot_same : {K : Type 0} (s : ℕ) (xs : List (Line K)) (x : Line K) → x.slot ≡ s → slot_calls s (xs ++ x ∷ []) ≡ slot_calls s xs ++ x.call ∷ []
+slot_same s xs x e = slot_one s xs x ∙ ap (λ b. slot_calls s xs ++ keep b x.call []) (eq-eqb x.slot s e)
+
+slot_other : {K : Type 0} (s : ℕ) (xs : List (Line K)) (x : Line K) → x.slot ≢ s → slot_calls s (xs ++ x ∷ []) ≡ slot_calls s xs
+slot_other s xs x ne = slot_one s xs x ∙ (ap (λ b. slot_calls s xs ++ keep b x.call []) (ne_eqb x.slot s ne) ∙ append-nil (slot_calls s xs))
+
+pub cells_length : {L : Type 0} (xs : List (Slot L)) → length (cells_of xs) ≡ length xs
+cells_length [] = refl
+cells_length (x ∷ xs) = ap suc (cells_length xs)
+
+module _ {S L : Type 0} (owns : S → L → Type 0) where
+  pub kept_none : (xs : List (Slot L)) → SlotsKept owns xs xs
+  kept_none xs = (refl, λ s x y e f. let same = one_at xs s x y e f in (ap (λ (z : Slot L). z.cell) (sym same), λ c h. subst (λ (z : Slot L). owns c z.lent) same h))
+
+  pub kept_set : (xs ys : List (Slot L)) (i : ℕ) (y z : Slot L) → get_elem? ys i ≡ some y → z.cell ≡ y.cell → ((c : S) → owns c y.lent → owns c z.lent) → SlotsKept owns xs ys → SlotsKept owns xs (set ys i z)
+  kept_set xs ys i y z at cell own all = (
+    length-set ys i z ∙ all.0,
+    λ s x u e f. ⊎_elim
+        (λ (t : (s ≡ i) × (z ≡ u)).
+        let old = all.1 s x y e (subst (λ n. get_elem? ys n ≡ some y) (sym t.0) at) in
+        subst (λ (k : Slot L). (k.cell ≡ x.cell) × ((c : S) → owns c x.lent → owns c k.lent)) t.1 (cell ∙ old.0, λ c h. own c (old.1 c h)))
+        (λ (t : (s ≢ i) × (get_elem? ys s ≡ some u)). all.1 s x u e t.1)
+        (at_set ys i s z u f),
+  )
+
+  -- the cells stay
+  pub cells_kept : (xs ys : List (Slot L)) → SlotsKept owns xs ys → cells_of ys ≡ cells_of xs
+  cells_kept xs ys kept = go xs ys kept.0 (λ s x y e f. (kept.1 s x y e f).0)
+    where
+      go : (xs ys : List (Slot L)) → length ys ≡ length xs → ((s : ℕ) (x y : Slot L) → get_elem? xs s ≡ some x → get_elem? ys s ≡ some y → y.cell ≡ x.cell) → cells_of ys ≡ cells_of xs
+      go [] [] len same = refl
+      go [] (y ∷ ys) len same = absurd (omega arith)
+      go (x ∷ xs) [] len same = absurd (omega arith)
+      go (x ∷ xs) (y ∷ ys) len same = λ k. same 0 x y refl refl k ∷ go xs ys (omega arith) (λ s. same (suc s)) k
+
+module _ {L M K : Type 0} (knows : L → View M) (stands : K → List M → Type 0) where
+  pub made_more : (lines : List (Line K)) (slots : List (Slot L)) (line : Line K) (y z : Slot L) → get_elem? slots line.slot ≡ some y → Made (stands line.call) (knows y.lent) (knows z.lent)
+      → SlotsMade knows stands lines slots → SlotsMade knows stands (lines ++ line ∷ []) (set slots line.slot z)
+  made_more lines slots line y z at made all s x e = ⊎_elim
+      (λ (t : (s ≡ line.slot) × (z ≡ x)).
+      let old = all s y (subst (λ n. get_elem? slots n ≡ some y) (sym t.0) at) in
+      let mine : (knows y.lent).mine ++ made.0 ≡ (knows x.lent).mine = sym (ap (λ (v : View M). v.mine) made.2.2) ∙ ap (λ (k : Slot L). (knows k.lent).mine) t.1 in
+      subst (StandAs stands (slot_calls s (lines ++ line ∷ []))) mine
+      (subst (λ ks. StandAs stands ks ((knows y.lent).mine ++ made.0)) (sym (slot_same s lines line (sym t.0)))
+      (stand_more stands (slot_calls s lines) line.call (knows y.lent).mine made.0 old made.1)))
+      (λ (t : (s ≢ line.slot) × (get_elem? slots s ≡ some x)).
+      subst (λ ks. StandAs stands ks (knows x.lent).mine) (sym (slot_other s lines line (λ q. t.0 (sym q)))) (all s x t.1))
+      (at_set slots line.slot s z x e)
+
+  -- a refused call leaves what was made
+  pub made_same : (lines : List (Line K)) (slots : List (Slot L)) (i : ℕ) (y z : Slot L) → get_elem? slots i ≡ some y → knows z.lent ≡ knows y.lent → SlotsMade knows stands lines slots → SlotsMade knows stands lines (set slots i z)
+  made_same lines slots i y z at same all s x e = ⊎_elim
+      (λ (t : (s ≡ i) × (z ≡ x)).
+      subst (λ (k : Slot L). StandAs stands (slot_calls s lines) (knows k.lent).mine) t.1
+      (subst (λ (v : View M). StandAs stands (slot_calls s lines) v.mine) (sym same) (all s y (subst (λ n. get_elem? slots n ≡ some y) (sym t.0) at))))
+      (λ (t : (s ≢ i) × (get_elem? slots s ≡ some x)). all s x t.1)
+      (at_set slots i s z x e)
+
+  -- no call
+  pub made_none : (lines : List (Line K)) (slots : List (Slot L)) → lines ≡ [] → Fresh knows slots → SlotsMade knows stands lines slots
+  made_none lines slots none fresh = subst (λ l. SlotsMade knows stands l slots) (sym none) (λ s x e. fresh s x e)
+
+  -- a lane that has run
+  pub job_ran : {S : Type 0} (owns : S → L → Type 0) (a : Lane K) (x y : Job L) → cells_of x.slots.items ≡ a.cells.items → SlotsKept owns x.slots.items y.slots.items → SlotsMade knows stands (take y.done a.lines.items) y.slots.items → JobRan knows stands a y
+  job_ran owns a x y whole kept made =
+      let same : cells_of y.slots.items ≡ a.cells.items = cells_kept owns x.slots.items y.slots.items kept ∙ whole in
+      record {
+        some_cells = same ∙ sym (Rattle.cell_lanes.proofs.Lists.take_whole a.cells.items (length y.slots.items) (let n = ap length same in let m = cells_length y.slots.items in omega arith));
+        whole = inr same;
+        made = made;
+      }
+
+  -- a lane that has not
+  pub job_fresh : (a : Lane K) (x : Job L) → (cells_of x.slots.items ≡ take (length x.slots.items) a.cells.items) × Fresh knows x.slots.items × (x.done ≡ 0) → JobRan knows stands a x
+  job_fresh a x f = record { some_cells = f.0; whole = inl f.2; made = made_none (take x.done a.lines.items) x.slots.items (ap (λ n. take n a.lines.items) f.2 ∙ take_none a.lines.items) f.1 }
+
+  pub jobs_fresh : (ls : List (Lane K)) (jobs : List (Job L)) → JobsFresh knows ls jobs → JobsRan knows stands ls jobs
+  jobs_fresh ls jobs all l a x e f = job_fresh a x (all l a x e f)
+
+-- jobs whose lanes have run hold passes of the same cells
+module _ {L : Type 0} where
+  pub lent_kept : (j : ℕ) (xs ys : List (Job L)) → length ys ≡ length xs → ((l : ℕ) (x y : Job L) → get_elem? xs l ≡ some x → get_elem? ys l ≡ some y → cells_of y.slots.items ≡ cells_of x.slots.items) → lent_on j ys ≡ lent_on j xs
+  lent_kept j [] [] len same = refl
+  lent_kept j [] (y ∷ ys) len same = absurd (omega arith)
+  lent_kept j (x ∷ xs) [] len same = absurd (omega arith)
+  lent_kept j (x ∷ xs) (y ∷ ys) len same = λ k. times j (same 0 x y refl refl k) + lent_kept j xs ys (omega arith) (λ l. same (suc l)) k
+
+  pub fits_kept : {S F : Type 0} (fixed : S → F) (owns : F → L → Type 0) (cs : List S) (xs ys : List (Slot L)) → SlotsKept owns xs ys → SlotsFit (Owns fixed owns) cs xs → SlotsFit (Owns fixed owns) cs ys
+  fits_kept fixed owns cs xs ys kept fit s y e =
+      let x = below_some xs s (let b = some_below ys s y e in let n = kept.0 in omega arith) in
+      let k = kept.1 s x.0 y x.1 e in
+      let f = fit s x.0 x.1 in
+      (subst (λ n. n < length cs) (sym k.0) f.0, λ c at. k.1 (fixed c) (f.1 c (subst (λ n. get_elem? cs n ≡ some c) k.0 at)))
+
+cell_here : {L : Type 0} (xs : List (Slot L)) (s : ℕ) (y : Slot L) → get_elem? xs s ≡ some y → get_elem? (cells_of xs) s ≡ some y.cell
+cell_here [] s y e = absurd (some-ne-none y (sym e))
+cell_here (x ∷ xs) zero y e = ap (λ (z : Slot _). some z.cell) (some-injective x y e)
+cell_here (x ∷ xs) (suc s) y e = cell_here xs s y e
+
+-- a lane that has a pass for each cell that it names is ready
+pub ready : {S F L M K : Type 0} (root : S → View M) (fixed : S → F) (knows : L → View M) (owns : F → L → Type 0) (takes : F → K → Type 0) (n : ℕ → ℕ) (cs ds : List S) (ls : List (Lane K)) (l : ℕ) (a : Lane K) (x : Job L)
+    → get_elem? ls l ≡ some a → length ds ≡ length cs → Each (λ j. Lends root (Stays fixed) (n j)) cs ds → Fit (length cs) a → AllTaken fixed takes cs ls → Fresh knows x.slots.items → cells_of x.slots.items ≡ a.cells.items → SlotsFit (Owns fixed owns) ds x.slots.items
+    → LaneReady knows owns takes a x
+ready {S} root fixed knows owns takes n cs ds ls l a x at len lends fit taken fresh full slots = (
+  fresh,
+  (λ k y e. let b = fit.lines k y e in let m = ap length full in omega (arith, cells_length x.slots.items)),
+  (λ k line y e f.
+      let g = slots line.slot y f in
+      let d = below_some ds y.cell g.0 in
+      let c = below_some cs y.cell (let b = g.0 in omega arith) in
+      let same : fixed d.0 ≡ fixed c.0 = (lends y.cell c.0 d.0 c.1 d.1).kept in
+      (fixed c.0, subst (λ h. owns h y.lent) same (g.1 d.0 d.1), taken l a k line y.cell c.0 at e (subst (λ ns. get_elem? ns line.slot ≡ some y.cell) full (cell_here x.slots.items line.slot y f)) c.1)),
+)
+
+-- the jobs of lanes that have all run
+module _ {S L M K : Type 0} (knows : L → View M) (stands : K → List M → Type 0) (owns : S → L → Type 0) (ls : List (Lane K)) (xs ys : List (Job L)) (len : length ys ≡ length xs) (many : length xs ≡ length ls)
+    (full : (l : ℕ) (a : Lane K) (x : Job L) → get_elem? ls l ≡ some a → get_elem? xs l ≡ some x → cells_of x.slots.items ≡ a.cells.items)
+    (ran : (l : ℕ) (a : Lane K) (x y : Job L) → get_elem? ls l ≡ some a → get_elem? xs l ≡ some x → get_elem? ys l ≡ some y → LaneRan knows stands owns a x y) where
+  ran_kept : (l : ℕ) (x y : Job L) → get_elem? xs l ≡ some x → get_elem? ys l ≡ some y → SlotsKept owns x.slots.items y.slots.items
+  ran_kept l x y e f = let a = below_some ls l (let b = some_below xs l x e in omega arith) in (ran l a.0 x y a.1 e f).0
+
+  pub ran_lent : (j : ℕ) → lent_on j ys ≡ lent_on j xs
+  ran_lent j = lent_kept j xs ys len (λ l x y e f. cells_kept owns x.slots.items y.slots.items (ran_kept l x y e f))
+
+  pub ran_jobs : JobsRan knows stands ls ys
+  ran_jobs l a y e f =
+      let x = below_some xs l (let b = some_below ys l y f in omega arith) in
+      let r = ran l a x.0 y e x.1 f in
+      job_ran knows stands owns a x.0 y (full l a x.0 e x.1) r.0 r.1
+
+module _ {S F L M K : Type 0} (fixed : S → F) (knows : L → View M) (stands : K → List M → Type 0) (owns : F → L → Type 0) (ls : List (Lane K)) (xs ys : List (Job L)) (len : length ys ≡ length xs) (many : length xs ≡ length ls)
+    (ran : (l : ℕ) (a : Lane K) (x y : Job L) → get_elem? ls l ≡ some a → get_elem? xs l ≡ some x → get_elem? ys l ≡ some y → LaneRan knows stands owns a x y) where
+  pub ran_fit : (cs : List S) → JobsFit (Owns fixed owns) cs xs → JobsFit (Owns fixed owns) cs ys
+  ran_fit cs fit l y f =
+      let x = below_some xs l (let b = some_below ys l y f in omega arith) in
+      let a = below_some ls l (let b = some_below ys l y f in omega arith) in
+      fits_kept fixed owns cs x.0.slots.items y.slots.items (ran l a.0 x.0 y a.1 x.1 f).0 (fit l x.0 x.1)

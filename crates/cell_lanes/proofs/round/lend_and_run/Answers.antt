@@ -1,0 +1,59 @@
+use Rattle.std.proofs.Common.{◌≡◌, ◌≤◌, ◌++◌, length, take, drop, sym, ap, ◌∙◌, subst, arith}
+use mathlib.Core.Option.{some}
+use lib.ListN.{get_elem?}
+use Rattle.cell_lanes.specs.Lanes.{Stays, Owns, Each, Lends, JobsFit, JobsRan, LaneRan, lent_on}
+use Rattle.cell_lanes.proofs.Lists.{front_of}
+use Rattle.cell_lanes.proofs.Running.{jobs_fresh, ready, ran_lent, ran_jobs, ran_fit}
+use Rattle.cell_lanes.proofs.round.lend_and_run.Goals as goal
+
+pub returns-in-Err-clause-ran : goal.returns-in-Err-clause-ran
+returns-in-Err-clause-ran g c = jobs_fresh g.S.Lender.knows g.S.Lender.stands_as c.args.lanes.now c.lend_all.new.jobs.items c.lend_all.ensures.fresh.0
+
+pub run_all-requires-clause-ready : goal.run_all-requires-clause-ready
+run_all-requires-clause-ready g c κs within = λ l a x e f.
+    let at = subst (λ xs. get_elem? xs l ≡ some x) c.as_mut_slice.ensures.value f in
+    ready g.S.Lender.root g.S.Lender.fixed g.S.Lender.knows g.S.Lender.owns g.S.Lender.takes (λ j. lent_on j c.lend_all.new.jobs.items) c.args.shared.now c.lend_all.new.shared c.args.lanes.now l a x e c.lend_all.auto.shared c.lend_all.ensures.lends
+    (c.requires.fit l a e) c.requires.taken (c.lend_all.ensures.fresh.0 l a x e at).1 (c.in-Ok.ensures.ok.1 l a x e at) (c.lend_all.ensures.fit l x at)
+
+pub returns-clause-lends : goal.returns-clause-lends
+returns-clause-lends g c =
+    let m = c.as_mut_slice.ensures in
+    let jobs = c.lend_all.new.jobs.items in
+    let news = c.run_all.new.jobs in
+    let len : length news ≡ length jobs = c.run_all.auto.jobs ∙ ap length m.value in
+    let front = front_of news (drop (length news) jobs) c.lend_all.new.jobs.len (c.run_all.auto.jobs ∙ m.len) in
+    λ j a b e f. subst (λ n. Lends g.S.Lender.root (Stays g.S.Lender.fixed) n a b)
+    (sym (ap (lent_on j) front ∙ ran_lent g.S.Lender.knows g.S.Lender.stands_as g.S.Lender.owns c.args.lanes.now jobs news len c.in-Ok.ensures.ok.0 c.in-Ok.ensures.ok.1
+    (λ l x y z p q r. c.run_all.ensures.ran l x y z p (subst (λ xs. get_elem? xs l ≡ some y) (sym m.value) q) r) j))
+    (c.lend_all.ensures.lends j a b e f)
+
+pub returns-clause-fit : goal.returns-clause-fit
+returns-clause-fit g c =
+    let m = c.as_mut_slice.ensures in
+    let jobs = c.lend_all.new.jobs.items in
+    let news = c.run_all.new.jobs in
+    let len : length news ≡ length jobs = c.run_all.auto.jobs ∙ ap length m.value in
+    let front = front_of news (drop (length news) jobs) c.lend_all.new.jobs.len (c.run_all.auto.jobs ∙ m.len) in
+    subst (JobsFit (Owns g.S.Lender.fixed g.S.Lender.owns) c.lend_all.new.shared) (sym front)
+    (ran_fit g.S.Lender.fixed g.S.Lender.knows g.S.Lender.stands_as g.S.Lender.owns c.args.lanes.now jobs news len c.in-Ok.ensures.ok.0
+    (λ l x y z p q r. c.run_all.ensures.ran l x y z p (subst (λ xs. get_elem? xs l ≡ some y) (sym m.value) q) r) c.lend_all.new.shared c.lend_all.ensures.fit)
+
+pub returns-clause-few : goal.returns-clause-few
+returns-clause-few g c =
+    let m = c.as_mut_slice.ensures in
+    let jobs = c.lend_all.new.jobs.items in
+    let news = c.run_all.new.jobs in
+    let len : length news ≡ length jobs = c.run_all.auto.jobs ∙ ap length m.value in
+    let front = front_of news (drop (length news) jobs) c.lend_all.new.jobs.len (c.run_all.auto.jobs ∙ m.len) in
+    subst (λ xs. length xs ≤ length c.args.lanes.now) (sym front) (omega (arith, len, c.lend_all.ensures.fresh.1))
+
+pub returns-clause-ran : goal.returns-clause-ran
+returns-clause-ran g c =
+    let m = c.as_mut_slice.ensures in
+    let jobs = c.lend_all.new.jobs.items in
+    let news = c.run_all.new.jobs in
+    let len : length news ≡ length jobs = c.run_all.auto.jobs ∙ ap length m.value in
+    let front = front_of news (drop (length news) jobs) c.lend_all.new.jobs.len (c.run_all.auto.jobs ∙ m.len) in
+    subst (JobsRan g.S.Lender.knows g.S.Lender.stands_as c.args.lanes.now) (sym front)
+    (ran_jobs g.S.Lender.knows g.S.Lender.stands_as g.S.Lender.owns c.args.lanes.now jobs news len c.in-Ok.ensures.ok.0 c.in-Ok.ensures.ok.1
+    (λ l x y z p q r. c.run_all.ensures.ran l x y z p (subst (λ xs. get_elem? xs l ≡ some y) (sym m.value) q) r))

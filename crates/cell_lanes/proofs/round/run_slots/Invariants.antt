@@ -1,0 +1,9 @@
+use Rattle.std.proofs.Common.{◌≡◌, take, length}
+use Rattle.cell_lanes.specs.Lanes.{SlotsKept, SlotsMade}
+use Rattle.cell_lanes.proofs.round.run_slots.Given as goal
+
+abbrev pub invariant-loop-call : goal.invariant-loop-call
+invariant-loop-call g l = record {
+  kept : SlotsKept g.S.Lender.owns l.initial.slots l.slots;
+  made : SlotsMade g.S.Lender.knows g.S.Lender.stands_as (take l.call l.lines) l.slots;
+}

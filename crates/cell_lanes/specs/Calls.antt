@@ -1,0 +1,15 @@
+-- How what a lane asks for stands in a history.
+use Rattle.std.specs.Prelude.{◌≡◌, List, [], ◌∷◌, ◌++◌}
+use Rattle.legal_history.specs.declared.history.Entry.{Entry}
+use Rattle.legal_history.specs.declared.history.View.{View}
+use Rattle.legal_history.specs.History.{after, Sees}
+
+module _ {M : Type 0} where
+  -- a pass made calls, of which `fits` holds, behind a history that begins with all that it had seen
+  abbrev pub Made : (List M → Type 0) → View M → View M → Type 0
+  Made fits v w = (calls : List M) × fits calls × ((log : List (Entry M)) × Sees v log × (w ≡ after v log calls))
+
+  -- what was asked for, one after the other, stands as these calls
+  abbrev pub StandAs : {K : Type 0} → (K → List M → Type 0) → List K → List M → Type 0
+  StandAs stands [] calls = calls ≡ []
+  StandAs stands (k ∷ ks) calls = (first rest : List M) × stands k first × StandAs stands ks rest × (calls ≡ first ++ rest)

@@ -1,0 +1,251 @@
+//! Rounds of lanes that run side by side.
+ghost use Rattle.std.specs.Prelude.{◌≡◌, ◌<◌, ◌≤◌, ℕ, [], take, length, vec_len, vec_capacity, OnOk};
+ghost use mathlib.Core.Option.{some};
+ghost use lib.ListN.{get_elem?};
+ghost use Rattle.legal_history.specs.Order.{times};
+ghost use Rattle.cell_lanes.specs.declared.lane.Line.{Line};
+ghost use Rattle.cell_lanes.specs.declared.lane.Lane.{Lane};
+ghost use Rattle.cell_lanes.specs.declared.lane.Job.{Job};
+ghost use Rattle.cell_lanes.specs.Lanes.{Each, Roots, Stays, Owns, Home, AtRest, Lends, Takes, Same, Grew, AllFit, AllDone, SlotsFit, SlotsKept, Fresh, SlotsMade, LineFit, LinesTaken, AllTaken, LaneReady, LaneRan, cells_of, given, JobsFit, JobsFresh, JobsRan, lent_on, all_given, done_of};
+
+use crate::hook::LaneHook;
+use crate::lane::{Job, Lane, Line, Slot};
+use crate::lender::Lender;
+use metrics_core::Memory;
+use std::alloc::Global;
+use std::sync::Wait;
+use std::thread;
+use std::thread::Threads;
+
+/// How many threads run lanes at most. With more lanes than this some run one after another.
+const MAX_LANES: usize = 8;
+
+/// Lends a pass of each thing that a lane names, until one is refused.
+fn lend_lane<S: Lender>(
+    alloc: Global,
+    shared: &mut [S],
+    named: &[usize],
+    slots: &mut Vec<Slot<S::Lent>>,
+) -> Result<(), Memory>
+    requires roots { Roots S.root shared.old }
+    requires named { (s j : ℕ) → get_elem? named.now s ≡ some j → j < length shared.old }
+    requires room { (slots.old.items ≡ []) × (vec_len slots.old ≡ 0) × (length named.now ≤ vec_capacity slots.old) }
+    ensures lends { Each (λ j. Lends S.root (Stays S.fixed) (times j (cells_of slots.new.items))) shared.old shared.new }
+    ensures some_cells { cells_of slots.new.items ≡ take (length slots.new.items) named.now }
+    ensures slots { SlotsFit (Owns S.fixed S.owns) shared.new slots.new.items × Fresh S.knows slots.new.items }
+    ensures ok { OnOk result (cells_of slots.new.items ≡ named.now) }
+{
+    for cell in named {
+        match shared[*cell].lend(alloc) {
+            Ok(lent) => slots.push_reserved(Slot { cell: *cell, lent }),
+            Err(refused) => return Err(refused),
+        }
+    }
+    Ok(())
+}
+
+/// Lends all lanes their passes, until one is refused.
+fn lend_all<S: Lender>(
+    alloc: Global,
+    shared: &mut [S],
+    lanes: &[Lane<S::Call>],
+    jobs: &mut Vec<Job<S::Lent>>,
+) -> Result<(), Memory>
+    requires roots { Roots S.root shared.old }
+    requires fit { AllFit (length shared.old) lanes.now }
+    requires room { (jobs.old.items ≡ []) × (vec_len jobs.old ≡ 0) × (length lanes.now ≤ vec_capacity jobs.old) }
+    ensures lends { Each (λ j. Lends S.root (Stays S.fixed) (lent_on j jobs.new.items)) shared.old shared.new }
+    ensures fit { JobsFit (Owns S.fixed S.owns) shared.new jobs.new.items }
+    ensures fresh { JobsFresh S.knows lanes.now jobs.new.items × (length jobs.new.items ≤ length lanes.now) }
+    ensures ok { OnOk result ((length jobs.new.items ≡ length lanes.now) × ((l : ℕ) (a : Lane S.Call) (x : Job S.Lent) → get_elem? lanes.now l ≡ some a → get_elem? jobs.new.items l ≡ some x → cells_of x.slots.items ≡ a.cells.items)) }
+{
+    for lane in lanes {
+        let mut slots = Vec::with_capacity(alloc, lane.cells.len())?;
+        let lent = lend_lane(alloc, shared, lane.cells.as_slice(), &mut slots);
+        jobs.push_reserved(Job { slots, done: 0 });
+        match lent {
+            Ok(()) => {}
+            Err(refused) => return Err(refused),
+        }
+    }
+    Ok(())
+}
+
+/// Makes the calls of a lane, until one is refused, and answers how many it has made.
+fn run_slots<R: Wait, H: LaneHook, S: Lender>(
+    rt: &R,
+    alloc: Global,
+    hook: &H,
+    lane: usize,
+    slots: &mut [Slot<S::Lent>],
+    lines: &[Line<S::Call>],
+) -> usize
+    requires fresh { Fresh S.knows slots.old }
+    requires lines { LineFit (length slots.old) lines.now }
+    requires taken { LinesTaken S.owns S.takes slots.old lines.now }
+    ensures kept { SlotsKept S.owns slots.old slots.new }
+    ensures made { SlotsMade S.knows S.stands_as (take result lines.now) slots.new }
+    ensures done { result ≤ length lines.now }
+{
+    for call in 0..lines.len() {
+        let line = &lines[call];
+        hook.before(rt, lane, call);
+        let index = line.slot;
+        let slot = &mut slots[index];
+        let outcome = S::make(rt, alloc, &mut slot.lent, &line.call);
+        hook.after(rt, lane, call);
+        match outcome {
+            Ok(()) => {}
+            Err(_) => return call,
+        }
+    }
+    lines.len()
+}
+
+/// Makes the calls of the lane with this number.
+fn run_job<R: Wait, H: LaneHook, S: Lender>(
+    rt: &R,
+    alloc: Global,
+    hook: &H,
+    lane: usize,
+    job: &mut Job<S::Lent>,
+    lines: &[Line<S::Call>],
+)
+    requires fresh { Fresh S.knows job.old.slots.items }
+    requires lines { LineFit (length job.old.slots.items) lines.now }
+    requires taken { LinesTaken S.owns S.takes job.old.slots.items lines.now }
+    ensures kept { SlotsKept S.owns job.old.slots.items job.new.slots.items }
+    ensures made { SlotsMade S.knows S.stands_as (take job.new.done lines.now) job.new.slots.items }
+    ensures done { job.new.done ≤ length lines.now }
+{
+    job.done = run_slots::<R, H, S>(rt, alloc, hook, lane, job.slots.as_mut_slice(), lines);
+}
+
+/// Runs all lanes side by side, each with the passes of its job.
+fn run_all<R: Threads + Wait + Sync, H: LaneHook + Sync, S: Lender>(
+    rt: &R,
+    alloc: Global,
+    hook: &H,
+    jobs: &mut [Job<S::Lent>],
+    lanes: &[Lane<S::Call>],
+)
+    requires len { length jobs.old ≡ length lanes.now }
+    requires ready { (l : ℕ) (a : Lane S.Call) (x : Job S.Lent) → get_elem? lanes.now l ≡ some a → get_elem? jobs.old l ≡ some x → LaneReady S.knows S.owns S.takes a x }
+    ensures ran { (l : ℕ) (a : Lane S.Call) (x y : Job S.Lent) → get_elem? lanes.now l ≡ some a → get_elem? jobs.old l ≡ some x → get_elem? jobs.new l ≡ some y → LaneRan S.knows S.stands_as S.owns a x y }
+{
+    thread::for_each_mut(
+        rt,
+        jobs,
+        MAX_LANES,
+        &|l: usize, job: &mut Job<S::Lent>|
+            requires { (l < length lanes.now) × ((a : Lane S.Call) → get_elem? lanes.now l ≡ some a → LaneReady S.knows S.owns S.takes a job.now) }
+            ensures { (a : Lane S.Call) → get_elem? lanes.entry.now l ≡ some a → LaneRan S.knows S.stands_as S.owns a job.entry.now job.exit.now }
+        { run_job::<R, H, S>(rt, alloc, hook, l, job, lanes[l].lines.as_slice()) },
+    );
+}
+
+/// Whether each lane has made all its calls. The refusal that one of them had was want of memory.
+fn all_done<K, L>(lanes: &[Lane<K>], jobs: &[Job<L>]) -> Result<(), Memory>
+    requires { length jobs.now ≡ length lanes.now }
+    ensures { OnOk result (AllDone lanes.now (done_of jobs.now)) }
+{
+    for l in 0..lanes.len() {
+        if jobs[l].done != lanes[l].lines.len() {
+            return Err(Memory);
+        }
+    }
+    Ok(())
+}
+
+/// Lends all lanes their passes, and runs them. Where lending was refused, no lane runs.
+fn lend_and_run<R: Threads + Wait + Sync, H: LaneHook + Sync, S: Lender>(
+    rt: &R,
+    alloc: Global,
+    hook: &H,
+    shared: &mut [S],
+    lanes: &[Lane<S::Call>],
+    jobs: &mut Vec<Job<S::Lent>>,
+) -> Result<(), Memory>
+    requires roots { Roots S.root shared.old }
+    requires fit { AllFit (length shared.old) lanes.now }
+    requires taken { AllTaken S.fixed S.takes shared.old lanes.now }
+    requires room { (jobs.old.items ≡ []) × (vec_len jobs.old ≡ 0) × (length lanes.now ≤ vec_capacity jobs.old) }
+    ensures lends { Each (λ j. Lends S.root (Stays S.fixed) (lent_on j jobs.new.items)) shared.old shared.new }
+    ensures fit { JobsFit (Owns S.fixed S.owns) shared.new jobs.new.items }
+    ensures few { length jobs.new.items ≤ length lanes.now }
+    ensures ran { JobsRan S.knows S.stands_as lanes.now jobs.new.items }
+    ensures ok { OnOk result (AllDone lanes.now (done_of jobs.new.items)) }
+{
+    match lend_all(alloc, shared, lanes, jobs) {
+        Ok(()) => {}
+        Err(refused) => return Err(refused),
+    }
+    run_all::<R, H, S>(rt, alloc, hook, jobs.as_mut_slice(), lanes);
+    all_done(lanes, jobs.as_slice())
+}
+
+/// Takes back the passes of the lane with this number.
+fn take_lane<S: Lender>(shared: &mut [S], lane: usize, mut slots: Vec<Slot<S::Lent>>)
+    requires roots { Roots S.root shared.old }
+    requires slots { SlotsFit (Owns S.fixed S.owns) shared.old slots.items }
+    ensures takes { Each (λ j. Takes S.root (Stays S.fixed) (given S.knows j lane slots.items)) shared.old shared.new }
+{
+    while let Some(slot) = slots.pop() {
+        let Slot { cell, lent } = slot;
+        shared[cell].take_back(lent);
+    }
+}
+
+/// Takes back the passes of all lanes.
+fn take_all<S: Lender>(shared: &mut [S], mut jobs: Vec<Job<S::Lent>>)
+    requires roots { Roots S.root shared.old }
+    requires fit { JobsFit (Owns S.fixed S.owns) shared.old jobs.items }
+    ensures takes { Each (λ j. Takes S.root (Stays S.fixed) (all_given S.knows j 0 jobs.items)) shared.old shared.new }
+{
+    while let Some(job) = jobs.pop() {
+        let Job { slots, done: _ } = job;
+        take_lane(shared, jobs.len(), slots);
+    }
+}
+
+/// Settles each one.
+fn settle_all<R: Wait, S: Lender>(rt: &R, shared: &mut [S])
+    requires roots { Roots S.root shared.old }
+    requires home { Home S.root shared.old }
+    ensures same { Each (λ j. Same S.root (Stays S.fixed)) shared.old shared.new }
+    ensures rest { AtRest S.root shared.new }
+{
+    for j in 0..shared.len() {
+        shared[j].settle(rt);
+    }
+}
+
+/// Runs lanes side by side, in up to eight threads. Each history grows by the calls that the lanes made on it, in one order
+/// in which each lane's calls stand as the lane made them; the orders of two histories have nothing to do with each other.
+/// All passes are back at the end.
+///
+/// A lane that is refused memory makes no further call, and the answer is then `Memory`, once all lanes have returned.
+/// Where a pass can't be lent, no lane runs.
+pub fn run_lanes<R: Threads + Wait + Sync, H: LaneHook + Sync, S: Lender>(
+    rt: &R,
+    alloc: Global,
+    hook: &H,
+    shared: &mut [S],
+    lanes: &[Lane<S::Call>],
+) -> Result<(), Memory>
+    requires roots { Roots S.root shared.old × AtRest S.root shared.old }
+    requires fit { AllFit (length shared.old) lanes.now }
+    requires taken { AllTaken S.fixed S.takes shared.old lanes.now }
+    ensures roots { Roots S.root shared.new × AtRest S.root shared.new }
+    ensures stays { Each (λ j. Stays S.fixed) shared.old shared.new }
+    ensures grew { (done : ℕ → ℕ) × OnOk result (AllDone lanes.now done) × Each (Grew S.root S.stands_as lanes.now done) shared.old shared.new }
+{
+    let mut jobs = match Vec::with_capacity(alloc, lanes.len()) {
+        Ok(jobs) => jobs,
+        Err(_) => return Err(Memory),
+    };
+    let outcome = lend_and_run::<R, H, S>(rt, alloc, hook, shared, lanes, &mut jobs);
+    take_all(shared, jobs);
+    settle_all(rt, shared);
+    outcome
+}
