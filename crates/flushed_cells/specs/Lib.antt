@@ -4,3 +4,4 @@ pub mod Counters
 pub mod Gauges
 pub mod Totals
 pub mod Cells
+pub mod Series

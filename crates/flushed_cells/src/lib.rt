@@ -9,11 +9,15 @@
 
 mod counter;
 mod counter_calls;
+mod counter_series;
 mod counter_state;
 mod gauge;
 mod gauge_calls;
+mod gauge_series;
 mod gauge_state;
 pub mod laws;
+mod lent_counter;
+mod lent_gauge;
 mod pass;
 mod rule;
 #[cfg(test)]
@@ -21,8 +25,12 @@ mod tests;
 
 pub use counter::{CounterPass, DsdCounter};
 pub use counter_calls::{CounterCall, CounterChange};
+pub use counter_series::DsdCounterSeries;
 pub use counter_state::{CounterMode, CounterState};
 pub use gauge::{DsdGauge, GaugePass};
 pub use gauge_calls::{GaugeCall, GaugeChange};
+pub use gauge_series::DsdGaugeSeries;
 pub use gauge_state::GaugeState;
+pub use lent_counter::LentDsdCounter;
+pub use lent_gauge::LentDsdGauge;
 pub use pass::DsdPass;
