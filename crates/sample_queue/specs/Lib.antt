@@ -1,3 +1,4 @@
 pub mod Queues
 pub mod Passes
 pub mod Histograms
+pub mod Series

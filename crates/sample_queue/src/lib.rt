@@ -8,13 +8,17 @@
 mod calls;
 mod histograms;
 pub mod laws;
+mod lent;
 mod pass;
 mod queue;
 mod rule;
+mod series;
 #[cfg(test)]
 mod tests;
 
 pub use calls::{Entry, QueueCall};
 pub use histograms::{DsdHistogram, PromHistogram};
+pub use lent::LentQueue;
 pub use pass::SamplePass;
 pub use queue::SampleQueue;
+pub use series::QueueSeries;
