@@ -33,12 +33,12 @@ abbrev Bounded : CounterState → Type 0
 Bounded s = s.mode ≡ mode.Absolute → s.delta ≤ s.total
 
 absolute_bounded : (m : CounterMode) (n : ℕ) (s : CounterState) → (m ≡ mode.Absolute → s.delta ≤ s.total) → (absolute_in m n s).delta ≤ (absolute_in m n s).total
-absolute_bounded mode.Added n s h = omega arith
+absolute_bounded mode.Incremented n s h = omega arith
 absolute_bounded mode.Absolute n s h = let k : s.delta ≤ s.total = h refl in omega arith
 
 pub bounded : (cs : List CounterCall) (s t : CounterState) → Bounded s → Runs CounterStep s cs t → Bounded t
 bounded [] s t h e = subst Bounded e h
-bounded (Increment n ∷ cs) s t h r = bounded cs r.0 t (subst Bounded (sym r.1) (λ (e : mode.Added ≡ mode.Absolute). cc)) r.2
+bounded (Increment n ∷ cs) s t h r = bounded cs r.0 t (subst Bounded (sym r.1) (λ (e : mode.Incremented ≡ mode.Absolute). cc)) r.2
 bounded (Absolute n ∷ cs) s t h r = bounded cs r.0 t (subst Bounded (sym r.1) (λ _. absolute_bounded s.mode n s h)) r.2
 bounded (Flush d u ∷ cs) s t h r = bounded cs r.0 t (subst Bounded (sym r.1.2) (λ _. omega arith)) r.2
 
@@ -57,7 +57,7 @@ none_left : (s t : ℕ) → s ≡ t → in_64_bits (0 + t) ≡ in_64_bits (s + 0
 none_left s t e = ap in_64_bits (omega arith)
 
 absolute_counts : (m : CounterMode) (n : ℕ) (s : CounterState) → (absolute_in m n s).updates ≡ in_64_bits (s.updates + 1)
-absolute_counts mode.Added n s = refl
+absolute_counts mode.Incremented n s = refl
 absolute_counts mode.Absolute n s = refl
 
 pub updates_once : (cs : List CounterCall) (s t : CounterState) → Runs CounterStep s cs t → in_64_bits (counter_answered cs + t.updates) ≡ in_64_bits (s.updates + counter_updates cs)

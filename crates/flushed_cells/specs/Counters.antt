@@ -14,15 +14,15 @@ counter_of m total delta updates = record { mode = m; total = total; delta = del
 
 -- a new counter: nothing was added
 abbrev pub counter_start : CounterState
-counter_start = counter_of mode.Added 0 0 0
+counter_start = counter_of mode.Incremented 0 0 0
 
 -- an increment adds to the total and to the delta; sums are modulo 2 ^ 64
 abbrev pub incremented : ℕ → CounterState → CounterState
-incremented n s = counter_of mode.Added (in_64_bits (s.total + n)) (in_64_bits (s.delta + n)) (in_64_bits (s.updates + 1))
+incremented n s = counter_of mode.Incremented (in_64_bits (s.total + n)) (in_64_bits (s.delta + n)) (in_64_bits (s.updates + 1))
 
 -- an absolute value after an increment begins a new count: it becomes the total, and nothing is pending. After an absolute value it raises the total where it is greater, and the delta by as much
 abbrev pub absolute_in : CounterMode → ℕ → CounterState → CounterState
-absolute_in mode.Added n s = counter_of mode.Absolute n 0 (in_64_bits (s.updates + 1))
+absolute_in mode.Incremented n s = counter_of mode.Absolute n 0 (in_64_bits (s.updates + 1))
 absolute_in mode.Absolute n s = counter_of mode.Absolute (max s.total n) (in_64_bits (s.delta + (max s.total n - s.total))) (in_64_bits (s.updates + 1))
 
 abbrev pub absolute : ℕ → CounterState → CounterState
@@ -51,7 +51,7 @@ changed change.Flush s = flushed s
 
 -- a counter as four words
 abbrev pub code_of_mode : CounterMode → ℕ
-code_of_mode mode.Added = 0
+code_of_mode mode.Incremented = 0
 code_of_mode mode.Absolute = 1
 
 abbrev pub words_of_counter : CounterState → List ℕ

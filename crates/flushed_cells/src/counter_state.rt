@@ -6,28 +6,33 @@ ghost use Rattle.flushed_cells.specs.Counters.{words_of_counter, incremented, ab
 use crate::counter_calls::CounterChange;
 use crossbeam_utils::atomic::Words;
 
-/// Whether the last call on a counter added to it or set what it counts to.
+/// Which kind of update a counter had last.
 #[derive(Clone, Copy, Debug, PartialEq, Eq, Drop)]
 pub enum CounterMode {
-    /// The last call added.
-    Added,
-    /// The last call was absolute.
+    /// An increment. A new counter is in this mode too.
+    Incremented,
+    /// An absolute value.
     Absolute,
 }
 
 /// What a counter holds.
 #[derive(Clone, Copy, Debug, PartialEq, Eq, Drop)]
 pub struct CounterState {
+    /// Which kind of update came last.
     pub mode: CounterMode,
+    /// The last absolute value, raised by those after it and by increments, modulo 2^64. The next absolute value is compared
+    /// with it where the last update was absolute.
     pub total: u64,
+    /// What is pending: what the next flush answers.
     pub delta: u64,
+    /// The number of updates since the last flush, modulo 2^64.
     pub updates: u64,
 }
 
 impl CounterState {
     /// The state of a new counter.
     pub const START: CounterState = CounterState {
-        mode: CounterMode::Added,
+        mode: CounterMode::Incremented,
         total: 0,
         delta: 0,
         updates: 0,
@@ -52,7 +57,7 @@ impl CounterState {
         ensures { result ≡ incremented value self }
     {
         CounterState {
-            mode: CounterMode::Added,
+            mode: CounterMode::Incremented,
             total: self.total.wrapping_add(value),
             delta: self.delta.wrapping_add(value),
             updates: self.updates.wrapping_add(1),
@@ -63,7 +68,7 @@ impl CounterState {
         ensures { result ≡ absolute value self }
     {
         let (total, delta) = match self.mode {
-            CounterMode::Added => (value, 0),
+            CounterMode::Incremented => (value, 0),
             CounterMode::Absolute => {
                 let total = self.total.max(value);
                 (total, self.delta.wrapping_add(total - self.total))
@@ -83,7 +88,7 @@ impl Words<4> for CounterState {
 
     fn to_words(self) -> [u64; 4] {
         let mode = match self.mode {
-            CounterMode::Added => 0,
+            CounterMode::Incremented => 0,
             CounterMode::Absolute => 1,
         };
         [mode, self.total, self.delta, self.updates]
@@ -92,7 +97,7 @@ impl Words<4> for CounterState {
     fn from_words(bits: &[u64; 4]) -> CounterState {
         let [mode, total, delta, updates] = *bits;
         let mode = match mode {
-            0 => CounterMode::Added,
+            0 => CounterMode::Incremented,
             _ => CounterMode::Absolute,
         };
         CounterState {
