@@ -20,8 +20,8 @@ use Rattle.cell_lanes.specs.declared.lane.Lane.{Lane}
 use Rattle.cell_lanes.specs.declared.lane.Slot.{Slot}
 use Rattle.cell_lanes.specs.declared.lane.Job.{Job}
 use Rattle.cell_lanes.specs.Calls.{StandAs}
-use Rattle.cell_lanes.specs.Lanes.{Each, AtRest, Home, Same, Grew, AllFit, LineFit, Lends, Takes, cells_of, slot_calls, cell_calls, calls_on, slot_news, given, lent_on, all_given, done_of, JobRan, JobsRan}
-use Rattle.cell_lanes.proofs.Lists.{at_or, or_at, below_some}
+use Rattle.cell_lanes.specs.Lanes.{Each, AtRest, Home, Same, Grew, AllDone, AllFit, LineFit, Lends, Takes, cells_of, slot_calls, cell_calls, calls_on, all_calls_on, slot_news, given, lent_on, all_given, done_of, JobRan, JobsRan}
+use Rattle.cell_lanes.proofs.Lists.{at_or, or_at, below_some, take_whole}
 use Rattle.cell_lanes.proofs.Running.{take_none}
 
 in_at : (xs : List ℕ) (i j : ℕ) → get_elem? xs i ≡ some j → In j xs
@@ -125,6 +125,12 @@ module _ {K : Type 0} where
   calls_none j [] done l z = refl
   calls_none j (x ∷ xs) done zero z = ap (λ n. cell_calls j x.cells.items (take n x.lines.items)) z ∙ ap (cell_calls j x.cells.items) (take_none x.lines.items)
   calls_none j (x ∷ xs) done (suc l) z = calls_none j xs (λ k. done (suc k)) l z
+
+-- lanes that have made all their calls
+pub all_calls : {K : Type 0} (j : ℕ) (ls : List (Lane K)) (done : ℕ → ℕ) (l : ℕ) → AllDone ls done → calls_on j ls done l ≡ all_calls_on j ls l
+all_calls j [] done l all = refl
+all_calls j (x ∷ xs) done zero all = ap (cell_calls j x.cells.items) (take_whole x.lines.items (done 0) (let e = all 0 x refl in omega arith))
+all_calls j (x ∷ xs) done (suc l) all = all_calls j xs (λ k. done (suc k)) l (λ k y e. all (suc k) y e)
 
 -- no lane has made a call
 pub grew_none : {S K M : Type 0} (root : S → View M) (stands : K → List M → Type 0) (ls : List (Lane K)) (j : ℕ) (c : S) → Grew root stands ls (λ _. 0) j c c

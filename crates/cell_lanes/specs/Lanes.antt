@@ -31,6 +31,12 @@ module _ {K : Type 0} where
   calls_on j (x ∷ xs) done zero = cell_calls j x.cells.items (take (done 0) x.lines.items)
   calls_on j (x ∷ xs) done (suc l) = calls_on j xs (λ k. done (suc k)) l
 
+  -- what lane l asks for on cell j with all its lines
+  abbrev pub all_calls_on : ℕ → List (Lane K) → ℕ → List K
+  all_calls_on j [] l = []
+  all_calls_on j (x ∷ xs) zero = cell_calls j x.cells.items x.lines.items
+  all_calls_on j (x ∷ xs) (suc l) = all_calls_on j xs l
+
   -- each lane has made all its calls
   abbrev pub AllDone : List (Lane K) → (ℕ → ℕ) → Type 0
   AllDone lanes done = (l : ℕ) (x : Lane K) → get_elem? lanes l ≡ some x → done l ≡ length x.lines.items

@@ -1,2 +1,3 @@
 pub mod CellSteps
 pub mod GaugeSteps
+pub mod Played

@@ -1,3 +1,4 @@
 pub mod Values
 pub mod Cell
 pub mod Pass
+pub mod Series

@@ -8,13 +8,26 @@
 
 mod calls;
 mod counter;
+mod counter_series;
 mod faces;
 mod gauge;
+mod gauge_series;
+mod lent_counter;
+mod lent_gauge;
 mod pass;
+mod rounds;
 mod rules;
 mod views;
 
-pub use calls::ValueCall;
+pub use calls::{CounterCall, GaugeCall, ValueCall};
 pub use counter::PromCounter;
+pub use counter_series::CounterSeries;
 pub use gauge::PromGauge;
+pub use gauge_series::GaugeSeries;
+pub use lent_counter::LentCounter;
+pub use lent_gauge::LentGauge;
 pub use pass::CellPass;
+pub use rounds::{run_counters, run_gauges};
+
+#[cfg(test)]
+mod tests;

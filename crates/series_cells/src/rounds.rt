@@ -1,0 +1,59 @@
+//! Rounds of lanes over counters and over gauges.
+ghost use Rattle.std.specs.Prelude.{◌≡◌, ◌<◌, length, IfOk};
+ghost use mathlib.Core.Option.{some};
+ghost use lib.ListN.{get_elem?};
+ghost use Rattle.cell_lanes.specs.Lanes.{Roots, AtRest, AllFit, all_calls_on};
+ghost use Rattle.series_cells.specs.declared.counter_series.CounterSeries.{CounterSeries};
+ghost use Rattle.series_cells.specs.declared.gauge_series.GaugeSeries.{GaugeSeries};
+ghost use Rattle.series_cells.specs.Series.{counter_root, gauge_root, PlayedByCounter, PlayedByGauge};
+
+use crate::calls::{CounterCall, GaugeCall};
+use crate::counter_series::CounterSeries;
+use crate::gauge_series::GaugeSeries;
+use cell_lanes::{Lane, LaneHook, run_lanes};
+use metrics_core::{Fixed, Memory};
+use std::alloc::Global;
+use std::sync::Wait;
+use std::thread::Threads;
+
+/// Runs lanes side by side over counters, and reads the counter with this index. Its value is then that after the earlier calls
+/// and all calls of the lanes on it, in one order in which each lane's calls stand as the lane has them.
+pub fn run_counters<R: Threads + Wait + Sync, H: LaneHook + Sync>(
+    rt: &R,
+    alloc: Global,
+    hook: &H,
+    counters: &mut [CounterSeries],
+    lanes: &[Lane<CounterCall>],
+    index: usize,
+) -> Result<u64, Memory>
+    requires roots { Roots counter_root counters.old × AtRest counter_root counters.old }
+    requires fit { AllFit (length counters.old) lanes.now }
+    requires index { index < length counters.old }
+    ensures value { IfOk result (λ n. (c : CounterSeries) → get_elem? counters.old index ≡ some c → PlayedByCounter (all_calls_on index lanes.now) (counter_root c) n) }
+{
+    match run_lanes(rt, alloc, hook, counters, lanes) {
+        Ok(()) => Ok(counters[index].value()),
+        Err(refused) => Err(refused),
+    }
+}
+
+/// Runs lanes side by side over gauges, and reads the gauge with this index. Its value is then that after the earlier calls
+/// and all calls of the lanes on it, in one order in which each lane's calls stand as the lane has them.
+pub fn run_gauges<R: Threads + Wait + Sync, H: LaneHook + Sync>(
+    rt: &R,
+    alloc: Global,
+    hook: &H,
+    gauges: &mut [GaugeSeries],
+    lanes: &[Lane<GaugeCall>],
+    index: usize,
+) -> Result<Fixed, Memory>
+    requires roots { Roots gauge_root gauges.old × AtRest gauge_root gauges.old }
+    requires fit { AllFit (length gauges.old) lanes.now }
+    requires index { index < length gauges.old }
+    ensures value { IfOk result (λ n. (c : GaugeSeries) → get_elem? gauges.old index ≡ some c → PlayedByGauge (all_calls_on index lanes.now) (gauge_root c) n.0) }
+{
+    match run_lanes(rt, alloc, hook, gauges, lanes) {
+        Ok(()) => Ok(gauges[index].value()),
+        Err(refused) => Err(refused),
+    }
+}
