@@ -5,3 +5,4 @@ pub mod Gauges
 pub mod Totals
 pub mod Cells
 pub mod Series
+pub mod Rounds

@@ -19,6 +19,7 @@ pub mod laws;
 mod lent_counter;
 mod lent_gauge;
 mod pass;
+mod rounds;
 mod rule;
 #[cfg(test)]
 mod tests;
@@ -34,3 +35,4 @@ pub use gauge_state::GaugeState;
 pub use lent_counter::LentDsdCounter;
 pub use lent_gauge::LentDsdGauge;
 pub use pass::DsdPass;
+pub use rounds::{run_counters, run_gauges};
