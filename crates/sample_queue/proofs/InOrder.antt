@@ -34,3 +34,8 @@ module _ {T : Type 0} where
   alone P v w (Some e) m root none items run =
       let t = m.0 in
       ap front (sym t.5) ∙ ap front (one_end [] [] (calls v.seen) t.1 items refl (subst (λ (l : List (EntryOf (QueueCall T))). Runs QueueStep [] (calls l) t.1) (t.3.whole root none).0 t.4) run)
+
+  -- with no other pass out, a pop finds what the history leaves
+  pub found : (v w : View (QueueCall T)) (r : Option (Entry T)) → MatchOption r ((w ≡ v) × Told QueueStep [] v []) (λ e. Made QueueStep [] (Pop e) v w) → v.number ≡ 0 → v.out ≡ 0 → (items : List (Entry T)) × Runs QueueStep [] (calls v.seen) items × (r ≡ front items)
+  found v w None m root none = let t = m.1 in ([], subst (λ (l : List (EntryOf (QueueCall T))). Runs QueueStep [] (calls l) []) (t.1.whole root none).0 t.2, refl)
+  found v w (Some e) m root none = (m.1, subst (λ (l : List (EntryOf (QueueCall T))). Runs QueueStep [] (calls l) m.1) (m.3.whole root none).0 m.4, ap front (sym m.5))

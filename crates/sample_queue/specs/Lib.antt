@@ -2,3 +2,4 @@ pub mod Queues
 pub mod Passes
 pub mod Histograms
 pub mod Series
+pub mod Rounds

@@ -11,6 +11,7 @@ pub mod laws;
 mod lent;
 mod pass;
 mod queue;
+mod rounds;
 mod rule;
 mod series;
 #[cfg(test)]
@@ -21,4 +22,5 @@ pub use histograms::{DsdHistogram, PromHistogram};
 pub use lent::LentQueue;
 pub use pass::SamplePass;
 pub use queue::SampleQueue;
+pub use rounds::run_queues;
 pub use series::QueueSeries;
