@@ -1,5 +1,5 @@
 -- The test of two states tells whether they are one state.
-use Rattle.std.proofs.Common.{◌≡◌, ℕ, Bool, true, false, ◌&&◌, refl, sym, ap, ◌∙◌, subst, eqb, eq-eqb, true≢false, rules}
+use Rattle.std.proofs.Common.{◌≡◌, Bool, true, false, ◌&&◌, refl, sym, ap, ◌∙◌, subst, eqb, eq-eqb, true≢false, rules}
 use Rattle.std.proofs.lemmas.Bool.{eqb-true}
 use denote.Enum.Bare.{sameb, same_true, true_same}
 use Rattle.flushed_cells.specs.declared.counter_state.CounterState.{CounterState}

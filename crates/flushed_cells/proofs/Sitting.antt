@@ -1,13 +1,13 @@
 -- Each step of a pass keeps the passes on their seats.
-use Rattle.std.proofs.Common.{◌≡◌, ◌≢◌, ℕ, ◌+◌, ◌<◌, ◌⊎◌, Bool, true, false, List, [], ◌∷◌, ◌++◌, set, length, refl, sym, ap, ◌∙◌, subst, ⊎_elim, arith, true≢false, if◌then◌else◌}
+use Rattle.std.proofs.Common.{◌≡◌, ◌≢◌, ℕ, ◌<◌, Bool, true, false, List, [], ◌∷◌, ◌++◌, set, length, refl, sym, ap, ◌∙◌, subst, ⊎_elim, arith, true≢false, if◌then◌else◌}
 use Rattle.std.proofs.Math.ListN.{length-set}
-use mathlib.Core.Option.{some, some-injective, some-ne-none}
+use mathlib.Core.Option.{some, some-injective}
 use lib.ListN.{get_elem?}
 use Rattle.atomic_table.proofs.Lists.{at_set, set_here, set_else, set_again, at_longer, at_last}
 use Rattle.legal_history.specs.declared.history.View.{View}
 use Rattle.legal_history.specs.History.{first, nobody, lender, child, taker, after}
-use Rattle.legal_history.specs.Object.{Keeps, Made, Told}
-use Rattle.legal_history.proofs.Steps.{some_below, one_at, at_snoc_index}
+use Rattle.legal_history.specs.Object.{Told}
+use Rattle.legal_history.proofs.Steps.{some_below, at_snoc_index}
 use Rattle.legal_history.proofs.Objects.{turn, tells, forks, merges, opens}
 use Rattle.flushed_cells.specs.Seats.{Sit, Seated, Exchanged}
 

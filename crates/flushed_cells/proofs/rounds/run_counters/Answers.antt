@@ -1,4 +1,4 @@
-use Rattle.std.proofs.Common.{◌≡◌, ℕ, List, ◌<◌, length, ap, ◌∙◌, subst, arith}
+use Rattle.std.proofs.Common.{List, ◌<◌, length, ap, ◌∙◌, subst, arith}
 use Rattle.std.specs.Prelude.{slice_index_or}
 use Rattle.legal_history.specs.History.{calls}
 use Rattle.legal_history.specs.Object.{Runs}
@@ -8,7 +8,7 @@ use Rattle.cell_lanes.proofs.Jobs.{all_calls}
 use Rattle.flushed_cells.specs.declared.counter_calls.CounterCall.{CounterCall}
 use Rattle.flushed_cells.specs.declared.counter_calls.CounterChange.{CounterChange}
 use Rattle.flushed_cells.specs.Counters.{CounterStep, counter_start}
-use Rattle.flushed_cells.specs.Series.{counter_root, StandsAsCounter}
+use Rattle.flushed_cells.specs.Series.{StandsAsCounter}
 use Rattle.flushed_cells.proofs.rounds.run_counters.Goals as goal
 
 pub run_lanes-requires-clause-taken : goal.run_lanes-requires-clause-taken

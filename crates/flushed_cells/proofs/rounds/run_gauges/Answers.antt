@@ -1,4 +1,4 @@
-use Rattle.std.proofs.Common.{◌≡◌, ℕ, List, ◌<◌, length, ap, ◌∙◌, subst, arith}
+use Rattle.std.proofs.Common.{List, ◌<◌, length, ap, ◌∙◌, subst, arith}
 use Rattle.std.specs.Prelude.{slice_index_or}
 use Rattle.legal_history.specs.History.{calls}
 use Rattle.legal_history.specs.Object.{Runs}
@@ -8,7 +8,7 @@ use Rattle.cell_lanes.proofs.Jobs.{all_calls}
 use Rattle.flushed_cells.specs.declared.gauge_calls.GaugeCall.{GaugeCall}
 use Rattle.flushed_cells.specs.declared.gauge_calls.GaugeChange.{GaugeChange}
 use Rattle.flushed_cells.specs.Gauges.{GaugeStep, gauge_start}
-use Rattle.flushed_cells.specs.Series.{gauge_root, StandsAsGauge}
+use Rattle.flushed_cells.specs.Series.{StandsAsGauge}
 use Rattle.flushed_cells.proofs.rounds.run_gauges.Goals as goal
 
 pub run_lanes-requires-clause-taken : goal.run_lanes-requires-clause-taken

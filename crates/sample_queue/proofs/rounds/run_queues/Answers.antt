@@ -1,6 +1,5 @@
-use Rattle.std.proofs.Common.{◌≡◌, ℕ, List, [], ◌<◌, length, ap, ◌∙◌, subst, arith}
+use Rattle.std.proofs.Common.{List, [], ◌<◌, length, subst, arith}
 use Rattle.std.specs.Prelude.{slice_index_or}
-use Rattle.legal_history.specs.History.{calls}
 use Rattle.legal_history.specs.Object.{Runs}
 use Rattle.cell_lanes.proofs.Lists.{at_or}
 use Rattle.sample_queue.specs.declared.calls.QueueCall.{QueueCall}

@@ -1,6 +1,4 @@
-use Rattle.std.proofs.Common.{◌≡◌, true, false, refl, sym, ◌∙◌, subst, rules}
-use Rattle.legal_history.specs.declared.history.View.{View}
-use Rattle.flushed_cells.specs.declared.counter_calls.CounterCall.{CounterCall}
+use Rattle.std.proofs.Common.{sym, subst, rules}
 use Rattle.flushed_cells.specs.declared.counter_state.CounterState.{CounterState}
 use Rattle.flushed_cells.specs.Counters.{CounterStep, counter_start, answered}
 use Rattle.flushed_cells.proofs.Alike.{same_counter, counters_alike, counters_unlike}

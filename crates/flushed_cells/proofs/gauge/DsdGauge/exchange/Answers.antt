@@ -1,6 +1,4 @@
-use Rattle.std.proofs.Common.{◌≡◌, true, false, refl, sym, ◌∙◌, subst, rules}
-use Rattle.legal_history.specs.declared.history.View.{View}
-use Rattle.flushed_cells.specs.declared.gauge_calls.GaugeCall.{GaugeCall}
+use Rattle.std.proofs.Common.{sym, subst, rules}
 use Rattle.flushed_cells.specs.declared.gauge_state.GaugeState.{GaugeState}
 use Rattle.flushed_cells.specs.Gauges.{GaugeStep, gauge_start, answered}
 use Rattle.flushed_cells.proofs.Alike.{same_gauge, gauges_alike, gauges_unlike}

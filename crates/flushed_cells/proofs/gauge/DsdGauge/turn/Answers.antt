@@ -1,9 +1,6 @@
-use Rattle.std.proofs.Common.{ap, ◌∙◌, subst, rules}
-use Rattle.legal_history.specs.declared.history.View.{View}
-use Rattle.legal_history.specs.Object.{Made}
+use Rattle.std.proofs.Common.{◌∙◌, rules}
 use Rattle.crossbeam_utils.specs.Seq.{cell_view}
-use Rattle.flushed_cells.specs.declared.gauge_calls.GaugeCall.{GaugeCall}
-use Rattle.flushed_cells.specs.Gauges.{GaugeStep, gauge_start, answered}
+use Rattle.flushed_cells.specs.Gauges.{GaugeStep, gauge_start}
 use Rattle.flushed_cells.proofs.Sitting.{peeks}
 use Rattle.flushed_cells.proofs.gauge.DsdGauge.turn.Goals as goal
 
