@@ -24,7 +24,7 @@ use Rattle.cell_lanes.specs.Lanes.{Each, AtRest, Home, Same, Grew, AllDone, AllF
 use Rattle.cell_lanes.proofs.Lists.{at_or, or_at, below_some, take_whole}
 use Rattle.cell_lanes.proofs.Running.{take_none}
 
-in_at : (xs : List ℕ) (i j : ℕ) → get_elem? xs i ≡ some j → In j xs
+pub in_at : (xs : List ℕ) (i j : ℕ) → get_elem? xs i ≡ some j → In j xs
 in_at [] i j e = absurd (some-ne-none j (sym e))
 in_at (x ∷ xs) zero j e = inl (sym (some-injective x j e))
 in_at (x ∷ xs) (suc i) j e = inr (in_at xs i j e)

@@ -5,11 +5,13 @@
 //! that the lanes made, in one order in which each lane's calls stand as the lane made them.
 #![tactic(auto)]
 
+mod fit;
 mod hook;
 mod lane;
 mod lender;
 mod round;
 
+pub use fit::{lane_fits, lanes_fit};
 pub use hook::{LaneHook, NoHook};
 pub use lane::{Job, Lane, Line, Slot};
 pub use lender::Lender;

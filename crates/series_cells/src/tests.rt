@@ -1,8 +1,13 @@
 //! Worked rows of counters and gauges.
 
-use crate::{PromCounter, PromGauge};
+use crate::{
+    CounterCall, CounterSeries, GaugeCall, GaugeSeries, PromCounter, PromGauge, run_counters,
+    run_gauges,
+};
+use cell_lanes::{Lane, Line, NoHook, lanes_fit};
 use metrics_core::Fixed;
 use metrics_facade::{CounterFn, GaugeFn};
+use std::alloc::{AllocFailed, Global};
 use std::test::Fail;
 
 #[test]
@@ -38,5 +43,56 @@ fn a_gauge_moves(rt: HostRuntime) -> Result<(), Fail> {
     gauge.decrement(&mut root, Fixed(1));
     let wrapped = gauge.load(&mut root);
     assert!(rt; wrapped == Fixed(i64::MAX));
+    Ok(())
+}
+
+/// Two lanes that make these calls so often, on the first one.
+fn two_lanes<K: Copy + Drop>(
+    alloc: Global,
+    calls: [K; 2],
+    times: usize,
+) -> Result<Vec<Lane<K>>, Fail> {
+    let mut lanes = Vec::new(alloc);
+    for call in calls {
+        let mut lines = Vec::new(alloc);
+        for _ in 0..times {
+            lines.push(Line { slot: 0, call })?;
+        }
+        lanes.push(Lane {
+            cells: vec![in alloc; 0usize]?,
+            lines,
+        })?;
+    }
+    Ok(lanes)
+}
+
+#[test]
+fn two_threads_count_to_two_thousand(rt: HostRuntime) -> Result<(), Fail> {
+    let mut counters = [CounterSeries::new(rt.alloc())?];
+    let lanes = two_lanes(
+        rt.alloc(),
+        [CounterCall::Increment(1), CounterCall::Increment(1)],
+        1000,
+    )?;
+    assert!(rt; lanes_fit(lanes.as_slice(), 1));
+    let value = run_counters(&rt, rt.alloc(), &NoHook, &mut counters, lanes.as_slice(), 0)?;
+    assert!(rt; value == 2000);
+    Ok(())
+}
+
+#[test]
+fn two_threads_move_a_gauge(rt: HostRuntime) -> Result<(), Fail> {
+    let mut gauges = [GaugeSeries::new(rt.alloc())?];
+    let lanes = two_lanes(
+        rt.alloc(),
+        [
+            GaugeCall::Increment(Fixed(3)),
+            GaugeCall::Decrement(Fixed(5)),
+        ],
+        1000,
+    )?;
+    assert!(rt; lanes_fit(lanes.as_slice(), 1));
+    let value = run_gauges(&rt, rt.alloc(), &NoHook, &mut gauges, lanes.as_slice(), 0)?;
+    assert!(rt; value == Fixed(-2000));
     Ok(())
 }

@@ -1,0 +1,12 @@
+use Rattle.std.proofs.Common.{◌≡◌, ◌<◌, ◌≤◌, ℕ, take}
+use mathlib.Core.Option.{some}
+use lib.ListN.{get_elem?}
+use Rattle.legal_history.specs.History.{In, Distinct}
+use Rattle.cell_lanes.proofs.fit.ascend_below.Given as goal
+
+abbrev pub invariant-loop-cell : goal.invariant-loop-cell
+invariant-loop-cell l = record {
+  once : Distinct (take l.cell-index l.cells);
+  below : (t : ℕ) → In t (take l.cell-index l.cells) → t < l.next;
+  next : l.next ≤ l.count;
+}
