@@ -2,7 +2,11 @@
 
 ghost use Rattle.flushed_cells.specs.Cells.{IsCounterPass};
 
-use crate::{CounterChange, CounterPass, DsdCounter, DsdGauge, GaugeChange, GaugePass};
+use crate::{
+    CounterChange, CounterPass, DsdCounter, DsdCounterSeries, DsdGauge, DsdGaugeSeries,
+    GaugeChange, GaugePass, run_counters, run_gauges,
+};
+use cell_lanes::{Lane, Line, NoHook, lanes_fit};
 use metrics_core::{Fixed, GaugeValue, Memory};
 use std::alloc::Global;
 use std::sync::Wait;
@@ -152,6 +156,48 @@ fn added_side_by_side<R: Threads + Wait + Sync>(
 #[test]
 fn no_increment_is_lost(rt: HostRuntime) -> Result<(), Fail> {
     assert_eq!(rt; added_side_by_side(&rt, rt.alloc())?, (2000, 2000));
+    Ok(())
+}
+
+/// Two lanes that make these calls so often, on the first cell.
+fn two_lanes<K: Copy + Drop>(
+    alloc: Global,
+    calls: [K; 2],
+    times: usize,
+) -> Result<Vec<Lane<K>>, Fail> {
+    let mut lanes = Vec::new(alloc);
+    for call in calls {
+        let mut lines = Vec::new(alloc);
+        for _ in 0..times {
+            lines.push(Line { slot: 0, call })?;
+        }
+        lanes.push(Lane {
+            cells: vec![in alloc; 0usize]?,
+            lines,
+        })?;
+    }
+    Ok(lanes)
+}
+
+#[test]
+fn lanes_count_side_by_side(rt: HostRuntime) -> Result<(), Fail> {
+    let mut counters = [DsdCounterSeries::new(rt.alloc())?];
+    let lanes = two_lanes(rt.alloc(), [CounterChange::Increment(3); 2], 1000)?;
+    assert!(rt; lanes_fit(lanes.as_slice(), 1));
+    let answer = run_counters(&rt, rt.alloc(), &NoHook, &mut counters, lanes.as_slice(), 0)?;
+    assert!(rt; answer == (6000, 2000));
+    Ok(())
+}
+
+#[test]
+fn lanes_move_a_gauge_side_by_side(rt: HostRuntime) -> Result<(), Fail> {
+    let mut gauges = [DsdGaugeSeries::new(rt.alloc())?];
+    let add = GaugeChange::Update(GaugeValue::Increment(Fixed(3)));
+    let take = GaugeChange::Update(GaugeValue::Decrement(Fixed(5)));
+    let lanes = two_lanes(rt.alloc(), [add, take], 1000)?;
+    assert!(rt; lanes_fit(lanes.as_slice(), 1));
+    let answer = run_gauges(&rt, rt.alloc(), &NoHook, &mut gauges, lanes.as_slice(), 0)?;
+    assert!(rt; answer == (Fixed(-2000), 2000));
     Ok(())
 }
 

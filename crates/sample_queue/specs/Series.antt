@@ -1,13 +1,14 @@
 -- Queues that a state keeps and lends.
-use Rattle.std.specs.Prelude.{◌≡◌, ◌<◌, List, [], ◌∷◌}
+use Rattle.std.specs.Prelude.{◌≡◌, List, [], ◌∷◌, ⊤}
 use Rattle.std.specs.Arc.{arc_value}
 use Rattle.legal_history.specs.declared.history.View.{View}
-use Rattle.sample_queue.specs.declared.calls.Entry.{Entry}
 use Rattle.sample_queue.specs.declared.calls.QueueCall.{QueueCall}
 use Rattle.sample_queue.specs.declared.calls.QueueCall.TheVariants.{Push}
 use Rattle.sample_queue.specs.declared.pass.SamplePass.{SamplePass}
 use Rattle.sample_queue.specs.declared.queue.SampleQueue.{SampleQueue}
 use Rattle.sample_queue.specs.declared.series.QueueSeries.{QueueSeries}
+use Rattle.sample_queue.specs.declared.series.Sample.{Sample}
+use Rattle.sample_queue.specs.Queues.{entry_of}
 use Rattle.sample_queue.specs.declared.lent.LentQueue.{LentQueue}
 use Rattle.sample_queue.specs.Passes.{view_of}
 
@@ -29,10 +30,13 @@ module _ {T : Type 0} where
   abbrev pub queue_of : LentQueue T → SampleQueue T
   queue_of l = arc_value l.cell
 
-  -- an entry stands as its push
-  abbrev pub IsPush : Entry T → List (QueueCall T) → Type 0
-  IsPush entry made = made ≡ Push entry ∷ []
+  -- a sample stands as its push
+  abbrev pub push_of : Sample T → QueueCall T
+  push_of s = Push (entry_of s.item s.count)
 
-  -- it stands for at least one sample
-  abbrev pub IsSample : Entry T → Type 0
-  IsSample entry = 0 < entry.count
+  abbrev pub IsPush : Sample T → List (QueueCall T) → Type 0
+  IsPush s made = made ≡ push_of s ∷ []
+
+  -- a queue takes each sample
+  abbrev pub AnySample : SampleQueue T → Sample T → Type 0
+  AnySample queue s = ⊤

@@ -23,4 +23,4 @@ pub use lent::LentQueue;
 pub use pass::SamplePass;
 pub use queue::SampleQueue;
 pub use rounds::run_queues;
-pub use series::QueueSeries;
+pub use series::{QueueSeries, Sample};

@@ -1,5 +1,5 @@
 //! A queue that a state keeps and lends, and the lanes that push on it.
-ghost use Rattle.std.specs.Prelude.{◌≡◌};
+ghost use Rattle.std.specs.Prelude.{◌≡◌, ◌<◌};
 ghost use Rattle.std.specs.Arc.{arc_value};
 ghost use Rattle.crossbeam_queue.specs.SegTies.{IsSegPassOf};
 
@@ -11,6 +11,16 @@ use cell_lanes::Lender;
 use metrics_core::Memory;
 use std::alloc::Global;
 use std::sync::{Arc, Wait};
+
+/// What a lane pushes: an item that stands for one sample or more.
+#[derive(Debug, Drop)]
+pub struct Sample<T> {
+    /// What is recorded.
+    pub item: T,
+    /// How often.
+    pub count: u32,
+    ghost some: { 0 < count },
+}
 
 /// A queue in an `Arc`, with its root pass.
 #[derive(Drop)]
@@ -52,11 +62,11 @@ impl<T: Drop> QueueSeries<T> {
 }
 
 impl<T: Copy + Drop + Send + Sync> Lender for QueueSeries<T> {
-    ghost use Rattle.sample_queue.specs.Series.{queue_root, queue_cell, queue_known, queue_of, IsPush, IsSample};
+    ghost use Rattle.sample_queue.specs.Series.{queue_root, queue_cell, queue_known, queue_of, IsPush, AnySample};
 
     type Lent = LentQueue<T>;
 
-    type Call = Entry<T>;
+    type Call = Sample<T>;
 
     type Entry = QueueCall<T>;
 
@@ -70,7 +80,7 @@ impl<T: Copy + Drop + Send + Sync> Lender for QueueSeries<T> {
 
     ghost owns = { λ cell lent. queue_of lent ≡ cell };
 
-    ghost takes = { λ cell entry. IsSample entry };
+    ghost takes = { AnySample };
 
     ghost stands_as = { IsPush };
 
@@ -89,7 +99,7 @@ impl<T: Copy + Drop + Send + Sync> Lender for QueueSeries<T> {
         rt: &R,
         alloc: Global,
         lent: &mut LentQueue<T>,
-        call: &Entry<T>,
+        call: &Sample<T>,
     ) -> Result<(), Memory> {
         lent.push(rt, alloc, call.item, call.count)
     }

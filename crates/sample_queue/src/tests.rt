@@ -3,7 +3,10 @@
 ghost use Rattle.std.specs.Thread.{IsSync};
 ghost use Rattle.sample_queue.specs.Passes.{IsSamplePass};
 
-use crate::{DsdHistogram, Entry, PromHistogram, SamplePass, SampleQueue};
+use crate::{
+    DsdHistogram, Entry, PromHistogram, QueueSeries, Sample, SamplePass, SampleQueue, run_queues,
+};
+use cell_lanes::{Lane, Line, NoHook, lanes_fit};
 use metrics_core::{Fixed, Memory};
 use metrics_facade::HistogramFn;
 use std::alloc::Global;
@@ -140,6 +143,28 @@ fn no_item_is_lost_or_repeated(rt: HostRuntime) -> Result<(), Fail> {
     let (items, is_empty) = drained_side_by_side(&rt, rt.alloc())?;
     assert_eq!(rt; in_order(items.as_slice()), Some((500, 500)));
     assert!(rt; is_empty);
+    Ok(())
+}
+
+#[test]
+fn lanes_push_side_by_side(rt: HostRuntime) -> Result<(), Fail> {
+    let alloc = rt.alloc();
+    let mut queues = [QueueSeries::new(alloc)?];
+    let mut lanes = Vec::new(alloc);
+    for item in [5u8, 7] {
+        let mut lines = Vec::new(alloc);
+        lines.push(Line {
+            slot: 0,
+            call: Sample { item, count: 2 },
+        })?;
+        lanes.push(Lane {
+            cells: vec![in alloc; 0usize]?,
+            lines,
+        })?;
+    }
+    assert!(rt; lanes_fit(lanes.as_slice(), 1));
+    let front = run_queues(&rt, alloc, &NoHook, &mut queues, lanes.as_slice(), 0)?;
+    assert!(rt; front.is_some_and(|entry| entry.count == 2));
     Ok(())
 }
 

@@ -9,6 +9,9 @@ use Rattle.sample_queue.proofs.InOrder.{found}
 use Rattle.sample_queue.proofs.Pushed.{round_pushes}
 use Rattle.sample_queue.proofs.rounds.run_queues.Goals as goal
 
+pub run_lanes-requires-clause-taken : goal.run_lanes-requires-clause-taken
+run_lanes-requires-clause-taken g c κs within = λ l a k x j s e f h i. tt
+
 pub returns-in-Ok : goal.returns-in-Ok
 returns-in-Ok g c = record {
   given = λ s e.
