@@ -1,6 +1,6 @@
 //! A queue of samples that threads share.
 
-ghost use Rattle.std.specs.Prelude.{◌≡◌, ◌<◌, [], List, Option, Some, None, Ok, MatchOption, IfOk, IfSome, OnOk, OnErr};
+ghost use Rattle.std.specs.Prelude.{◌≡◌, ◌<◌, [], List, Ok, MatchOption, IfOk, OnOk, OnErr};
 ghost use Rattle.legal_history.specs.Object.{Made, Told, Runs};
 ghost use Rattle.legal_history.specs.History.{Settled, calls, first, lender, child, taker};
 ghost use Rattle.sample_queue.specs.Queues.{QueueStep, front, entry_of};

@@ -31,7 +31,7 @@ pub struct QueueSeries<T: Drop> {
 }
 
 impl<T: Drop> QueueSeries<T> {
-    ghost use Rattle.std.specs.Prelude.{IfOk, Option, MatchOption, []};
+    ghost use Rattle.std.specs.Prelude.{IfOk, MatchOption, []};
     ghost use Rattle.legal_history.specs.History.{first, Settled};
     ghost use Rattle.legal_history.specs.Object.{Made, Told};
     ghost use Rattle.sample_queue.specs.Queues.{QueueStep};
