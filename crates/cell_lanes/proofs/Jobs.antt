@@ -1,5 +1,5 @@
 -- What a round adds to the history of one thing.
-use Rattle.std.proofs.Common.{◌≡◌, ◌≢◌, ℕ, zero, suc, ◌+◌, ◌-◌, ◌<◌, ◌≤◌, ◌==◌, ◌⊎◌, Bool, true, false, List, [], ◌∷◌, ◌++◌, length, take, refl, sym, ap, ◌∙◌, subst, inl, inr, ⊎_elim, arith, eq-eqb, ne_eqb, length-append, lt_of_not-le}
+use Rattle.std.proofs.Common.{◌≡◌, ◌≢◌, ℕ, zero, suc, ◌+◌, ◌<◌, ◌≤◌, ◌==◌, ◌⊎◌, Bool, true, false, List, [], ◌∷◌, ◌++◌, length, take, refl, sym, ap, ◌∙◌, subst, inl, inr, ⊎_elim, arith, eq-eqb, ne_eqb, length-append, lt_of_not-le}
 use Rattle.std.specs.Prelude.{slice_index}
 use mathlib.Core.Option.{some, some-ne-none, some-injective}
 use mathlib.Core.Logic.{dite}
@@ -11,7 +11,7 @@ use Rattle.std.proofs.lemmas.List.{append-nil}
 use Rattle.legal_history.specs.declared.history.Held.{Held}
 use Rattle.legal_history.specs.declared.history.View.{View}
 use Rattle.legal_history.specs.History.{In, Distinct, calls, held, keep, Settled}
-use Rattle.legal_history.specs.Order.{flag, times, GrewInOrder}
+use Rattle.legal_history.specs.Order.{flag, times}
 use Rattle.legal_history.specs.News.{helds, lanes, lane_calls}
 use Rattle.legal_history.proofs.Steps.{some_below, one_at}
 use Rattle.legal_history.proofs.Rounds.{Mem, calls_is, find_lane, grew}
@@ -20,7 +20,7 @@ use Rattle.cell_lanes.specs.declared.lane.Lane.{Lane}
 use Rattle.cell_lanes.specs.declared.lane.Slot.{Slot}
 use Rattle.cell_lanes.specs.declared.lane.Job.{Job}
 use Rattle.cell_lanes.specs.Calls.{StandAs}
-use Rattle.cell_lanes.specs.Lanes.{Each, AtRest, Home, Same, Grew, AllDone, AllFit, LineFit, Lends, Takes, cells_of, slot_calls, cell_calls, calls_on, all_calls_on, slot_news, given, lent_on, all_given, done_of, JobRan, JobsRan}
+use Rattle.cell_lanes.specs.Lanes.{Each, AtRest, Home, Same, Grew, AllDone, AllFit, LineFit, Lends, Takes, cells_of, slot_calls, cell_calls, calls_on, all_calls_on, slot_news, given, lent_on, all_given, done_of, JobsRan}
 use Rattle.cell_lanes.proofs.Lists.{at_or, or_at, below_some, take_whole}
 use Rattle.cell_lanes.proofs.Running.{take_none}
 

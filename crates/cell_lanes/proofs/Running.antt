@@ -1,5 +1,5 @@
 -- What the calls of a lane do to its passes.
-use Rattle.std.proofs.Common.{◌≡◌, ◌≢◌, ℕ, zero, suc, ◌+◌, ◌<◌, ◌≤◌, ◌==◌, ◌⊎◌, Bool, true, false, List, [], ◌∷◌, ◌++◌, length, take, set, refl, sym, ap, ◌∙◌, subst, inl, inr, ⊎_elim, arith, eq-eqb, ne_eqb, append_assoc}
+use Rattle.std.proofs.Common.{◌≡◌, ◌≢◌, ℕ, zero, suc, ◌+◌, ◌<◌, ◌==◌, List, [], ◌∷◌, ◌++◌, length, take, set, refl, sym, ap, ◌∙◌, subst, inl, inr, ⊎_elim, arith, eq-eqb, ne_eqb, append_assoc}
 use Rattle.std.proofs.Math.ListN.{length-set}
 use Rattle.std.proofs.lemmas.List.{append-nil}
 use mathlib.Core.Option.{some, some-ne-none, some-injective}
@@ -15,7 +15,7 @@ use Rattle.cell_lanes.specs.declared.lane.Lane.{Lane}
 use Rattle.cell_lanes.specs.declared.lane.Slot.{Slot}
 use Rattle.cell_lanes.specs.declared.lane.Job.{Job}
 use Rattle.cell_lanes.specs.Calls.{Made, StandAs}
-use Rattle.cell_lanes.specs.Lanes.{Owns, SlotsFit, lent_on, slot_calls, cells_of, SlotsKept, Fresh, SlotsMade, Each, Lends, Stays, AllTaken, LineFit, LaneReady, LaneRan, JobRan, JobsFit, JobsFresh, JobsRan, Fit}
+use Rattle.cell_lanes.specs.Lanes.{Owns, SlotsFit, lent_on, slot_calls, cells_of, SlotsKept, Fresh, SlotsMade, Each, Lends, Stays, AllTaken, LaneReady, LaneRan, JobRan, JobsFit, JobsFresh, JobsRan, Fit}
 use Rattle.cell_lanes.proofs.Lists.{below_some}
 
 pub take_none : {A : Type 0} (xs : List A) → take 0 xs ≡ []

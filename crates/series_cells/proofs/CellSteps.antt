@@ -7,11 +7,9 @@ use native.Mathlib.Decide.{ℕ_discrete}
 use lib.ListN.{get_elem?}
 use Rattle.atomic_table.specs.Table.{State, keeps, Allows, Splits, Joins}
 use Rattle.atomic_table.proofs.Lists.{at_set, at_snoc, at_map, set_again}
-use Rattle.legal_history.specs.declared.history.Entry.{Entry}
-use Rattle.legal_history.specs.declared.history.View.{View}
 use Rattle.legal_history.specs.History.{In, calls, said, after, looked, child, taker, nobody, Legal}
 use Rattle.legal_history.specs.Order.{flag}
-use Rattle.legal_history.specs.Object.{Runs, Keeps}
+use Rattle.legal_history.specs.Object.{Runs}
 use Rattle.legal_history.proofs.Lists.{calls-append}
 use Rattle.legal_history.proofs.Steps.{step as step_legal, look, lend, take_back, begins, sees, settled, one_at, empty_list}
 use Rattle.legal_history.proofs.Objects.{runs_more}

@@ -1,6 +1,6 @@
 -- What an atomic step does to a gauge's word, and to the value that the word stands for.
-use Rattle.std.proofs.Common.{◌≡◌, ℕ, ◌+◌, ◌-◌, ◌%◌, ◌^◌, ◌<◌, ℤ, refl, sym, ap}
-use Rattle.std.specs.Int.{w64, cast_signed, cast_unsigned}
+use Rattle.std.proofs.Common.{◌≡◌, ℕ, ◌+◌, ◌-◌, ◌%◌, ◌^◌, ◌<◌, refl}
+use Rattle.std.specs.Int.{w64, cast_signed}
 use Rattle.std.proofs.lemmas.Int.{of_z-to_z}
 use Rattle.series_cells.specs.declared.calls.ValueCall.TheVariants.{Add, Subtract, Set}
 use Rattle.series_cells.specs.Values.{gauge_step, signed, billionths}

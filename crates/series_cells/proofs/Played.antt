@@ -1,8 +1,8 @@
 -- What lanes asked for, as it stands in the history of a counter or a gauge.
-use Rattle.std.proofs.Common.{◌≡◌, ℕ, List, [], ◌∷◌, ◌++◌, map, refl, sym, ap, ◌∙◌, subst}
+use Rattle.std.proofs.Common.{◌≡◌, ℕ, List, [], ◌∷◌, ◌++◌, map, ap, ◌∙◌, subst}
 use Rattle.legal_history.specs.declared.history.View.{View}
 use Rattle.legal_history.specs.History.{calls}
-use Rattle.legal_history.specs.Order.{taken, IsOrder, GrewInOrder}
+use Rattle.legal_history.specs.Order.{taken, IsOrder}
 use Rattle.cell_lanes.specs.declared.lane.Lane.{Lane}
 use Rattle.cell_lanes.specs.Calls.{StandAs}
 use Rattle.cell_lanes.specs.Lanes.{AllDone, Grew, calls_on, all_calls_on}

@@ -1,5 +1,5 @@
 -- The one-thread objects of a counter and of a gauge: their value after a list of calls.
-use Rattle.std.specs.Prelude.{◌≡◌, ℕ, List, map, fold, ℤ, pos}
+use Rattle.std.specs.Prelude.{ℕ, List, map, ℤ}
 use Rattle.std.specs.Int.{w64, cast_signed}
 use Rattle.metrics_core.specs.declared.numbers.Fixed.{Fixed}
 use Rattle.metrics_core.specs.Calls as calls

@@ -1,6 +1,4 @@
-use Rattle.std.proofs.Common.{◌≡◌, ◌<◌, ◌≤◌, ℕ, take}
-use mathlib.Core.Option.{some}
-use lib.ListN.{get_elem?}
+use Rattle.std.proofs.Common.{◌<◌, ◌≤◌, ℕ, take}
 use Rattle.legal_history.specs.History.{In, Distinct}
 use Rattle.cell_lanes.proofs.fit.ascend_below.Given as goal
 

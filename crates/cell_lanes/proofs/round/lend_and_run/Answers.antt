@@ -1,7 +1,7 @@
-use Rattle.std.proofs.Common.{◌≡◌, ◌≤◌, ◌++◌, length, take, drop, sym, ap, ◌∙◌, subst, arith}
+use Rattle.std.proofs.Common.{◌≡◌, ◌≤◌, length, drop, sym, ap, ◌∙◌, subst, arith}
 use mathlib.Core.Option.{some}
 use lib.ListN.{get_elem?}
-use Rattle.cell_lanes.specs.Lanes.{Stays, Owns, Each, Lends, JobsFit, JobsRan, LaneRan, lent_on}
+use Rattle.cell_lanes.specs.Lanes.{Stays, Owns, Lends, JobsFit, JobsRan, lent_on}
 use Rattle.cell_lanes.proofs.Lists.{front_of}
 use Rattle.cell_lanes.proofs.Running.{jobs_fresh, ready, ran_lent, ran_jobs, ran_fit}
 use Rattle.cell_lanes.proofs.round.lend_and_run.Goals as goal

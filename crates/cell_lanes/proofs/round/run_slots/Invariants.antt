@@ -1,4 +1,4 @@
-use Rattle.std.proofs.Common.{◌≡◌, take, length}
+use Rattle.std.proofs.Common.{take}
 use Rattle.cell_lanes.specs.Lanes.{SlotsKept, SlotsMade}
 use Rattle.cell_lanes.proofs.round.run_slots.Given as goal
 

@@ -1,4 +1,4 @@
-use Rattle.std.proofs.Common.{◌≡◌, [], ◌++◌, length, List, ℕ, refl, sym, ap, ◌∙◌, subst}
+use Rattle.std.proofs.Common.{◌≡◌, [], refl, sym, ap, ◌∙◌, subst}
 use Rattle.legal_history.proofs.Steps.{empty_list}
 use Rattle.cell_lanes.specs.Lanes.{Stays, Owns, Each, JobsFit, given, all_given}
 use Rattle.cell_lanes.proofs.Lists.{each_same}

@@ -1,7 +1,6 @@
-use Rattle.std.proofs.Common.{refl, ap, ◌∙◌, arith}
+use Rattle.std.proofs.Common.{ap, ◌∙◌, arith}
 use Rattle.std.specs.Prelude.{pos}
 use Rattle.series_cells.specs.Values.{gauge_step, signed}
-use Rattle.std.specs.Int.{w64, cast_unsigned}
 use Rattle.series_cells.specs.Values.{billionths}
 use Rattle.series_cells.proofs.GaugeSteps.{gauge_sets}
 use Rattle.series_cells.specs.declared.calls.ValueCall.TheVariants.{Set}
