@@ -1,0 +1,4 @@
+pub mod Sitting
+pub mod Alike
+pub mod Turns
+pub mod Histories

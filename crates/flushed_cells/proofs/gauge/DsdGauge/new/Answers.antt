@@ -1,0 +1,7 @@
+use Rattle.std.proofs.Common.{rules}
+use Rattle.flushed_cells.specs.Gauges.{GaugeStep, gauge_start}
+use Rattle.flushed_cells.proofs.Sitting.{opens_seated}
+use Rattle.flushed_cells.proofs.gauge.DsdGauge.new.Goals as goal
+
+pub ruled-requires : goal.ruled-requires
+ruled-requires c = (search rules, (search rules, opens_seated GaugeStep gauge_start))

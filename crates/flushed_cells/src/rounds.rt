@@ -1,0 +1,61 @@
+//! Rounds of lanes over counters and over gauges.
+ghost use Rattle.std.specs.Prelude.{◌≡◌, ◌<◌, length, IfOk};
+ghost use mathlib.Core.Option.{some};
+ghost use lib.ListN.{get_elem?};
+ghost use Rattle.cell_lanes.specs.Lanes.{Roots, AtRest, AllFit, all_calls_on};
+ghost use Rattle.flushed_cells.specs.declared.counter_series.DsdCounterSeries.{DsdCounterSeries};
+ghost use Rattle.flushed_cells.specs.declared.gauge_series.DsdGaugeSeries.{DsdGaugeSeries};
+ghost use Rattle.flushed_cells.specs.Series.{counter_root, gauge_root};
+ghost use Rattle.flushed_cells.specs.Rounds.{CounterFlushed, GaugeFlushed};
+
+use crate::counter_calls::CounterChange;
+use crate::counter_series::DsdCounterSeries;
+use crate::gauge_calls::GaugeChange;
+use crate::gauge_series::DsdGaugeSeries;
+use cell_lanes::{Lane, LaneHook, run_lanes};
+use metrics_core::{Fixed, Memory};
+use std::alloc::Global;
+use std::sync::Wait;
+use std::thread::Threads;
+
+/// Runs lanes side by side over counters, and flushes the counter with this index. It answers what a counter of one thread has after
+/// the earlier calls and all calls of the lanes on it, in one order in which each lane's calls stand as the lane has them.
+pub fn run_counters<R: Threads + Wait + Sync, H: LaneHook + Sync>(
+    rt: &R,
+    alloc: Global,
+    hook: &H,
+    counters: &mut [DsdCounterSeries],
+    lanes: &[Lane<CounterChange>],
+    index: usize,
+) -> Result<(u64, u64), Memory>
+    requires roots { Roots counter_root counters.old × AtRest counter_root counters.old }
+    requires fit { AllFit (length counters.old) lanes.now }
+    requires index { index < length counters.old }
+    ensures flushed { IfOk result (λ answer. (c : DsdCounterSeries) → get_elem? counters.old index ≡ some c → CounterFlushed (all_calls_on index lanes.now) (counter_root c) answer.0 answer.1) }
+{
+    match run_lanes(rt, alloc, hook, counters, lanes) {
+        Ok(()) => Ok(counters[index].flush(rt)),
+        Err(refused) => Err(refused),
+    }
+}
+
+/// Runs lanes side by side over gauges, and flushes the gauge with this index. It answers what a gauge of one thread has after
+/// the earlier calls and all calls of the lanes on it, in one order in which each lane's calls stand as the lane has them.
+pub fn run_gauges<R: Threads + Wait + Sync, H: LaneHook + Sync>(
+    rt: &R,
+    alloc: Global,
+    hook: &H,
+    gauges: &mut [DsdGaugeSeries],
+    lanes: &[Lane<GaugeChange>],
+    index: usize,
+) -> Result<(Fixed, u64), Memory>
+    requires roots { Roots gauge_root gauges.old × AtRest gauge_root gauges.old }
+    requires fit { AllFit (length gauges.old) lanes.now }
+    requires index { index < length gauges.old }
+    ensures flushed { IfOk result (λ answer. (c : DsdGaugeSeries) → get_elem? gauges.old index ≡ some c → GaugeFlushed (all_calls_on index lanes.now) (gauge_root c) answer.0 answer.1) }
+{
+    match run_lanes(rt, alloc, hook, gauges, lanes) {
+        Ok(()) => Ok(gauges[index].flush(rt)),
+        Err(refused) => Err(refused),
+    }
+}

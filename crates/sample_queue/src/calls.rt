@@ -1,0 +1,18 @@
+//! What stands in a queue of samples, and the calls on it.
+
+/// An item that stands for `count` samples.
+#[derive(Clone, Copy, Debug, PartialEq, Eq, Drop)]
+pub struct Entry<T> {
+    /// What was recorded.
+    pub item: T,
+    /// How often.
+    pub count: u32,
+}
+
+/// A call in the history of a queue, with its answer.
+pub enum QueueCall<T> {
+    /// An entry went to the back.
+    Push(Entry<T>),
+    /// The front entry was given out: this one.
+    Pop(Entry<T>),
+}

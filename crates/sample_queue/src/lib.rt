@@ -1,0 +1,26 @@
+//! Queues of samples that threads share, and the histograms over them.
+//!
+//! A queue gives its entries first in first out. A caller has a pass of the queue, and the pushes and pops of all passes stand
+//! in one history (`legal_history`), in which each pop answers what a queue of one thread answers there. So what was given out,
+//! over all passes, is a beginning of what was pushed, each entry once (`laws::first_in_first_out`).
+#![tactic(auto)]
+
+mod calls;
+mod histograms;
+pub mod laws;
+mod lent;
+mod pass;
+mod queue;
+mod rounds;
+mod rule;
+mod series;
+#[cfg(test)]
+mod tests;
+
+pub use calls::{Entry, QueueCall};
+pub use histograms::{DsdHistogram, PromHistogram};
+pub use lent::LentQueue;
+pub use pass::SamplePass;
+pub use queue::SampleQueue;
+pub use rounds::run_queues;
+pub use series::{QueueSeries, Sample};

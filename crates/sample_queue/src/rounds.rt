@@ -1,0 +1,37 @@
+//! Rounds of lanes over queues.
+ghost use Rattle.std.specs.Prelude.{◌≡◌, ◌<◌, length, IfOk};
+ghost use mathlib.Core.Option.{some};
+ghost use lib.ListN.{get_elem?};
+ghost use Rattle.cell_lanes.specs.Lanes.{Roots, AtRest, AllFit, all_calls_on};
+ghost use Rattle.sample_queue.specs.declared.series.QueueSeries.{QueueSeries};
+ghost use Rattle.sample_queue.specs.Series.{queue_root};
+ghost use Rattle.sample_queue.specs.Rounds.{GivenOut};
+
+use crate::calls::Entry;
+use crate::series::{QueueSeries, Sample};
+use cell_lanes::{Lane, LaneHook, run_lanes};
+use metrics_core::Memory;
+use std::alloc::Global;
+use std::sync::Wait;
+use std::thread::Threads;
+
+/// Runs lanes side by side over queues, and takes the front entry of the queue with this index. It is the front of what was
+/// there before, followed by the samples of all lanes for it, in one order in which each lane's stand as the lane has them.
+pub fn run_queues<R: Threads + Wait + Sync, H: LaneHook + Sync, T: Copy + Drop + Send + Sync>(
+    rt: &R,
+    alloc: Global,
+    hook: &H,
+    queues: &mut [QueueSeries<T>],
+    lanes: &[Lane<Sample<T>>],
+    index: usize,
+) -> Result<Option<Entry<T>>, Memory>
+    requires roots { Roots queue_root queues.old × AtRest queue_root queues.old }
+    requires fit { AllFit (length queues.old) lanes.now }
+    requires index { index < length queues.old }
+    ensures given { IfOk result (λ front. (q : QueueSeries T) → get_elem? queues.old index ≡ some q → GivenOut (all_calls_on index lanes.now) (queue_root q) front) }
+{
+    match run_lanes(rt, alloc, hook, queues, lanes) {
+        Ok(()) => Ok(queues[index].next(rt)),
+        Err(refused) => Err(refused),
+    }
+}

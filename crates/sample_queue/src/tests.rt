@@ -1,0 +1,180 @@
+//! Worked rows of queues and histograms, and two threads that push while one drains.
+
+ghost use Rattle.std.specs.Thread.{IsSync};
+ghost use Rattle.sample_queue.specs.Passes.{IsSamplePass};
+
+use crate::{
+    DsdHistogram, Entry, PromHistogram, QueueSeries, Sample, SamplePass, SampleQueue, run_queues,
+};
+use cell_lanes::{Lane, Line, NoHook, lanes_fit};
+use metrics_core::{Fixed, Memory};
+use metrics_facade::HistogramFn;
+use std::alloc::Global;
+use std::sync::Wait;
+use std::test::Fail;
+use std::thread::{Threads, join, yield_now};
+
+#[test]
+fn a_histogram_keeps_its_samples_in_order(rt: HostRuntime) -> Result<(), Fail> {
+    let alloc = rt.alloc();
+    let (histogram, mut pass) = PromHistogram::new(alloc)?;
+    histogram.record(&rt, alloc, &mut pass, Fixed(25), 7)?;
+    histogram.record_many(&rt, alloc, &mut pass, Fixed(-3), 8, 2)?;
+    histogram.record_many(&rt, alloc, &mut pass, Fixed(9), 9, 0)?;
+    let first = histogram.next(&rt, &mut pass);
+    let second = histogram.next(&rt, &mut pass);
+    let third = histogram.next(&rt, &mut pass);
+    let entry = |item, count| Some(Entry { item, count });
+    assert_eq!(rt; first, entry((Fixed(25), 7), 1));
+    assert_eq!(rt; second, entry((Fixed(-3), 8), 2));
+    assert_eq!(rt; third, None);
+    Ok(())
+}
+
+#[test]
+fn a_histogram_without_moments(rt: HostRuntime) -> Result<(), Fail> {
+    let alloc = rt.alloc();
+    let (histogram, mut pass) = DsdHistogram::new(alloc)?;
+    histogram.record(&rt, alloc, &mut pass, Fixed(25), 7)?;
+    assert_eq!(rt;
+        histogram.next(&rt, &mut pass),
+        Some(Entry {
+            item: Fixed(25),
+            count: 1
+        })
+    );
+    Ok(())
+}
+
+/// An item of a lane: the lane, and which of its items it is.
+type LaneItem = (bool, u32);
+
+/// Pushes the lane's items in order.
+fn push_all<R: Wait>(
+    rt: &R,
+    alloc: Global,
+    queue: &SampleQueue<LaneItem>,
+    mut pass: SamplePass<LaneItem>,
+    lane: bool,
+) -> Result<SamplePass<LaneItem>, Memory>
+    requires { IsSamplePass queue.now pass }
+{
+    for number in 0..500u32 {
+        queue.push(rt, alloc, &mut pass, (lane, number), 1)?;
+    }
+    Ok(pass)
+}
+
+/// Takes so many items.
+fn drain<R: Wait>(
+    rt: &R,
+    alloc: Global,
+    queue: &SampleQueue<LaneItem>,
+    mut pass: SamplePass<LaneItem>,
+    wanted: usize,
+) -> Result<Vec<LaneItem>, Memory>
+    requires { IsSamplePass queue.now pass }
+{
+    let mut items = Vec::new(alloc);
+    for _ in rt.forever() {
+        if items.len() >= wanted {
+            return Ok(items);
+        }
+        match queue.next(rt, &mut pass) {
+            Some(entry) => items.push(entry.item)?,
+            None => yield_now(),
+        }
+    }
+    unreachable!()
+}
+
+/// Two threads push at once.
+fn push_side_by_side<R: Threads + Wait + Sync>(
+    rt: &R,
+    alloc: Global,
+    queue: &SampleQueue<LaneItem>,
+    one: SamplePass<LaneItem>,
+    two: SamplePass<LaneItem>,
+)
+    requires { IsSamplePass queue.now one × IsSamplePass queue.now two }
+{
+    let _pushed = join(
+        rt,
+        move || push_all(rt, alloc, queue, one, false),
+        move || push_all(rt, alloc, queue, two, true),
+    );
+}
+
+/// What one thread drains while two others push, and whether the queue is empty afterwards.
+fn drained_side_by_side<R: Threads + Wait + Sync>(
+    rt: &R,
+    alloc: Global,
+) -> Result<(Vec<LaneItem>, bool), Memory> {
+    let (queue, mut root) = SampleQueue::new(alloc)?;
+    let one = queue.split(alloc, &mut root)?;
+    let two = queue.split(alloc, &mut root)?;
+    let three = queue.split(alloc, &mut root)?;
+    let shared = &queue;
+    let (items, ()) = join(
+        rt,
+        move || drain(rt, alloc, shared, three, 1000),
+        move || -> ()
+            requires { IsSync R.row × IsSamplePass shared.now one × IsSamplePass shared.now two }
+        { push_side_by_side(rt, alloc, shared, one, two) },
+    );
+    Ok((items?, queue.next(rt, &mut root).is_none()))
+}
+
+/// How many items each lane has, where each lane's come in order.
+fn in_order(items: &[LaneItem]) -> Option<(u32, u32)> {
+    let (mut first, mut second) = (0u32, 0u32);
+    for (lane, number) in items {
+        let next = if *lane { &mut second } else { &mut first };
+        if *number != *next {
+            return None;
+        }
+        *next = next.wrapping_add(1);
+    }
+    Some((first, second))
+}
+
+#[test]
+fn no_item_is_lost_or_repeated(rt: HostRuntime) -> Result<(), Fail> {
+    let (items, is_empty) = drained_side_by_side(&rt, rt.alloc())?;
+    assert_eq!(rt; in_order(items.as_slice()), Some((500, 500)));
+    assert!(rt; is_empty);
+    Ok(())
+}
+
+#[test]
+fn lanes_push_side_by_side(rt: HostRuntime) -> Result<(), Fail> {
+    let alloc = rt.alloc();
+    let mut queues = [QueueSeries::new(alloc)?];
+    let mut lanes = Vec::new(alloc);
+    for item in [5u8, 7] {
+        let mut lines = Vec::new(alloc);
+        lines.push(Line {
+            slot: 0,
+            call: Sample { item, count: 2 },
+        })?;
+        lanes.push(Lane {
+            cells: vec![in alloc; 0usize]?,
+            lines,
+        })?;
+    }
+    assert!(rt; lanes_fit(lanes.as_slice(), 1));
+    let front = run_queues(&rt, alloc, &NoHook, &mut queues, lanes.as_slice(), 0)?;
+    assert!(rt; front.is_some_and(|entry| entry.count == 2));
+    Ok(())
+}
+
+fn is_shared<T: Send + Sync>() {}
+
+fn is_handed_over<T: Send>() {}
+
+#[test]
+fn queues_are_shared_and_passes_handed_over() {
+    is_shared::<PromHistogram>();
+    is_shared::<DsdHistogram>();
+    is_handed_over::<SamplePass<Fixed>>();
+}
