@@ -66,17 +66,17 @@ pub ascending-put : (k : ℤ) (n : ℕ) (es fs : List (ℤ × ℕ)) → ((v : �
     → ascending (repeated fs) ≡ ascending (ascending (repeated es) ++ replicate n k)
 ascending-put k n es fs put =
     same_ascending (repeated fs) (ascending (repeated es) ++ replicate n k) (λ v.
-      put v
-      ∙ sym (sum_by-append (λ x. cond (int_eq v x) 1 0) (ascending (repeated es)) (replicate n k)
-      ∙ (λ j. count_by-ascending v (repeated es) j + count-replicate v k n j)))
+    put v
+    ∙ sym (sum_by-append (λ x. cond (int_eq v x) 1 0) (ascending (repeated es)) (replicate n k)
+    ∙ (λ j. count_by-ascending v (repeated es) j + count-replicate v k n j)))
 
 pub ascending-merged : (xs ys fs : List (ℤ × ℕ)) → ((v : ℤ) → copies v fs ≡ copies v xs + copies v ys)
     → ascending (repeated fs) ≡ ascending (ascending (repeated xs) ++ ascending (repeated ys))
 ascending-merged xs ys fs merged =
     same_ascending (repeated fs) (ascending (repeated xs) ++ ascending (repeated ys)) (λ v.
-      merged v
-      ∙ sym (sum_by-append (λ x. cond (int_eq v x) 1 0) (ascending (repeated xs)) (ascending (repeated ys))
-      ∙ (λ j. count_by-ascending v (repeated xs) j + count_by-ascending v (repeated ys) j)))
+    merged v
+    ∙ sym (sum_by-append (λ x. cond (int_eq v x) 1 0) (ascending (repeated xs)) (ascending (repeated ys))
+    ∙ (λ j. count_by-ascending v (repeated xs) j + count_by-ascending v (repeated ys) j)))
 
 pub copies-own : (xs ms es : List (ℤ × ℕ)) → ms ≡ [] → ((v : ℤ) → copies v es ≡ copies v ms + copies v xs) → (v : ℤ) → copies v es ≡ copies v xs
 copies-own xs ms es none first v = first v ∙ ap (λ l. copies v l + copies v xs) none ∙ zero-add (copies v xs)

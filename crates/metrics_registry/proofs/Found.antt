@@ -120,9 +120,10 @@ module _ {X : Type 0} where
 
   pub rises-push : (live : List (LiveSeries X)) (s : LiveSeries X) → Rises live → All (λ other. other.id.number < s.id.number) live → Rises (live ++ s ∷ [])
   rises-push [] s rises above = (tt, tt)
-  rises-push (x ∷ live) s rises above =
-      (below_all-push x.id.number live s rises.0 (All-head (λ other. other.id.number < s.id.number) x live above),
-      rises-push live s rises.1 (All-tail (λ other. other.id.number < s.id.number) x live above))
+  rises-push (x ∷ live) s rises above = (
+    below_all-push x.id.number live s rises.0 (All-head (λ other. other.id.number < s.id.number) x live above),
+    rises-push live s rises.1 (All-tail (λ other. other.id.number < s.id.number) x live above),
+  )
 
   below_all-with_cell_at : (n : ℕ) (live : List (LiveSeries X)) (i : ℕ) (w : X) → IsBelowAll n live → IsBelowAll n (with_cell_at live i w)
   below_all-with_cell_at n [] i w below = tt

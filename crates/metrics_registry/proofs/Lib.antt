@@ -2,3 +2,4 @@ pub mod Found
 pub mod StoredSeries
 pub mod Observed
 pub mod Bagged
+pub mod RetainedSeries

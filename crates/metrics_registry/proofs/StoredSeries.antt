@@ -178,13 +178,13 @@ module _ {X : Type 0} where
   none-searched ks ss id i long rises searched =
       let parted = searched (λ a b d le within. compared id.number (get_or ss a d).id.number (get_or ss b d).id.number (rises_stored ks ss long rises a b d le within)) in
       none-anywhere id (live_of ks ss) (λ k l at same.
-        let within : k < length ss = subst (λ n. k < n) (length-live_of ks ss long) (slice_get_within (live_of ks ss) k l at) in
-        let d : Series X = record { id = l.id; cell = l.cell } in
-        let number : (get_or ss k d).id.number ≡ id.number = ap (λ id'. id'.number) (stored_id ks ss k d l long at within) ∙ same in
-        elim (cases_lt k i) as (λ _. ⊥) [
-          | inl before ↦ less_number (get_or ss k d).id.number id.number (parted.0 k d (omega arith) before) number
-          | inr behind ↦ greater_number (get_or ss k d).id.number id.number (parted.1 k d behind within) number
-        ])
+      let within : k < length ss = subst (λ n. k < n) (length-live_of ks ss long) (slice_get_within (live_of ks ss) k l at) in
+      let d : Series X = record { id = l.id; cell = l.cell } in
+      let number : (get_or ss k d).id.number ≡ id.number = ap (λ id'. id'.number) (stored_id ks ss k d l long at within) ∙ same in
+      elim (cases_lt k i) as (λ _. ⊥) [
+        | inl before ↦ less_number (get_or ss k d).id.number id.number (parted.0 k d (omega arith) before) number
+        | inr behind ↦ greater_number (get_or ss k d).id.number id.number (parted.1 k d behind within) number
+      ])
 
   -- a search that hits: the series there has the number
   pub searched-number : (ss : List (Series X)) (i n : ℕ) (s : Series X) → IsBinarySearchResult (λ s'. nat_cmp s'.id.number n) ss (Ok i) → s ≡ get_or ss i s → s.id.number ≡ n

@@ -1,5 +1,6 @@
 pub mod Live
 pub mod Places
+pub mod Retained
 pub mod Stored
 pub mod ColumnLends
 pub mod StoredRegistry
@@ -11,3 +12,4 @@ pub mod Cumulative
 pub mod Buckets
 pub mod Bags
 pub mod QuantileLaws
+pub mod RetainedLaws

@@ -21,16 +21,16 @@ length-ascending xs = sorting.length-sorted_by int_cmp_total signed_Decides (λ 
 pub ascending-left : (xs ys : List ℤ) → ascending (ascending xs ++ ys) ≡ ascending (xs ++ ys)
 ascending-left xs ys =
     same_ascending (ascending xs ++ ys) (xs ++ ys) (λ v.
-      sum_by-append (λ x. cond (int_eq v x) 1 0) (ascending xs) ys
-      ∙ ap (λ n. n + count_by (int_eq v) ys) (count_by-ascending v xs)
-      ∙ sym (sum_by-append (λ x. cond (int_eq v x) 1 0) xs ys))
+    sum_by-append (λ x. cond (int_eq v x) 1 0) (ascending xs) ys
+    ∙ ap (λ n. n + count_by (int_eq v) ys) (count_by-ascending v xs)
+    ∙ sym (sum_by-append (λ x. cond (int_eq v x) 1 0) xs ys))
 
 pub ascending-right : (xs ys : List ℤ) → ascending (xs ++ ascending ys) ≡ ascending (xs ++ ys)
 ascending-right xs ys =
     same_ascending (xs ++ ascending ys) (xs ++ ys) (λ v.
-      sum_by-append (λ x. cond (int_eq v x) 1 0) xs (ascending ys)
-      ∙ ap (λ n. count_by (int_eq v) xs + n) (count_by-ascending v ys)
-      ∙ sym (sum_by-append (λ x. cond (int_eq v x) 1 0) xs ys))
+    sum_by-append (λ x. cond (int_eq v x) 1 0) xs (ascending ys)
+    ∙ ap (λ n. count_by (int_eq v) xs + n) (count_by-ascending v ys)
+    ∙ sym (sum_by-append (λ x. cond (int_eq v x) 1 0) xs ys))
 
 pub ascending-again : (xs : List ℤ) → ascending (ascending xs) ≡ ascending xs
 ascending-again xs = same_ascending (ascending xs) xs (λ v. count_by-ascending v xs)

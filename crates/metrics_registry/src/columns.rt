@@ -5,6 +5,7 @@ ghost use Rattle.std.specs.Option.{option_copied};
 ghost use Rattle.std.specs.Borrow.{sem};
 ghost use Rattle.metrics_core.specs.Keys.{KeyText};
 ghost use Rattle.metrics_registry.specs.Live.{id_of_key, cell_of, is_live, without};
+ghost use Rattle.metrics_registry.specs.Retained.{AskedAt, Retains};
 
 use indexmap::IndexSet;
 use metrics_core::{Key, SeriesId};
@@ -135,6 +136,31 @@ impl<T> Column<T> {
         }
     }
 
+    /// Keeps the series for which a test holds, in one pass and in their order. The test may change the cells.
+    pub(crate) fn retain<F: FnMut(SeriesId, &mut T) -> bool>(
+        &mut self,
+        keys: &mut IndexSet<Key>,
+        mut keep: F,
+    )
+    where
+        T: Drop,
+        requires stored { AreStored keys.old.keys self.old.items.items }
+        requires callable { F.IsAlwaysCallable keep }
+        ensures retained { (last : F) × Retains F.FnMut keep (live_of keys.old.keys self.old.items.items) (live_of keys.new.keys self.new.items.items) last }
+        ensures stored { AreStored keys.new.keys self.new.items.items }
+    {
+        let mut kept = 0;
+        for place in 0..self.items.len() {
+            if ask(&mut keep, &mut self.items[place]) {
+                self.items.swap(kept, place);
+                keys.swap_indices(kept, place);
+                kept += 1;
+            }
+        }
+        self.items.truncate(kept);
+        keys.truncate(kept);
+    }
+
     /// The series in order.
     pub(crate) fn iter<'a>(&'a self, keys: &'a IndexSet<Key>) -> SeriesIter<'a, T>
         ensures { result ≡ live_of keys.now.keys self.now.items.items }
@@ -144,6 +170,16 @@ impl<T> Column<T> {
             series: self.items.as_slice(),
         }
     }
+}
+
+/// Asks the test of one series.
+fn ask<T, F: FnMut(SeriesId, &mut T) -> bool>(keep: &mut F, series: &mut Series<T>) -> bool
+    requires { F.IsAlwaysCallable keep.old }
+    ensures asked { AskedAt F.FnMut keep.old series.old.id series.old.cell result series.new.cell keep.new }
+    ensures id { series.new.id ≡ series.old.id }
+    ensures callable { F.IsAlwaysCallable keep.new }
+{
+    keep(series.id, &mut series.cell)
 }
 
 /// Removes the key at a place. The others keep their order.

@@ -23,7 +23,7 @@ impl Model for CumulativeHistogram {
     ghost use Rattle.std.specs.Prelude.{map, FitsSigned};
     ghost use Rattle.std.specs.Int.{w128};
     ghost use Rattle.std.specs.Int.{w128};
-ghost use Rattle.metrics_registry.specs.Cumulative.{HistogramText};
+    ghost use Rattle.metrics_registry.specs.Cumulative.{HistogramText};
     ghost use Rattle.metrics_registry.specs.Buckets.{bucket_of};
 
     ghost Value = { HistogramText };

@@ -66,8 +66,10 @@ impl Quantile {
 pub fn parse_quantiles(alloc: Global, values: &[Fixed]) -> Result<Vec<Quantile>, Memory>
     ensures { IfOk result (λ quantiles. quantiles.items ≡ map (λ value. clamped value.0) values.now) }
 {
-    Ok(values
-        .iter()
-        .map(|value| Quantile::new(*value))
-        .collect(alloc)?)
+    Ok(
+        values
+            .iter()
+            .map(|value| Quantile::new(*value))
+            .collect(alloc)?,
+    )
 }

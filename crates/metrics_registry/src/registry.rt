@@ -6,6 +6,7 @@ ghost use Rattle.std.specs.Borrow.{sem};
 ghost use Rattle.metrics_core.specs.declared.kinds.MetricKind.TheVariants.{Counter, Gauge, Histogram};
 ghost use Rattle.metrics_registry.specs.Live.{IsNumbered, id_of_key, cell_of, is_live, without, Rises};
 ghost use Rattle.metrics_registry.specs.Places.{IsPlace};
+ghost use Rattle.metrics_registry.specs.Retained.{Retains};
 
 use crate::columns::{Column, SeriesIter};
 use indexmap::IndexSet;
@@ -138,6 +139,15 @@ impl<C: Drop, G: Drop, H: Drop> Registry<C, G, H> {
         self.counters.delete(&mut self.counter_keys, id)
     }
 
+    /// Keeps the counters for which a test holds, in one pass and in their order. The test may change the cells.
+    pub fn retain_counters<F: FnMut(SeriesId, &mut C) -> bool>(&mut self, keep: F)
+        requires { F.IsAlwaysCallable keep }
+        ensures retained { (last : F) × Retains F.FnMut keep self.old.counters self.new.counters last }
+        ensures others { self.new ≡ record self.old { counters = self.new.counters } }
+    {
+        self.counters.retain(&mut self.counter_keys, keep);
+    }
+
     /// The live counters, in order of registration.
     pub fn counters(&self) -> SeriesIter<'_, C>
         ensures { result ≡ self.now.counters }
@@ -218,6 +228,15 @@ impl<C: Drop, G: Drop, H: Drop> Registry<C, G, H> {
         self.gauges.delete(&mut self.gauge_keys, id)
     }
 
+    /// Keeps the gauges for which a test holds, in one pass and in their order. The test may change the cells.
+    pub fn retain_gauges<F: FnMut(SeriesId, &mut G) -> bool>(&mut self, keep: F)
+        requires { F.IsAlwaysCallable keep }
+        ensures retained { (last : F) × Retains F.FnMut keep self.old.gauges self.new.gauges last }
+        ensures others { self.new ≡ record self.old { gauges = self.new.gauges } }
+    {
+        self.gauges.retain(&mut self.gauge_keys, keep);
+    }
+
     /// The live gauges, in order of registration.
     pub fn gauges(&self) -> SeriesIter<'_, G>
         ensures { result ≡ self.now.gauges }
@@ -296,6 +315,15 @@ impl<C: Drop, G: Drop, H: Drop> Registry<C, G, H> {
         ensures rest { self.new ≡ record self.old { histograms = without id self.old.histograms } }
     {
         self.histograms.delete(&mut self.histogram_keys, id)
+    }
+
+    /// Keeps the histograms for which a test holds, in one pass and in their order. The test may change the cells.
+    pub fn retain_histograms<F: FnMut(SeriesId, &mut H) -> bool>(&mut self, keep: F)
+        requires { F.IsAlwaysCallable keep }
+        ensures retained { (last : F) × Retains F.FnMut keep self.old.histograms self.new.histograms last }
+        ensures others { self.new ≡ record self.old { histograms = self.new.histograms } }
+    {
+        self.histograms.retain(&mut self.histogram_keys, keep);
     }
 
     /// The live histograms, in order of registration.

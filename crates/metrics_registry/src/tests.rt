@@ -1,5 +1,9 @@
 //! Worked examples: what each call answers at concrete types.
 
+ghost use Rattle.std.specs.Prelude.{◌≡◌, is_some, IsTrue, nat_lt, filter_map};
+ghost use Rattle.metrics_registry.specs.Live.{cell_of, with_cell};
+ghost use Rattle.metrics_registry.specs.RetainedLaws.{kept_series};
+
 use crate::*;
 use metrics_core::{Fixed, Key, Memory, MetricKind, SeriesId};
 use std::alloc::Global;
@@ -50,7 +54,61 @@ fn counters_come_and_go(rt: HostRuntime) -> Result<(), Fail> {
     assert_eq!(rt; cells(alloc, &registry)?.as_slice(), [22, 30].as_slice());
     let fourth = add(&mut registry, "a", 40).ok_or("a")?;
     assert_eq!(rt; [fourth.number, registry.made()], [3, 4]);
-    assert_eq!(rt; cells(alloc, &registry)?.as_slice(), [22, 30, 40].as_slice());
+    assert_eq!(rt;
+        cells(alloc, &registry)?.as_slice(),
+        [22, 30, 40].as_slice()
+    );
+    Ok(())
+}
+
+/// Writes the cell of a counter, where it is live.
+fn write(registry: &mut Numbers, id: SeriesId, value: u64) -> bool
+    ensures live { result ≡ is_some (cell_of id registry.old.counters) }
+    ensures written { IsTrue result → registry.new ≡ record registry.old { counters = with_cell id registry.old.counters value } }
+{
+    match registry.get_counter_mut(id) {
+        Some(cell) => {
+            *cell = value;
+            true
+        }
+        None => false,
+    }
+}
+
+/// Keeps the counters below a bound.
+fn keep_below(registry: &mut Numbers, bound: u64)
+    ensures { registry.new.counters ≡ filter_map (kept_series (λ _ cell. nat_lt cell bound) (λ _ cell. cell)) registry.old.counters }
+{
+    registry.retain_counters(
+        |_id: SeriesId, cell: &mut u64| -> bool
+            ensures { (result ≡ nat_lt cell.old bound) × (cell.new ≡ cell.old) }
+        { *cell < bound },
+    );
+}
+
+#[test]
+fn many_are_removed_at_once(rt: HostRuntime) -> Result<(), Fail> {
+    let alloc = rt.alloc();
+    let mut registry = Numbers::new(alloc)?;
+    for name in ["a", "b", "c", "d"] {
+        let cell = registry.made().wrapping_mul(10);
+        add(&mut registry, name, cell);
+    }
+    let second = SeriesId {
+        kind: MetricKind::Counter,
+        number: 1,
+    };
+    assert_eq!(rt; write(&mut registry, second, 25), true);
+    keep_below(&mut registry, 25);
+    assert_eq!(rt; cells(alloc, &registry)?.as_slice(), [0, 20].as_slice());
+    assert_eq!(rt; write(&mut registry, second, 5), false);
+    registry.retain_gauges(|_, _| false);
+    registry.retain_histograms(|_, _| false);
+    registry.retain_counters(|id, cell| {
+        *cell = cell.wrapping_add(1);
+        id.number == 2
+    });
+    assert_eq!(rt; cells(alloc, &registry)?.as_slice(), [21].as_slice());
     Ok(())
 }
 
@@ -165,7 +223,10 @@ fn bags_count_and_merge(rt: HostRuntime) -> Result<(), Fail> {
     assert_eq!(rt; bag.count(), u64::MAX);
     assert_eq!(rt; bag.merge(&other), Err(Memory));
     assert_eq!(rt; bag.add(Fixed(9), 1), Err(Memory));
-    assert_eq!(rt; bag.quantile(&Quantile::new(Fixed(1_000_000_000))), Some(Fixed(8)));
+    assert_eq!(rt;
+        bag.quantile(&Quantile::new(Fixed(1_000_000_000))),
+        Some(Fixed(8))
+    );
     Ok(())
 }
 

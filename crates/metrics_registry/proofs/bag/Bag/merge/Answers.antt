@@ -7,8 +7,15 @@ use Rattle.metrics_registry.proofs.bag.Bag.merge.Goals as goal
 
 pub add_all-requires-2 : goal.add_all-requires-2
 add_all-requires-2 c = λ v.
-    omega (arith, copies-own c.self.inside.counts.entries c.new-merged.result.entries c.add_all.new.counts.entries c.new-merged.ensures.empty c.in_ok-add_all.ensures v,
-    copies-length v c.self.inside.counts.entries, copies-length v c.other.inside.counts.entries, c.self.invariant, c.other.invariant, c.in-Some.ensures)
+    omega (
+      arith,
+      copies-own c.self.inside.counts.entries c.new-merged.result.entries c.add_all.new.counts.entries c.new-merged.ensures.empty c.in_ok-add_all.ensures v,
+      copies-length v c.self.inside.counts.entries,
+      copies-length v c.other.inside.counts.entries,
+      c.self.invariant,
+      c.other.invariant,
+      c.in-Some.ensures,
+    )
 
 pub invariant_of-self : goal.invariant_of-self
 invariant_of-self c =

@@ -15,12 +15,12 @@ pub invariant_of-self-lent : goal.invariant_of-self-lent
 invariant_of-self-lent g c w =
     let own = stored_cell c.self.inside.histograms.items.items c.args.place c.cell_mut.result.now c.cell_mut.ensures.value in
     rw own.at (record {
-  counters = c.self.invariant.counters;
-  counters_of = c.self.invariant.counters_of;
-  gauges = c.self.invariant.gauges;
-  gauges_of = c.self.invariant.gauges_of;
-  histograms = stored-cell c.self.inside.histogram_keys.keys c.self.inside.histograms.items.items c.args.place own.series w c.self.invariant.histograms own.at;
-  histograms_of = subst (AreOf Histogram c.self.inside.made) (sym (live_of-cell c.self.inside.histogram_keys.keys c.self.inside.histograms.items.items c.args.place own.series w c.self.invariant.histograms.beside own.at)) (are_of-with_cell_at Histogram c.self.inside.made (live_of c.self.inside.histogram_keys.keys c.self.inside.histograms.items.items) c.args.place w c.self.invariant.histograms_of);
+      counters = c.self.invariant.counters;
+      counters_of = c.self.invariant.counters_of;
+      gauges = c.self.invariant.gauges;
+      gauges_of = c.self.invariant.gauges_of;
+      histograms = stored-cell c.self.inside.histogram_keys.keys c.self.inside.histograms.items.items c.args.place own.series w c.self.invariant.histograms own.at;
+      histograms_of = subst (AreOf Histogram c.self.inside.made) (sym (live_of-cell c.self.inside.histogram_keys.keys c.self.inside.histograms.items.items c.args.place own.series w c.self.invariant.histograms.beside own.at)) (are_of-with_cell_at Histogram c.self.inside.made (live_of c.self.inside.histogram_keys.keys c.self.inside.histograms.items.items) c.args.place w c.self.invariant.histograms_of);
     })
 
 pub returns : goal.returns
