@@ -1,14 +1,13 @@
 -- A series that is found by its id or its key, and what stays of the others.
-use Rattle.std.proofs.Common.{◌≡◌, ℕ, zero, suc, ◌+◌, ◌<◌, ◌≤◌, Bool, true, false, cond, not, List, [], ◌∷◌, ◌++◌, map, filter, length, get_or, Option, None, Some, refl, sym, ap, subst, ◌∙◌, arith}
+use Rattle.std.proofs.Common.{◌≡◌, ℕ, zero, suc, ◌+◌, ◌<◌, ◌≤◌, true, false, cond, not, List, [], ◌∷◌, ◌++◌, Option, None, Some, refl, sym, ap, subst, ◌∙◌, arith}
 use Rattle.std.specs.Prelude.{find, slice_get, remove, option_map}
-use Rattle.std.specs.List.{list_any, All}
+use Rattle.std.specs.List.{All}
 use Rattle.std.specs.Prelude.{◌||◌}
 use Rattle.std.proofs.lemmas.Bool.{eqb-true, ne_eqb, and_parts, and_right, or_parts}
 use Rattle.std.proofs.lemmas.List.Elements.{All-head, All-tail, All-nil, All-cons}
 use Rattle.metrics_core.specs.declared.kinds.MetricKind.{MetricKind}
 use Rattle.metrics_core.specs.declared.kinds.SeriesId.{SeriesId}
-use Rattle.metrics_core.specs.Keys.{KeyText, key_eq}
-use Rattle.metrics_registry.specs.Live.{LiveSeries, has_id, has_key, id_of_key, cell_of, is_live, set_cell, with_cell, without, IsBelowAll, Rises, AreOf}
+use Rattle.metrics_registry.specs.Live.{LiveSeries, has_id, cell_of, is_live, with_cell, without, IsBelowAll, Rises, AreOf}
 use Rattle.metrics_registry.specs.Places.{with_cell_at, IsPlace}
 
 module _ {X : Type 0} where

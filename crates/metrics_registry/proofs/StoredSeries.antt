@@ -1,15 +1,14 @@
 -- The live series that keys and what is stored beside them make.
 use Rattle.std.proofs.Common.{◌≡◌, ℕ, zero, suc, ◌+◌, ◌<◌, ◌≤◌, Bool, true, false, cond, not, List, [], ◌∷◌, ◌++◌, length, get_or, Option, None, Some, refl, sym, ap, subst, ◌∙◌, arith}
-use Rattle.std.specs.Prelude.{find, is_some, slice_get, slice_set, remove, option_map, position, nat_lt, Result, Ok, Err}
+use Rattle.std.specs.Prelude.{find, is_some, slice_get, slice_set, remove, option_map, position, nat_lt, Ok, Err}
 use Rattle.std.specs.List.{list_any, position_or_len, All}
 use Rattle.std.proofs.Common.{length-append}
 use Rattle.std.proofs.Math.ListN.{length-set}
 use Rattle.std.specs.List.Sorted.{IsBinarySearchResult}
 use Rattle.std.specs.Ordering.{nat_cmp, ordering_index}
-use Rattle.std.specs.declared.cmp.Ordering.{Ordering}
 use Rattle.std.specs.declared.cmp.Ordering.TheVariants.{Less, Equal, Greater}
 use Rattle.std.specs.Prelude.{◌||◌}
-use Rattle.std.proofs.Common.{inl, inr, ◌⊎◌}
+use Rattle.std.proofs.Common.{inl, inr}
 use Rattle.std.proofs.lemmas.Bool.{cases_lt}
 use Rattle.std.proofs.lemmas.Bool.Decides.{nat_tests}
 use Rattle.std.proofs.lemmas.Option.{slice_get-get_or, slice_get_read, slice_get_within}
@@ -21,7 +20,7 @@ use Rattle.metrics_core.specs.declared.kinds.MetricKind.TheVariants.{Counter, Ga
 use Rattle.metrics_core.specs.Kinds.{kind_eq}
 use Rattle.metrics_core.specs.declared.kinds.SeriesId.{SeriesId}
 use Rattle.metrics_core.specs.Keys.{KeyText, key_eq}
-use Rattle.metrics_registry.specs.Live.{LiveSeries, has_id, has_key, id_eq, id_of_key, is_live, without, IsBelowAll, Rises}
+use Rattle.metrics_registry.specs.Live.{LiveSeries, has_id, has_key, id_eq, id_of_key, is_live, Rises}
 use Rattle.metrics_registry.specs.Places.{with_cell_at, IsPlace}
 use Rattle.metrics_registry.specs.Stored.{live_of, AreStored}
 use Rattle.metrics_registry.specs.declared.columns.Series.{Series}

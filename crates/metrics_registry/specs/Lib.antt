@@ -13,3 +13,4 @@ pub mod Buckets
 pub mod Bags
 pub mod QuantileLaws
 pub mod RetainedLaws
+pub mod Vectors

@@ -1,5 +1,5 @@
 -- The live series of a registry, as its contracts see them (this project's rule).
-use Rattle.std.specs.Prelude.{◌≡◌, ℕ, ◌<◌, Bool, ◌&&◌, ◌==◌, not, List, [], ◌∷◌, map, filter, find, position, Option, option_map, if◌then◌else◌}
+use Rattle.std.specs.Prelude.{◌≡◌, ℕ, ◌<◌, Bool, ◌&&◌, ◌==◌, not, List, [], ◌∷◌, map, filter, find, Option, option_map, if◌then◌else◌}
 use Rattle.std.specs.List.{list_any}
 use Rattle.metrics_core.specs.declared.kinds.MetricKind.{MetricKind}
 use Rattle.metrics_core.specs.declared.kinds.MetricKind.TheVariants.{Counter, Gauge, Histogram}

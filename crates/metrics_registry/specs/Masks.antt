@@ -1,5 +1,5 @@
 -- Sets of kinds as the program has them.
-use Rattle.std.specs.Prelude.{ℕ, Bool, true, false, ◌||◌, Option, option_map}
+use Rattle.std.specs.Prelude.{ℕ, true, false, ◌||◌, Option, option_map}
 use Rattle.metrics_core.specs.Kinds.{KindMask}
 use Rattle.metrics_registry.specs.Recency.{Idle}
 

@@ -1,5 +1,5 @@
 -- What a test keeps whose answers are those of a function.
-use Rattle.std.proofs.Common.{◌≡◌, Bool, List, [], ◌∷◌, cond, Option, None, Some, filter_map, refl, ◌∙◌}
+use Rattle.std.proofs.Common.{◌≡◌, Bool, true, false, List, [], ◌∷◌, cond, Option, None, Some, filter_map, refl, ◌∙◌}
 use Rattle.std.specs.List.{cons_option}
 use Rattle.std.specs.Borrow.{MutBor}
 use Rattle.std.specs.Fn.{Mut}

@@ -26,39 +26,30 @@ fn add(registry: &mut Numbers, name: &'static str, cell: u64) -> Option<SeriesId
     }
 }
 
-/// The cells of the live counters in order.
-fn cells(alloc: Global, registry: &Numbers) -> Result<Vec<u64>, Memory> {
-    let mut cells = Vec::new(alloc);
-    for (_id, _key, cell) in registry.counters() {
-        cells.push(*cell)?;
+/// A registry with four counters, `a` to `d` with the cells 0, 10, 20 and 30.
+fn four(alloc: Global) -> Result<Numbers, Memory> {
+    let mut registry = Numbers::new(alloc)?;
+    for (name, cell) in [("a", 0), ("b", 10), ("c", 20), ("d", 30)] {
+        add(&mut registry, name, cell);
     }
-    Ok(cells)
+    Ok(registry)
 }
 
-#[test]
-fn counters_come_and_go(rt: HostRuntime) -> Result<(), Fail> {
-    let alloc = rt.alloc();
-    let mut registry = Numbers::new(alloc)?;
-    let first = add(&mut registry, "a", 10).ok_or("a")?;
-    let second = add(&mut registry, "b", 20).ok_or("b")?;
-    let third = add(&mut registry, "c", 30).ok_or("c")?;
-    assert_eq!(rt; [first.number, second.number, third.number], [0, 1, 2]);
-    assert_eq!(rt; add(&mut registry, "b", 21), None);
-    if let Some(cell) = registry.get_counter_mut(second) {
-        *cell = 22;
+/// The id of the counter with a number.
+fn counter(number: u64) -> SeriesId {
+    SeriesId {
+        kind: MetricKind::Counter,
+        number,
     }
-    assert_eq!(rt; registry.get_counter(second).copied(), Some(22));
-    assert_eq!(rt; registry.get_gauge(second).copied(), None);
-    assert_eq!(rt; registry.delete_counter(first), true);
-    assert_eq!(rt; registry.delete_counter(first), false);
-    assert_eq!(rt; cells(alloc, &registry)?.as_slice(), [22, 30].as_slice());
-    let fourth = add(&mut registry, "a", 40).ok_or("a")?;
-    assert_eq!(rt; [fourth.number, registry.made()], [3, 4]);
-    assert_eq!(rt;
-        cells(alloc, &registry)?.as_slice(),
-        [22, 30, 40].as_slice()
-    );
-    Ok(())
+}
+
+/// The numbers and the cells of the live counters in order.
+fn live(alloc: Global, registry: &Numbers) -> Result<Vec<(u64, u64)>, Memory> {
+    let mut live = Vec::new(alloc);
+    for (id, _key, cell) in registry.counters() {
+        live.push((id.number, *cell))?;
+    }
+    Ok(live)
 }
 
 /// Writes the cell of a counter, where it is live.
@@ -87,88 +78,112 @@ fn keep_below(registry: &mut Numbers, bound: u64)
 }
 
 #[test]
-fn many_are_removed_at_once(rt: HostRuntime) -> Result<(), Fail> {
+fn a_deletion_keeps_the_order(rt: HostRuntime) -> Result<(), Fail> {
     let alloc = rt.alloc();
-    let mut registry = Numbers::new(alloc)?;
-    for name in ["a", "b", "c", "d"] {
-        let cell = registry.made().wrapping_mul(10);
-        add(&mut registry, name, cell);
-    }
-    let second = SeriesId {
-        kind: MetricKind::Counter,
-        number: 1,
-    };
-    assert_eq!(rt; write(&mut registry, second, 25), true);
-    keep_below(&mut registry, 25);
-    assert_eq!(rt; cells(alloc, &registry)?.as_slice(), [0, 20].as_slice());
-    assert_eq!(rt; write(&mut registry, second, 5), false);
-    registry.retain_gauges(|_, _| false);
-    registry.retain_histograms(|_, _| false);
-    registry.retain_counters(|id, cell| {
-        *cell = cell.wrapping_add(1);
-        id.number == 2
-    });
-    assert_eq!(rt; cells(alloc, &registry)?.as_slice(), [21].as_slice());
+    let mut registry = four(alloc)?;
+    registry.delete_counter(counter(0));
+    add(&mut registry, "a", 40);
+    add(&mut registry, "b", 50);
+    let expected = [(1, 10), (2, 20), (3, 30), (4, 40)];
+    assert_eq!(rt; live(alloc, &registry)?.as_slice(), expected.as_slice());
     Ok(())
 }
 
 #[test]
-fn gauges_and_histograms_have_lists_of_their_own(rt: HostRuntime) -> Result<(), Fail> {
+fn many_are_removed_at_once(rt: HostRuntime) -> Result<(), Fail> {
     let alloc = rt.alloc();
-    let mut registry = Numbers::new(alloc)?;
-    let key = Key::from_static_name("a");
-    let gauge = registry
-        .add_gauge(Key::from_static_name("a"), 5)
-        .ok()
-        .ok_or("gauge")?;
-    assert_eq!(rt; registry.find_gauge(&key), Some(gauge));
-    assert_eq!(rt; registry.find_histogram(&key), None);
-    if let Some(cell) = registry.get_gauge_mut(gauge) {
-        *cell += 1;
-    }
-    assert_eq!(rt; registry.get_gauge(gauge).copied(), Some(6));
-    assert_eq!(rt; registry.gauges().count(), 1);
-    let mut other = Numbers::new(alloc)?;
-    let histogram = other
-        .add_histogram(Key::from_static_name("a"), 7)
-        .ok()
-        .ok_or("histogram")?;
-    if let Some(cell) = other.get_histogram_mut(histogram) {
-        *cell += 1;
-    }
-    assert_eq!(rt; other.get_histogram(histogram).copied(), Some(8));
-    assert_eq!(rt; other.histograms().count(), 1);
-    assert_eq!(rt; registry.delete_gauge(gauge), true);
-    assert_eq!(rt; other.delete_histogram(histogram), true);
+    let mut registry = four(alloc)?;
+    write(&mut registry, counter(1), 25);
+    keep_below(&mut registry, 25);
+    let expected = [(0, 0), (2, 20)];
+    assert_eq!(rt; live(alloc, &registry)?.as_slice(), expected.as_slice());
     Ok(())
+}
+
+#[test]
+fn an_id_names_one_kind(rt: HostRuntime) -> Result<(), Fail> {
+    let registry = four(rt.alloc())?;
+    assert_eq!(rt; registry.get_counter(counter(2)).copied(), Some(20));
+    assert_eq!(rt; registry.get_gauge(counter(2)).copied(), None);
+    Ok(())
+}
+
+/// A gauge that is made, found, changed, kept and removed: its cell at the end, if each step succeeded.
+fn gauge(alloc: Global) -> Option<u64> {
+    let mut registry = Numbers::new(alloc).ok()?;
+    let id = registry.add_gauge(Key::from_static_name("a"), 5).ok()?;
+    *registry.get_gauge_mut(id)? += 1;
+    registry.retain_gauges(|_, _| true);
+    let cell = registry.get_gauge(id).copied()?;
+    let count = registry.gauges().count();
+    if registry.find_gauge(&Key::from_static_name("a")) == Some(id)
+        && registry.delete_gauge(id)
+        && count == 1
+    {
+        Some(cell)
+    } else {
+        None
+    }
+}
+
+/// The same of a histogram.
+fn histogram(alloc: Global) -> Option<u64> {
+    let mut registry = Numbers::new(alloc).ok()?;
+    let id = registry.add_histogram(Key::from_static_name("a"), 5).ok()?;
+    *registry.get_histogram_mut(id)? += 1;
+    registry.retain_histograms(|_, _| true);
+    let cell = registry.get_histogram(id).copied()?;
+    let count = registry.histograms().count();
+    if registry.find_histogram(&Key::from_static_name("a")) == Some(id)
+        && registry.delete_histogram(id)
+        && count == 1
+    {
+        Some(cell)
+    } else {
+        None
+    }
+}
+
+#[test]
+fn gauges_and_histograms_are_kept_alike(rt: HostRuntime) {
+    assert_eq!(rt; gauge(rt.alloc()), Some(6));
+    assert_eq!(rt; histogram(rt.alloc()), Some(6));
+}
+
+/// Whether a page at each moment keeps a series with so many updates, where it falls idle after 5.
+fn kept(kind: MetricKind, pages: &[(u64, u64)]) -> bool {
+    let mask = MetricKindMask::COUNTER.union(MetricKindMask::GAUGE);
+    let recency = Recency::new(mask, Some(5));
+    let mut noted = None;
+    let mut kept = true;
+    for (updates, moment) in pages {
+        kept = recency.should_store(kind, &mut noted, *updates, *moment);
+    }
+    kept
 }
 
 #[test]
 fn idle_series_are_told(rt: HostRuntime) {
-    let recency = Recency::new(
-        MetricKindMask::COUNTER.union(MetricKindMask::GAUGE),
-        Some(5),
-    );
-    let mut noted = None;
-    for (kind, updates, now, keep, note) in [
-        (MetricKind::Histogram, 1, 0, true, None),
-        (MetricKind::Counter, 1, 10, true, Some((1, 10))),
-        (MetricKind::Counter, 1, 3, true, Some((1, 10))),
-        (MetricKind::Counter, 1, 15, true, Some((1, 10))),
-        (MetricKind::Counter, 2, 16, true, Some((2, 16))),
-        (MetricKind::Gauge, 2, 21, true, Some((2, 16))),
-        (MetricKind::Gauge, 2, 22, false, Some((2, 16))),
+    for (kind, pages, expected) in [
+        (MetricKind::Counter, [(1, 10), (1, 15)], true),
+        (MetricKind::Counter, [(1, 10), (1, 16)], false),
+        (MetricKind::Counter, [(1, 10), (1, 3)], true),
+        (MetricKind::Gauge, [(1, 10), (2, 16)], true),
+        (MetricKind::Histogram, [(1, 10), (1, 99)], true),
     ] {
-        assert_eq!(rt; recency.should_store(kind, &mut noted, updates, now), keep);
-        assert_eq!(rt; noted, note);
+        assert_eq!(rt; kept(kind, &pages), expected);
     }
-    for (mask, kind, has) in [
-        (MetricKindMask::NONE, MetricKind::Counter, false),
-        (MetricKindMask::HISTOGRAM, MetricKind::Histogram, true),
-        (MetricKindMask::HISTOGRAM, MetricKind::Gauge, false),
-        (MetricKindMask::ALL, MetricKind::Gauge, true),
+}
+
+#[test]
+fn masks_are_sets_of_kinds(rt: HostRuntime) {
+    for (mask, expected) in [
+        (MetricKindMask::NONE, [false, false]),
+        (MetricKindMask::HISTOGRAM, [false, true]),
+        (MetricKindMask::ALL, [true, true]),
     ] {
-        assert_eq!(rt; mask.matches(kind), has);
+        let kinds = [MetricKind::Gauge, MetricKind::Histogram];
+        assert_eq!(rt; kinds.map(|kind| mask.matches(kind)), expected);
     }
 }
 
@@ -193,59 +208,54 @@ fn quantiles(alloc: Global, values: &[i64]) -> Result<Vec<Option<Fixed>>, Memory
 
 #[test]
 fn quantiles_are_the_nearest_ranks(rt: HostRuntime) -> Result<(), Fail> {
-    let alloc = rt.alloc();
     for (values, expected) in [
-        ([].as_slice(), [None, None, None, None]),
-        ([42].as_slice(), [Some(42), Some(42), Some(42), Some(42)]),
-        ([2, 1].as_slice(), [Some(1), Some(1), Some(2), Some(2)]),
-        (
-            [5, -1, 4, 2, 3].as_slice(),
-            [Some(-1), Some(3), Some(5), Some(5)],
-        ),
+        ([42].as_slice(), [42, 42, 42, 42]),
+        ([2, 1].as_slice(), [1, 1, 2, 2]),
+        ([5, -1, 4, 2, 3].as_slice(), [-1, 3, 5, 5]),
     ] {
-        let answers = quantiles(alloc, values)?;
-        assert_eq!(rt; answers.len(), 4);
-        for (answer, value) in answers.iter().zip(expected.iter()) {
-            assert_eq!(rt; answer.map(|fixed| fixed.0), *value);
-        }
+        let answers = quantiles(rt.alloc(), values)?;
+        let expected = expected.map(|value| Some(Fixed(value)));
+        assert_eq!(rt; answers.as_slice(), expected.as_slice());
     }
     Ok(())
 }
 
-#[test]
-fn bags_count_and_merge(rt: HostRuntime) -> Result<(), Fail> {
-    let alloc = rt.alloc();
+/// A full bag, of one 8 and 7 as often as it can be.
+fn full(alloc: Global) -> Result<Bag, Memory> {
     let mut bag = Bag::new(alloc);
     bag.add(Fixed(7), u64::MAX - 1)?;
     let mut other = Bag::new(alloc);
     other.add(Fixed(8), 1)?;
     bag.merge(&other)?;
-    assert_eq!(rt; bag.count(), u64::MAX);
-    assert_eq!(rt; bag.merge(&other), Err(Memory));
+    Ok(bag)
+}
+
+#[test]
+fn a_full_bag_refuses(rt: HostRuntime) -> Result<(), Fail> {
+    let mut bag = full(rt.alloc())?;
     assert_eq!(rt; bag.add(Fixed(9), 1), Err(Memory));
-    assert_eq!(rt;
-        bag.quantile(&Quantile::new(Fixed(1_000_000_000))),
-        Some(Fixed(8))
-    );
+    assert_eq!(rt; bag.count(), u64::MAX);
     Ok(())
+}
+
+/// The histogram of 0.5, 1, 3 and 9 with the bounds 1 and 5.
+fn observed(alloc: Global) -> Result<CumulativeHistogram, Memory> {
+    let bounds = [Fixed(1_000_000_000), Fixed(5_000_000_000)];
+    let mut histogram = CumulativeHistogram::new(alloc, &bounds)?;
+    for value in [500_000_000, 1_000_000_000, 3_000_000_000, 9_000_000_000] {
+        histogram.observe(Fixed(value), 1);
+    }
+    Ok(histogram)
 }
 
 #[test]
 fn buckets_are_cumulative(rt: HostRuntime) -> Result<(), Fail> {
     same_in_any_cuts();
-    let bounds = [Fixed(1_000_000_000), Fixed(5_000_000_000)];
-    let mut histogram = CumulativeHistogram::new(rt.alloc(), &bounds)?;
-    for value in [500_000_000, 1_000_000_000, 3_000_000_000, 9_000_000_000] {
-        histogram.observe(Fixed(value), 1);
-    }
-    assert_eq!(rt;
-        histogram.buckets(),
-        [(bounds[0], 2), (bounds[1], 3)].as_slice()
-    );
+    let histogram = observed(rt.alloc())?;
+    let expected = [(Fixed(1_000_000_000), 2), (Fixed(5_000_000_000), 3)];
+    assert_eq!(rt; histogram.buckets(), expected.as_slice());
     assert_eq!(rt; histogram.sum(), 13_500_000_000);
     assert_eq!(rt; histogram.count(), 4);
-    histogram.observe(Fixed(-1), 3);
-    assert_eq!(rt; histogram.count(), 7);
-    assert_eq!(rt; Quantile::new(bounds[1]).value(), bounds[0]);
+    assert_eq!(rt; Quantile::new(Fixed(5)).value(), Fixed(5));
     Ok(())
 }

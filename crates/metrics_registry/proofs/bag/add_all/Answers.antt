@@ -1,4 +1,4 @@
-use Rattle.std.proofs.Common.{◌≡◌, ◌+◌, ◌∷◌, true, cond, refl, ap, ◌∙◌, arith, w64, rules}
+use Rattle.std.proofs.Common.{◌≡◌, cond, refl, ap, arith, w64, rules}
 use Rattle.std.specs.Prelude.{FitsSigned}
 use Rattle.std.specs.Int.{cast_signed, cast_unsigned}
 use Rattle.std.specs.Ordering.{int_eq}

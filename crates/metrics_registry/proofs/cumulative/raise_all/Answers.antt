@@ -1,4 +1,4 @@
-use Rattle.std.proofs.Common.{◌≡◌, ◌<◌, ◌+◌, ◌++◌, map, take, drop, length, get_or, sym, ap, subst, ◌∙◌, add-one, pos}
+use Rattle.std.proofs.Common.{◌++◌, map, take, drop, get_or, sym, ap, ◌∙◌, add-one, pos}
 use Rattle.std.specs.Prelude.{slice_set}
 use Rattle.metrics_registry.specs.Buckets.{raised_bucket}
 use Rattle.metrics_registry.proofs.Observed.{map_step}

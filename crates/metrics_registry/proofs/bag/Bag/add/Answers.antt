@@ -1,4 +1,4 @@
-use Rattle.std.proofs.Common.{◌≡◌, ◌+◌, ◌++◌, length, sym, ap, ◌∙◌, arith, length-append}
+use Rattle.std.proofs.Common.{◌≡◌, ◌+◌, ◌++◌, length, ap, ◌∙◌, arith, length-append}
 use Rattle.std.proofs.Common.{cond, w64, rules}
 use Rattle.std.specs.Prelude.{ℤ, replicate, FitsSigned}
 use Rattle.std.specs.Int.{cast_signed, cast_unsigned}

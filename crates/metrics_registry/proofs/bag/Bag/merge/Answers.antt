@@ -1,4 +1,4 @@
-use Rattle.std.proofs.Common.{◌≡◌, ◌+◌, ◌++◌, length, ap, ◌∙◌, arith, length-append}
+use Rattle.std.proofs.Common.{◌≡◌, ◌++◌, length, ap, ◌∙◌, arith, length-append}
 use Rattle.metrics_registry.specs.Quantiles.{ascending}
 use Rattle.metrics_registry.specs.Bags.{repeated}
 use Rattle.metrics_registry.specs.QuantileLaws.{length-ascending}

@@ -1,5 +1,4 @@
 use Rattle.std.proofs.Common.{pos, ap, ◌∙◌, map}
-use Rattle.metrics_registry.specs.Cumulative.{HistogramText}
 use Rattle.metrics_registry.specs.Buckets.{bucket_of}
 use Rattle.metrics_registry.proofs.Observed.{buckets-none}
 use Rattle.metrics_registry.proofs.cumulative.CumulativeHistogram.new.Goals as goal
