@@ -6,9 +6,10 @@ use Rattle.drive_script.specs.Texts.{setup_of}
 use Rattle.drive_script.specs.declared.script.Setup.{Setup}
 use Rattle.drive_script.specs.declared.script.Round.{Round}
 
--- the line registers a counter
+-- the line registers a counter or a gauge
 abbrev pub IsBuiltSetup : SetupLine → Type 0
 IsBuiltSetup (Register kinds.Counter key) = Unit {0}
+IsBuiltSetup (Register kinds.Gauge key) = Unit {0}
 IsBuiltSetup _ = ⊥
 
 abbrev pub AreBuiltSetups : List Setup → Type 0

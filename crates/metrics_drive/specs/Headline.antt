@@ -2,9 +2,9 @@
 use Rattle.std.specs.Prelude.{◌≡◌, ℕ, ◌≤◌, List, [], ◌∷◌, ◌++◌, length, Option}
 use Rattle.metrics_core.specs.Outside.{GrewBy, GrewByFront}
 use Rattle.prom_format.specs.Pages.{Family, IsPage}
-use Rattle.drive_script.specs.Script.{ScriptText, CallLine}
+use Rattle.drive_script.specs.Script.{ScriptText}
 use Rattle.drive_script.specs.Valid.{IsScriptOf}
-use Rattle.metrics_drive.specs.Play.{AreOrders, pages_of}
+use Rattle.metrics_drive.specs.Play.{RoundOrders, AreOrders, pages_of}
 
 -- the bytes are these pages, one after another
 abbrev pub ArePages : List ℕ → List (List Family) → Type 0
@@ -15,7 +15,7 @@ ArePages bytes (families ∷ pages) =
 -- For one order of the calls on each series in each round, the bytes are one page for each round, ended by `# EOF`, and
 -- each page is exactly the families of the exporter's state at its round's moment.
 pub record IsPagesOf (script : ScriptText) (bytes : List ℕ) : Type 0 where
-  pub orders : List (List (List CallLine))
+  pub orders : List RoundOrders
   pub legal : AreOrders script orders
   pub pages : ArePages bytes (pages_of script orders)
 

@@ -1,13 +1,15 @@
 -- The play of a script: what the rounds do to the exporter, for a choice of orders (this project's rule).
 use Rattle.std.specs.Prelude.{◌≡◌, ℕ, ◌==◌, Bool, false, ◌||◌, ◌&&◌, List, [], ◌∷◌, ◌++◌, map, ℤ, pos, Option, filter, fold, zip, option_map, slice_get, unwrap_or}
 use Rattle.std.specs.List.{AllZip}
+use Rattle.metrics_core.specs.declared.kinds.MetricKind.{MetricKind}
+use Rattle.metrics_core.specs.declared.kinds.MetricKind.TheVariants as kinds
 use Rattle.metrics_core.specs.declared.kinds.SeriesId.{SeriesId}
 use Rattle.metrics_core.specs.Kinds.{kind_eq}
 use Rattle.prom_format.specs.Pages.{Family}
 use Rattle.prom_exporter.specs.State as prom
-use Rattle.prom_exporter.specs.State.{PrometheusState, Series}
+use Rattle.prom_exporter.specs.State.{PrometheusState, Series, live}
 use Rattle.prom_exporter.specs.Families.{ExporterSettings, families_at}
-use Rattle.drive_script.specs.Script.{ScriptText, SettingsText, RoundText, SetupLine, Describe, Register, CallLine, call_of}
+use Rattle.drive_script.specs.Script.{ScriptText, SettingsText, RoundText, SetupLine, Describe, Register, CallLine, call_of, global_labels}
 
 -- ---- settings
 
@@ -31,7 +33,7 @@ exporter_settings s = record {
   idle = option_map (λ (mask, timeout). record { mask = mask; timeout = timeout }) s.idle;
   units = s.naming || s.units;
   total_suffix = s.naming;
-  globals = s.globals;
+  globals = global_labels s;
 }
 
 -- ---- the state of a play
@@ -57,17 +59,17 @@ after_setup p round = fold setup_step p round.setup
 
 -- ---- orders
 
--- whether a handle names the series
-abbrev pub names : Series → SeriesId → Bool
-names series id = kind_eq series.kind id.kind && series.number == id.number
+-- whether a handle names the series of this kind
+abbrev pub names : MetricKind → Series → SeriesId → Bool
+names kind series id = kind_eq kind id.kind && series.number == id.number
 
--- whether a call's handle names the series
-abbrev pub is_call_on : List SeriesId → Series → CallLine → Bool
-is_call_on handles series call = unwrap_or (option_map (names series) (slice_get handles call.handle)) false
+-- whether a call's handle names the series of this kind
+abbrev pub is_call_on : List SeriesId → MetricKind → Series → CallLine → Bool
+is_call_on handles kind series call = unwrap_or (option_map (names kind series) (slice_get handles call.handle)) false
 
--- the calls of a round on a series, in the script's order
-abbrev pub calls_on : PlayState → RoundText → Series → List CallLine
-calls_on p round series = filter (is_call_on p.handles series) round.calls
+-- the calls of a round on a series of a kind, in the script's order
+abbrev pub calls_on : PlayState → RoundText → MetricKind → Series → List CallLine
+calls_on p round kind series = filter (is_call_on p.handles kind series) round.calls
 
 abbrev pub of_lane : ℕ → List CallLine → List CallLine
 of_lane lane calls = filter (λ call. call.lane == lane) calls
@@ -76,9 +78,21 @@ of_lane lane calls = filter (λ call. call.lane == lane) calls
 abbrev pub IsOrderOf : List CallLine → List CallLine → Type 0
 IsOrderOf calls order = (lane : ℕ) → of_lane lane order ≡ of_lane lane calls
 
+-- for the live series of each kind, the calls of a round on it in some order
+pub record RoundOrders : Type 0 where
+  pub counters : List (List CallLine)
+  pub gauges : List (List CallLine)
+  pub histograms : List (List CallLine)
+
+abbrev pub orders_on : MetricKind → RoundOrders → List (List CallLine)
+orders_on kinds.Counter orders = orders.counters
+orders_on kinds.Gauge orders = orders.gauges
+orders_on kinds.Histogram orders = orders.histograms
+
 -- one order for each live series
-abbrev pub AreOrdersOf : PlayState → RoundText → List (List CallLine) → Type 0
-AreOrdersOf p round orders = AllZip (λ series order. IsOrderOf (calls_on p round series) order) p.prometheus.live orders
+abbrev pub AreOrdersOf : PlayState → RoundText → RoundOrders → Type 0
+AreOrdersOf p round orders =
+    (kind : MetricKind) → AllZip (λ series order. IsOrderOf (calls_on p round kind series) order) (live kind p.prometheus) (orders_on kind orders)
 
 -- ---- a round
 
@@ -86,27 +100,35 @@ AreOrdersOf p round orders = AllZip (λ series order. IsOrderOf (calls_on p roun
 abbrev pub called : ℕ → Series → List CallLine → Series
 called moment series order = record series { calls = series.calls ++ map (λ call. call_of moment call.act) order }
 
+-- the series of a kind after the calls of the round in these orders
+abbrev pub all_called : ℕ → MetricKind → PrometheusState → RoundOrders → List Series
+all_called moment kind s orders = map (λ (series, order). called moment series order) (zip (live kind s) (orders_on kind orders))
+
 -- all series after the calls of the round in these orders
-abbrev pub after_calls : PlayState → RoundText → List (List CallLine) → PlayState
+abbrev pub after_calls : PlayState → RoundText → RoundOrders → PlayState
 after_calls p round orders = record p {
-  prometheus = record p.prometheus { live = map (λ (series, order). called round.moment series order) (zip p.prometheus.live orders) };
+  prometheus = record p.prometheus {
+    counters = all_called round.moment kinds.Counter p.prometheus orders;
+    gauges = all_called round.moment kinds.Gauge p.prometheus orders;
+    histograms = all_called round.moment kinds.Histogram p.prometheus orders;
+  };
 }
 
 -- the state behind the round: its setup, its calls in these orders, and the page step at its moment
-abbrev pub after_round : SettingsText → PlayState → RoundText → List (List CallLine) → PlayState
+abbrev pub after_round : SettingsText → PlayState → RoundText → RoundOrders → PlayState
 after_round settings p round orders =
     let q = after_calls (after_setup p round) round orders in
     record q { prometheus = prom.page_step (exporter_settings settings).idle round.moment q.prometheus }
 
 -- the families of the round's page
-abbrev pub page_of : SettingsText → PlayState → RoundText → List (List CallLine) → List Family
+abbrev pub page_of : SettingsText → PlayState → RoundText → RoundOrders → List Family
 page_of settings p round orders =
     families_at (exporter_settings settings) round.moment (after_round settings p round orders).prometheus
 
 -- ---- all rounds
 
 -- the orders of each round, along one chain of states
-abbrev pub AreOrdersAlong : SettingsText → PlayState → List RoundText → List (List (List CallLine)) → Type 0
+abbrev pub AreOrdersAlong : SettingsText → PlayState → List RoundText → List RoundOrders → Type 0
 AreOrdersAlong settings p [] [] = Unit {0}
 AreOrdersAlong settings p [] (_ ∷ _) = ⊥
 AreOrdersAlong settings p (_ ∷ _) [] = ⊥
@@ -114,15 +136,15 @@ AreOrdersAlong settings p (round ∷ rounds) (orders ∷ choice) =
     AreOrdersOf (after_setup p round) round orders × AreOrdersAlong settings (after_round settings p round orders) rounds choice
 
 -- the pages, one for each round
-abbrev pub pages_along : SettingsText → PlayState → List RoundText → List (List (List CallLine)) → List (List Family)
+abbrev pub pages_along : SettingsText → PlayState → List RoundText → List RoundOrders → List (List Family)
 pages_along settings p [] _ = []
 pages_along settings p (_ ∷ _) [] = []
 pages_along settings p (round ∷ rounds) (orders ∷ choice) =
     page_of settings p round orders ∷ pages_along settings (after_round settings p round orders) rounds choice
 
 -- one order for each round and each series that is live in it
-abbrev pub AreOrders : ScriptText → List (List (List CallLine)) → Type 0
+abbrev pub AreOrders : ScriptText → List RoundOrders → Type 0
 AreOrders script choice = AreOrdersAlong script.settings play_start script.rounds choice
 
-abbrev pub pages_of : ScriptText → List (List (List CallLine)) → List (List Family)
+abbrev pub pages_of : ScriptText → List RoundOrders → List (List Family)
 pages_of script choice = pages_along script.settings play_start script.rounds choice

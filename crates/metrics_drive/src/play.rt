@@ -2,14 +2,14 @@
 
 ghost use Rattle.std.specs.Prelude.{◌≡◌, ◌≤◌, fold, map, length, IfOk, IfErr, OnOk, OnErr};
 ghost use Rattle.metrics_core.specs.Outside.{Rose, GrewBy, GrewByFront};
-ghost use Rattle.drive_script.specs.Script.{no_settings};
-ghost use Rattle.drive_script.specs.Texts.{script_of};
+ghost use Rattle.drive_script.specs.Texts.{script_of, settings_of};
 ghost use Rattle.metrics_drive.specs.Answers.{IsPlayFault, report_of};
 ghost use Rattle.metrics_drive.specs.Built.{AreBuiltRounds};
 ghost use Rattle.metrics_drive.specs.InTurn.{run_text};
+ghost use Rattle.metrics_drive.specs.Play.{exporter_settings};
 
 use crate::Report;
-use drive_script::{Act, CallLine, DriveFault, Round, Script, Setup};
+use drive_script::{Act, CallLine, DriveFault, Round, Script, Settings, Setup};
 use metrics_core::{Memory, MetricKind, SeriesCall, SeriesId, Sink, write_whole};
 use prom_exporter::{BuildError, PrometheusBuilder, PrometheusState};
 use std::alloc::Global;
@@ -23,7 +23,7 @@ pub fn play<K: Sink>(alloc: Global, script: &Script, out: &mut K) -> Result<Repo
     ensures cause { IfErr result (IsPlayFault (Rose (K.faults out.old) (K.faults out.new))) }
     ensures never_falls { K.faults out.old ≤ K.faults out.new }
 {
-    let mut player = match Player::new(alloc) {
+    let mut player = match Player::new(alloc, &script.settings) {
         Ok(player) => player,
         Err(Memory) => return Err(DriveFault::Memory),
     };
@@ -52,9 +52,9 @@ impl Player {
     ghost use Rattle.std.specs.Prelude.{◌≡◌, ◌≤◌, fold, map, IfOk, IfErr, OnOk, OnErr};
     ghost use Rattle.metrics_core.specs.Outside.{Rose, GrewBy, GrewByFront};
     ghost use Rattle.prom_format.specs.Pages.{page_text};
-    ghost use Rattle.prom_exporter.specs.Exporter.{default_settings, page_families, stepped as exporter_stepped};
-    ghost use Rattle.drive_script.specs.Script.{no_settings};
-    ghost use Rattle.drive_script.specs.Texts.{round_of, setup_of, call_line_of};
+    ghost use Rattle.prom_exporter.specs.Exporter.{page_families, stepped as exporter_stepped};
+    ghost use Rattle.drive_script.specs.Script.{SettingsText};
+    ghost use Rattle.drive_script.specs.Texts.{round_of, settings_of, setup_of, call_line_of};
     ghost use Rattle.metrics_drive.specs.Answers.{IsPlayFault};
     ghost use Rattle.metrics_drive.specs.InTurn.{played, round_text};
     ghost use Rattle.metrics_drive.specs.Play.{play_start, setup_step, exporter_settings};
@@ -62,12 +62,12 @@ impl Player {
     ghost use Rattle.metrics_drive.specs.Turns.{call_step};
     ghost use Rattle.metrics_drive.specs.Built.{AreBuiltSetups, IsBuiltSetup};
 
-    /// A player before its first round, over an exporter with the default settings.
-    fn new(alloc: Global) -> Result<Player, Memory>
+    /// A player before its first round, over an exporter with these settings.
+    fn new(alloc: Global, settings: &Settings) -> Result<Player, Memory>
         ensures start { IfOk result (λ player. state_of player ≡ play_start) }
-        ensures settings { IfOk result (λ player. player.exporter.settings ≡ default_settings) }
+        ensures settings { IfOk result (λ player. player.exporter.settings ≡ exporter_settings (settings_of settings.now)) }
     {
-        let builder = PrometheusBuilder::new(alloc)?;
+        let builder = builder_of(alloc, settings)?;
         match builder.build_state(alloc) {
             Ok(exporter) => Ok(Player {
                 exporter,
@@ -84,12 +84,14 @@ impl Player {
         round: &Round,
         out: &mut K,
     ) -> Result<(), DriveFault>
-        requires settings { self.old.exporter.settings ≡ default_settings }
         requires built { AreBuiltSetups round.now.setup.items }
-        ensures settings { self.new.exporter.settings ≡ default_settings }
-        ensures played { OnOk result (state_of self.new ≡ played no_settings (state_of self.old) (round_of round.now)) }
-        ensures page { OnOk result (GrewBy (K.written out.old) (K.written out.new) (round_text no_settings (state_of self.old) (round_of round.now))) }
-        ensures front { OnErr result (GrewByFront (K.written out.old) (K.written out.new) (round_text no_settings (state_of self.old) (round_of round.now))) }
+        ensures settings { self.new.exporter.settings ≡ self.old.exporter.settings }
+        ensures played { (settings : SettingsText) → self.old.exporter.settings ≡ exporter_settings settings
+            → OnOk result (state_of self.new ≡ played settings (state_of self.old) (round_of round.now)) }
+        ensures page { (settings : SettingsText) → self.old.exporter.settings ≡ exporter_settings settings
+            → OnOk result (GrewBy (K.written out.old) (K.written out.new) (round_text settings (state_of self.old) (round_of round.now))) }
+        ensures front { (settings : SettingsText) → self.old.exporter.settings ≡ exporter_settings settings
+            → OnErr result (GrewByFront (K.written out.old) (K.written out.new) (round_text settings (state_of self.old) (round_of round.now))) }
         ensures cause { IfErr result (IsPlayFault (Rose (K.faults out.old) (K.faults out.new))) }
         ensures never_falls { K.faults out.old ≤ K.faults out.new }
     {
@@ -128,7 +130,8 @@ impl Player {
         let Setup::Register { kind, key } = line;
         let id = match kind {
             MetricKind::Counter => self.exporter.register_counter(alloc, key)?,
-            MetricKind::Gauge | MetricKind::Histogram => unreachable!(),
+            MetricKind::Gauge => self.exporter.register_gauge(alloc, key)?,
+            MetricKind::Histogram => unreachable!(),
         };
         self.handles.push(id)?;
         Ok(())
@@ -158,6 +161,10 @@ impl Player {
         };
         let call = match line.act {
             Act::Inc(value) => SeriesCall::Increment(value),
+            Act::Abs(value) => SeriesCall::Absolute(value),
+            Act::Add(value) => SeriesCall::Add(value),
+            Act::Sub(value) => SeriesCall::Sub(value),
+            Act::Set(value) => SeriesCall::Set(value),
         };
         match self.exporter.apply(alloc, id, call) {
             Ok(_) => Ok(()),
@@ -189,4 +196,18 @@ impl Player {
             Err(_) => Err(DriveFault::WriteFault),
         }
     }
+}
+
+/// A builder of an exporter with these settings.
+fn builder_of(alloc: Global, settings: &Settings) -> Result<PrometheusBuilder, Memory>
+    ensures { IfOk result (λ builder. builder ≡ exporter_settings (settings_of settings.now)) }
+{
+    let mut builder = PrometheusBuilder::new(alloc)?;
+    for (key, value) in &settings.globals {
+        builder = match builder.add_global_label(alloc, key.as_str(), value.as_str()) {
+            Ok(builder) => builder,
+            Err(_) => return Err(Memory),
+        };
+    }
+    Ok(builder)
 }

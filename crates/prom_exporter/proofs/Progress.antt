@@ -1,6 +1,6 @@
 -- Bytes that go to a sink in pieces: what was sent, and what waits.
 use Rattle.std.proofs.Common.{◌≡◌, ℕ, List, [], ◌++◌, refl, sym, ap, subst, ◌∙◌, append-nil, append_assoc}
-use Rattle.std.specs.Prelude.{Option, Some, None}
+use Rattle.std.specs.Prelude.{Option, Some, None, Result, Ok, Err, OnOk, OnErr}
 use Rattle.metrics_core.specs.Outside.{GrewBy, GrewByFront}
 use Rattle.metrics_core.proofs.Grown.{grew_none, grew-append, grew_front-append, grew_front-longer}
 
@@ -42,3 +42,17 @@ module _ (a b : Option (List ℕ)) (waiting bytes : List ℕ) (so_far : IsSent a
   -- nothing of it was
   pub sent_nothing : (rest : List ℕ) → GrewByFront a b (bytes ++ rest)
   sent_nothing rest = sent_front b (grew_none b waiting) rest
+
+-- ---- two parts, one behind the other
+
+pub ok_any : {T E X : Type 0} (r : Result T E) → X → OnOk r X
+ok_any (Ok v) x = x
+ok_any (Err e) x = tt
+
+pub ok_behind : {T E : Type 0} (r : Result T E) (a b c : Option (List ℕ)) (x y : List ℕ) → GrewBy a b x → OnOk r (GrewBy b c y) → OnOk r (GrewBy a c (x ++ y))
+ok_behind (Ok v) a b c x y first rest = grew-append a b c x y first rest
+ok_behind (Err e) a b c x y first rest = tt
+
+pub err_behind : {T E : Type 0} (r : Result T E) (a b c : Option (List ℕ)) (x y : List ℕ) → GrewBy a b x → OnErr r (GrewByFront b c y) → OnErr r (GrewByFront a c (x ++ y))
+err_behind (Ok v) a b c x y first rest = tt
+err_behind (Err e) a b c x y first rest = grew_front-append a b c x y first rest

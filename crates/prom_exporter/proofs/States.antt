@@ -13,8 +13,8 @@ use Rattle.metrics_core.specs.declared.kinds.SeriesId.{SeriesId}
 use Rattle.metrics_core.specs.Kinds.{kind_eq}
 use Rattle.metrics_core.specs.Keys.{KeyText, LabelText, key_eq}
 use Rattle.metrics_core.specs.Calls.{Call}
-use Rattle.metrics_registry.specs.Live.{LiveSeries, RegistryText, id_eq, has_id, has_key, id_of_key, cell_of, set_cell, with_cell, IsBelowAll, Rises, AreOf}
-use Rattle.prom_exporter.specs.State.{Series, PrometheusState, live, with_live, no_series, live_series, number_given, register, with_call, kept_at}
+use Rattle.metrics_registry.specs.Live.{LiveSeries, RegistryText, id_eq, has_id, has_key, id_of_key, cell_of, set_cell, with_cell, IsBelowAll, Rises, AreOf, IsNumbered}
+use Rattle.prom_exporter.specs.State.{Series, PrometheusState, live, with_live, no_series, live_series, number_given, register, with_call, call_on, is_live, kept_at}
 use Rattle.prom_exporter.specs.Exporter.{Exporter, settings_with, stepped}
 use Rattle.prom_exporter.specs.Values.{series_of, state_of}
 
@@ -208,3 +208,86 @@ module _ {H : Type 0} (kind : MetricKind) (key : KeyText) (registry : RegistryTe
   pub register-new : id_of_key key (of_kind kind registry) ≡ None → registry.made ≢ no_series
       → register kind key (state_of registry) ≡ record (with_live kind (live kind (state_of registry) ++ series_of (new_series kind registry.made key) ∷ []) (state_of registry)) { made = registry.made + 1 }
   register-new none room = rw (some_found, none, ne_eqb registry.made no_series room) refl
+
+-- ---- calling, as a whole
+
+-- the cell that is there, put back
+pub kept : (id : SeriesId) (es : List (LiveSeries Cell)) (n : ℕ) (cell : Cell) → Rises es → AreOf id.kind n es → cell_of id es ≡ Some cell → with_cell id es cell ≡ es
+kept id [] n cell rises are found = absurd cc
+kept id (e ∷ es) n cell rises are found = by (e.id.number == id.number) refl (kept id es n cell rises.1 are.2)
+  where
+    by : (b : Bool) → (e.id.number == id.number) ≡ b → (cell_of id es ≡ Some cell → with_cell id es cell ≡ es) → with_cell id (e ∷ es) cell ≡ e ∷ es
+    by true is rest =
+        let has : has_id id e ≡ true = same_id id e are.0 ∙ is in
+        let here : e.cell ≡ cell = same_Some e.cell cell (sym (ap (λ b. option_map (λ (s : LiveSeries Cell). s.cell) (cond b (Some e) (find (has_id id) es))) has) ∙ found) in
+        let number : e.id.number ≡ id.number = eqb-true e.id.number id.number is in
+        (λ j. cond (has j) (record e { cell = sym here j }) e ∷ above_keep id cell es n are.2 (subst (λ m. IsBelowAll m es) number rises.0) j)
+    by false is rest =
+        let has : has_id id e ≡ false = same_id id e are.0 ∙ is in
+        let later : cell_of id es ≡ Some cell = sym (ap (λ b. option_map (λ (s : LiveSeries Cell). s.cell) (cond b (Some e) (find (has_id id) es))) has) ∙ found in
+        (λ j. cond (has j) (record e { cell = cell }) e ∷ rest later j)
+
+numbers_of : {H : Type 0} (kind : MetricKind) (registry : RegistryText Cell Cell H) → IsNumbered registry → Rises (of_kind kind registry) × AreOf kind registry.made (of_kind kind registry)
+numbers_of kinds.Counter registry h = h.counters
+numbers_of kinds.Gauge registry h = h.gauges
+numbers_of kinds.Histogram registry h = (tt, tt)
+
+-- where no series of the kind has the number a call changes nothing
+unchanged : {H : Type 0} (kind : MetricKind) (id : SeriesId) (call : Call) (registry : RegistryText Cell Cell H) → map (with_call id.number call) (map series_of (of_kind kind registry)) ≡ map series_of (of_kind kind registry)
+    → call_on kind id.number call (state_of registry) ≡ state_of registry
+unchanged kinds.Counter id call registry same = ap (λ es. record (state_of registry) { counters = es }) same
+unchanged kinds.Gauge id call registry same = ap (λ es. record (state_of registry) { gauges = es }) same
+unchanged kinds.Histogram id call registry same = refl
+
+live_any : {H : Type 0} (kind : MetricKind) (id : SeriesId) (registry : RegistryText Cell Cell H) → is_live kind id.number (state_of registry) ≡ list_any (λ (series : Series). series.number == id.number) (map series_of (of_kind kind registry))
+live_any kind id registry = ap (list_any (λ (series : Series). series.number == id.number)) (live_is kind registry)
+
+module _ {H : Type 0} (id : SeriesId) (call : Call) (registry : RegistryText Cell Cell H) (h : IsNumbered registry) where
+  -- a number that no series was made with
+  pub past-live : registry.made ≤ id.number → false ≡ is_live id.kind id.number (state_of registry)
+  past-live past = sym (live_any id.kind id registry ∙ none_past id (of_kind id.kind registry) id.kind registry.made (numbers_of id.kind registry h).1 past)
+
+  pub past-called : registry.made ≤ id.number → call_on id.kind id.number call (state_of registry) ≡ state_of registry
+  past-called past = unchanged id.kind id call registry (none_called id call (map series_of (of_kind id.kind registry)) (none_past id (of_kind id.kind registry) id.kind registry.made (numbers_of id.kind registry h).1 past))
+
+  module _ (kind : MetricKind) (is : id.kind ≡ kind) where
+    are_of : AreOf id.kind registry.made (of_kind kind registry)
+    are_of = subst (λ k. AreOf k registry.made (of_kind kind registry)) (sym is) (numbers_of kind registry h).1
+
+    any_is : is_live id.kind id.number (state_of registry) ≡ is_some (cell_of id (of_kind kind registry))
+    any_is = ap (λ k. is_live k id.number (state_of registry)) is ∙ live_any kind id registry ∙ is_live_cell id (of_kind kind registry) registry.made are_of
+
+    -- no series of the kind has the id
+    pub none-live : cell_of id (of_kind kind registry) ≡ None → false ≡ is_live id.kind id.number (state_of registry)
+    none-live none = sym (any_is ∙ ap is_some none)
+
+    pub none-called : cell_of id (of_kind kind registry) ≡ None → call_on id.kind id.number call (state_of registry) ≡ state_of registry
+    none-called none =
+        ap (λ k. call_on k id.number call (state_of registry)) is
+        ∙ unchanged kind id call registry (none_called id call (map series_of (of_kind kind registry)) (is_live_cell id (of_kind kind registry) registry.made are_of ∙ ap is_some none))
+
+    -- one has it
+    pub some-live : (cell : Cell) → cell_of id (of_kind kind registry) ≡ Some cell → true ≡ is_live id.kind id.number (state_of registry)
+    some-live cell found = sym (any_is ∙ ap is_some found)
+
+    pub some-short : (cell : Cell) → cell_of id (of_kind kind registry) ≡ Some cell → All (λ (series : Series). length series.calls < 2 ^ 63 - 1) (live id.kind (state_of registry)) → length cell < 2 ^ 63 - 1
+    some-short cell found all = of_cell id (λ calls. length calls < 2 ^ 63 - 1) (of_kind kind registry) cell (subst (All (λ (series : Series). length series.calls < 2 ^ 63 - 1)) (ap (λ k. live k (state_of registry)) is ∙ live_is kind registry) all) found
+
+  module _ (cell : Cell) where
+    pub counter-called : id.kind ≡ kinds.Counter → cell_of id registry.counters ≡ Some cell
+        → state_of (record registry { counters = with_cell id registry.counters (cell ++ call ∷ []) }) ≡ call_on id.kind id.number call (state_of registry)
+    counter-called is found =
+        ap (λ es. record (state_of registry) { counters = es }) (called id call registry.counters registry.made cell h.counters.0 (are_of kinds.Counter is) found)
+        ∙ ap (λ k. call_on k id.number call (state_of registry)) (sym is)
+
+    pub gauge-called : id.kind ≡ kinds.Gauge → cell_of id registry.gauges ≡ Some cell
+        → state_of (record registry { gauges = with_cell id registry.gauges (cell ++ call ∷ []) }) ≡ call_on id.kind id.number call (state_of registry)
+    gauge-called is found =
+        ap (λ es. record (state_of registry) { gauges = es }) (called id call registry.gauges registry.made cell h.gauges.0 (are_of kinds.Gauge is) found)
+        ∙ ap (λ k. call_on k id.number call (state_of registry)) (sym is)
+
+    pub counter-kept : id.kind ≡ kinds.Counter → cell_of id registry.counters ≡ Some cell → state_of (record registry { counters = with_cell id registry.counters cell }) ≡ state_of registry
+    counter-kept is found = ap (λ es. record (state_of registry) { counters = map series_of es }) (kept id registry.counters registry.made cell h.counters.0 (are_of kinds.Counter is) found)
+
+    pub gauge-kept : id.kind ≡ kinds.Gauge → cell_of id registry.gauges ≡ Some cell → state_of (record registry { gauges = with_cell id registry.gauges cell }) ≡ state_of registry
+    gauge-kept is found = ap (λ es. record (state_of registry) { gauges = map series_of es }) (kept id registry.gauges registry.made cell h.gauges.0 (are_of kinds.Gauge is) found)

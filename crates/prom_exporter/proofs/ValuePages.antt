@@ -23,7 +23,7 @@ use Rattle.prom_format.specs.declared.families.FamilyType.TheVariants as types
 use Rattle.prom_exporter.specs.State.{Series, PrometheusState, live}
 use Rattle.prom_exporter.specs.Families.{distinct, names_of_kind, counter_rows, gauge_rows, family_of}
 use Rattle.prom_exporter.specs.Families as pages
-use Rattle.prom_exporter.specs.Exporter.{settings_with, page_body}
+use Rattle.prom_exporter.specs.Exporter.{Exporter, settings_with, page_body}
 use Rattle.prom_exporter.specs.Values.{series_of, state_of, counter_shown, gauge_shown, named, grouped, member_of, metric_name, value_row, value_family, value_families}
 use Rattle.prom_exporter.proofs.States.{stepped-same}
 
@@ -125,3 +125,13 @@ module _ {E X : Type 0} (shown : X → Family) (seen : E → X) where
         ∙ ap (λ l. body (map deref some) ++ body l) (rest_more deref left after r x is step)
         ∙ sym (append_assoc (body (map deref some)) (block_text (shown (seen (deref x)))) (body after))
         ∙ ap (λ l. l ++ body after) (sym (body-yielded_push x))
+
+-- ---- a page in two parts
+
+-- the body of an exporter's page is what its counters and then its gauges make
+pub page_written : {H : Type 0} (t : ℕ) (globals : List LabelText) (registry : RegistryText Cell Cell H) (exporter : Exporter) (counters gauges : List (List ℕ × List (KeyText × Cell)))
+    → record { settings = settings_with globals; state = state_of registry } ≡ exporter → counters ≡ grouped metric_name (map member_of registry.counters) → gauges ≡ grouped metric_name (map member_of registry.gauges)
+    → page_body t exporter ≡ body_text (map (value_family types.Counter counter_shown globals) counters) ++ body_text (map (value_family types.Gauge gauge_shown globals) gauges)
+page_written t globals registry exporter counters gauges view counted gauged =
+    ap (page_body t) (sym view) ∙ page_body-values globals t registry
+    ∙ sym (λ j. body_text (map (value_family types.Counter counter_shown globals) (counted j)) ++ body_text (map (value_family types.Gauge gauge_shown globals) (gauged j)))

@@ -1,8 +1,7 @@
 use Rattle.std.proofs.Common.{◌≡◌, ◌<◌, ◌+◌, length, get_or, ℕ, List, subst, sym, ap, ◌∙◌, map, drop, arith}
 use Rattle.metrics_core.specs.Outside.{GrewUpTo}
 use Rattle.metrics_core.proofs.Grown.{grew_none, grew_up_to-append, grew_up_to-front}
-use Rattle.drive_script.specs.Script.{no_settings}
-use Rattle.drive_script.specs.Texts.{script_of, round_of}
+use Rattle.drive_script.specs.Texts.{script_of, settings_of, round_of}
 use Rattle.metrics_drive.specs.InTurn.{run_text, rounds_text}
 use Rattle.metrics_drive.specs.Play.{PlayState}
 use Rattle.metrics_drive.specs.Player.{state_of}
@@ -18,8 +17,8 @@ returns-in-Err-play_round-clause-front g c =
     let found : c.round-item.result ≡ get_or c.args.script.now.rounds.items c.loop-round.round-index c.round-item.result
     = c.round-item.is ∙ ap (λ rounds. get_or rounds c.loop-round.round-index c.round-item.result) c.deref-round-items.ensures.value in
     let P : List ℕ → Type 0 = λ rest. GrewUpTo (g.K.Sink.written c.args.out.now) (g.K.Sink.written c.loop-round.out) (run_text (script_of c.args.script.now)) rest in
-    let so_far = subst P (next_round (state_of c.loop-round.player) c.args.script.now.rounds.items c.loop-round.round-index c.round-item.result within found) c.loop-round.invariant.so_far in
-    grew_up_to-front _ _ _ _ _ _ so_far c.in-Err-play_round.ensures.front
+    let so_far = subst P (next_round (settings_of c.args.script.now.settings) (state_of c.loop-round.player) c.args.script.now.rounds.items c.loop-round.round-index c.round-item.result within found) c.loop-round.invariant.so_far in
+    grew_up_to-front _ _ _ _ _ _ so_far (c.in-Err-play_round.ensures.front (settings_of c.args.script.now.settings) c.loop-round.invariant.settings)
 
 pub loop-round-preserved : goal.loop-round-preserved
 loop-round-preserved g c =
@@ -27,11 +26,11 @@ loop-round-preserved g c =
     let found : c.round-item.result ≡ get_or c.args.script.now.rounds.items c.loop-round.round-index c.round-item.result
     = c.round-item.is ∙ ap (λ rounds. get_or rounds c.loop-round.round-index c.round-item.result) c.deref-round-items.ensures.value in
     let P : List ℕ → Type 0 = λ rest. GrewUpTo (g.K.Sink.written c.args.out.now) (g.K.Sink.written c.loop-round.out) (run_text (script_of c.args.script.now)) rest in
-    let so_far = subst P (next_round (state_of c.loop-round.player) c.args.script.now.rounds.items c.loop-round.round-index c.round-item.result within found) c.loop-round.invariant.so_far in
+    let so_far = subst P (next_round (settings_of c.args.script.now.settings) (state_of c.loop-round.player) c.args.script.now.rounds.items c.loop-round.round-index c.round-item.result within found) c.loop-round.invariant.so_far in
     let Q : PlayState → Type 0 = λ p. GrewUpTo (g.K.Sink.written c.args.out.now) (g.K.Sink.written c.play_round.new.out) (run_text (script_of c.args.script.now))
-    (rounds_text no_settings p (map round_of (drop (c.loop-round.round-index + 1) c.args.script.now.rounds.items))) in
+    (rounds_text (settings_of c.args.script.now.settings) p (map round_of (drop (c.loop-round.round-index + 1) c.args.script.now.rounds.items))) in
     record {
-      settings = c.in-Ok-play_round.ensures.settings;
+      settings = c.in-Ok-play_round.ensures.settings ∙ c.loop-round.invariant.settings;
       never_falls = omega (arith, c.loop-round.invariant.never_falls, c.in-Ok-play_round.ensures.never_falls);
-      so_far = subst Q (sym c.in-Ok-play_round.ensures.played) (grew_up_to-append _ _ _ _ _ _ so_far c.in-Ok-play_round.ensures.page);
+      so_far = subst Q (sym (c.in-Ok-play_round.ensures.played (settings_of c.args.script.now.settings) c.loop-round.invariant.settings)) (grew_up_to-append _ _ _ _ _ _ so_far (c.in-Ok-play_round.ensures.page (settings_of c.args.script.now.settings) c.loop-round.invariant.settings));
     }

@@ -2,50 +2,49 @@ use Rattle.std.proofs.Common.{◌≡◌, List, ℕ, subst, ◌∙◌, ap, map, f
 use Rattle.std.specs.Prelude.{OnOk, OnErr}
 use Rattle.metrics_core.specs.Outside.{GrewBy, GrewByFront}
 use Rattle.metrics_core.proofs.Grown.{grew_none}
-use Rattle.prom_exporter.specs.Exporter.{default_settings}
 use Rattle.drive_script.specs.Texts.{round_of, setup_of, call_line_of}
-use Rattle.metrics_drive.specs.Play.{PlayState, after_setup, setup_step}
+use Rattle.metrics_drive.specs.Play.{PlayState, exporter_settings, after_setup, setup_step}
 use Rattle.metrics_drive.specs.Player.{state_of}
 use Rattle.metrics_drive.specs.Turns.{call_step}
 use Rattle.metrics_drive.proofs.TurnSteps.{round_played, page_written}
 use Rattle.metrics_drive.proofs.play.Player.play_round.Goals as goal
 
 pub returns-in-Err-make_calls-clause-front : goal.returns-in-Err-make_calls-clause-front
-returns-in-Err-make_calls-clause-front g c = grew_none _ _
+returns-in-Err-make_calls-clause-front g c = λ settings same. grew_none _ _
 
 pub returns-in-Err-clause-front : goal.returns-in-Err-clause-front
-returns-in-Err-clause-front g c = grew_none _ _
+returns-in-Err-clause-front g c = λ settings same. grew_none _ _
 
 -- the state after the setup, the state after the calls, and the settings, which stay
 pub returns-clause-played : goal.returns-clause-played
-returns-clause-played g c =
+returns-clause-played g c = λ script_settings same.
     let set_up : state_of c.set_up.new.self ≡ after_setup (state_of c.args.self.now) (round_of c.args.round.now)
     = c.in-Ok.ensures.stepped ∙ ap (λ s. fold setup_step (state_of c.args.self.now) (map setup_of s)) c.deref.ensures.value in
     let called : state_of c.make_calls.new.self ≡ fold (call_step c.args.round.now.moment) (state_of c.set_up.new.self) (round_of c.args.round.now).calls
     = c.in-Ok-make_calls.ensures.called ∙ ap (λ s. fold (call_step c.args.round.now.moment) (state_of c.set_up.new.self) (map call_line_of s)) c.deref-2.ensures.value in
-    let settings : c.make_calls.new.self.exporter.settings ≡ default_settings
-    = c.in-Ok-make_calls.ensures.settings ∙ c.in-Ok.ensures.settings ∙ c.requires.settings in
+    let settings : c.make_calls.new.self.exporter.settings ≡ exporter_settings script_settings
+    = c.in-Ok-make_calls.ensures.settings ∙ c.in-Ok.ensures.settings ∙ same in
     let P : PlayState → Type 0 = λ x. OnOk c.write_page.result (state_of c.write_page.new.self ≡ x) in
-    subst P (round_played _ _ (round_of c.args.round.now) c.make_calls.new.self.exporter c.make_calls.new.self.handles.items set_up called settings) c.write_page.ensures.stepped
+    subst P (round_played script_settings _ _ (round_of c.args.round.now) c.make_calls.new.self.exporter c.make_calls.new.self.handles.items set_up called settings) c.write_page.ensures.stepped
 
 pub returns-clause-page : goal.returns-clause-page
-returns-clause-page g c =
+returns-clause-page g c = λ script_settings same.
     let set_up : state_of c.set_up.new.self ≡ after_setup (state_of c.args.self.now) (round_of c.args.round.now)
     = c.in-Ok.ensures.stepped ∙ ap (λ s. fold setup_step (state_of c.args.self.now) (map setup_of s)) c.deref.ensures.value in
     let called : state_of c.make_calls.new.self ≡ fold (call_step c.args.round.now.moment) (state_of c.set_up.new.self) (round_of c.args.round.now).calls
     = c.in-Ok-make_calls.ensures.called ∙ ap (λ s. fold (call_step c.args.round.now.moment) (state_of c.set_up.new.self) (map call_line_of s)) c.deref-2.ensures.value in
-    let settings : c.make_calls.new.self.exporter.settings ≡ default_settings
-    = c.in-Ok-make_calls.ensures.settings ∙ c.in-Ok.ensures.settings ∙ c.requires.settings in
+    let settings : c.make_calls.new.self.exporter.settings ≡ exporter_settings script_settings
+    = c.in-Ok-make_calls.ensures.settings ∙ c.in-Ok.ensures.settings ∙ same in
     let P : List ℕ → Type 0 = λ text. OnOk c.write_page.result (GrewBy (g.K.Sink.written c.args.out.now) (g.K.Sink.written c.write_page.new.out) text) in
-    subst P (page_written _ _ (round_of c.args.round.now) c.make_calls.new.self.exporter c.make_calls.new.self.handles.items set_up called settings) c.write_page.ensures.page
+    subst P (page_written script_settings _ _ (round_of c.args.round.now) c.make_calls.new.self.exporter c.make_calls.new.self.handles.items set_up called settings) c.write_page.ensures.page
 
 pub returns-clause-front : goal.returns-clause-front
-returns-clause-front g c =
+returns-clause-front g c = λ script_settings same.
     let set_up : state_of c.set_up.new.self ≡ after_setup (state_of c.args.self.now) (round_of c.args.round.now)
     = c.in-Ok.ensures.stepped ∙ ap (λ s. fold setup_step (state_of c.args.self.now) (map setup_of s)) c.deref.ensures.value in
     let called : state_of c.make_calls.new.self ≡ fold (call_step c.args.round.now.moment) (state_of c.set_up.new.self) (round_of c.args.round.now).calls
     = c.in-Ok-make_calls.ensures.called ∙ ap (λ s. fold (call_step c.args.round.now.moment) (state_of c.set_up.new.self) (map call_line_of s)) c.deref-2.ensures.value in
-    let settings : c.make_calls.new.self.exporter.settings ≡ default_settings
-    = c.in-Ok-make_calls.ensures.settings ∙ c.in-Ok.ensures.settings ∙ c.requires.settings in
+    let settings : c.make_calls.new.self.exporter.settings ≡ exporter_settings script_settings
+    = c.in-Ok-make_calls.ensures.settings ∙ c.in-Ok.ensures.settings ∙ same in
     let P : List ℕ → Type 0 = λ text. OnErr c.write_page.result (GrewByFront (g.K.Sink.written c.args.out.now) (g.K.Sink.written c.write_page.new.out) text) in
-    subst P (page_written _ _ (round_of c.args.round.now) c.make_calls.new.self.exporter c.make_calls.new.self.handles.items set_up called settings) c.write_page.ensures.front
+    subst P (page_written script_settings _ _ (round_of c.args.round.now) c.make_calls.new.self.exporter c.make_calls.new.self.handles.items set_up called settings) c.write_page.ensures.front

@@ -1,4 +1,4 @@
-use Rattle.std.proofs.Common.{◌≡◌, ◌+◌, [], ◌∷◌, ◌++◌, None, map, sym, ap, subst, ◌∙◌, arith}
+use Rattle.std.proofs.Common.{◌≡◌, List, ◌+◌, [], ◌∷◌, ◌++◌, None, map, sym, ap, subst, ◌∙◌, arith}
 use Rattle.std.proofs.lemmas.List.{map_push}
 use Rattle.metrics_core.specs.Keys.{LabelText}
 use Rattle.metrics_core.specs.declared.kinds.MetricKind.TheVariants.{Gauge}
@@ -20,3 +20,22 @@ returns-in-Some-clause-registered c =
 pub returns-in-Some-clause-id : goal.returns-in-Some-clause-id
 returns-in-Some-clause-id c =
     rw (← c.self.view_is) (id-live Gauge c.args.key.now c.self.inside.series c.self.inside.series.made c.in-Some.id c.made-number.ensures.numbered.gauges.1 (sym c.in-Some.ensures))
+
+pub returns-then-number-clause-id : goal.returns-then-number-clause-id
+returns-then-number-clause-id c =
+    rw (← c.self.view_is) (ap (λ n. record { kind = Gauge; number = n }) (c.made-number.ensures.made ∙ sym (number-new Gauge c.args.key.now c.self.inside.series (sym c.in_default.ensures))))
+
+pub returns-clause-registered : goal.returns-clause-registered
+returns-clause-registered c =
+    let series = c.self.inside.series in
+    let key = c.args.key.now in
+    let new = new_series Gauge series.made key in
+    let grown : state_of c.add_gauge.new.self ≡ state_of (with_gauges series (series.gauges ++ new ∷ []) (series.made + 1)) =
+    ap state_of (c.in-Ok.ensures.added ∙ (λ j. with_gauges series (series.gauges ++ record { id = c.in-Ok.ensures.id j; key = c.in_ok-key.ensures.same j; cell = c.in_ok-cell.ensures j } ∷ []) (series.made + 1))) in
+    let pushed = ap (λ l. record (state_of series) { gauges = l; made = series.made + 1 }) (map_push series_of series.gauges new) in
+    let room = register-new Gauge key series (sym c.in_default.ensures) (λ full. c.if-number.false (c.made-number.ensures.made ∙ full)) in
+    rw (← c.self.view_is) (ap (exporter (labels_of c.self.inside.globals.entries)) (grown ∙ pushed ∙ sym room))
+
+pub returns-clause-id : goal.returns-clause-id
+returns-clause-id c =
+    rw (← c.self.view_is) (c.in-Ok.ensures.id ∙ ap (λ n. record { kind = Gauge; number = n }) (sym (number-new Gauge c.args.key.now c.self.inside.series (sym c.in_default.ensures))))

@@ -1,0 +1,64 @@
+use Rattle.std.proofs.Common.{◌≡◌, ℕ, List, ◌++◌, map, sym, ap, subst, ◌∙◌}
+use Rattle.std.specs.Prelude.{OnOk, OnErr}
+use Rattle.std.proofs.lemmas.Result.{err_from_is_err_and}
+use Rattle.metrics_core.proofs.Grown.{grew_none, grew_front-longer}
+use Rattle.metrics_core.specs.Outside.{GrewBy, GrewByFront}
+use Rattle.prom_format.specs.LabelSets.{labels_of}
+use Rattle.prom_exporter.specs.Exporter.{stepped, page_body}
+use Rattle.prom_exporter.specs.Values.{grouped, member_of, metric_name}
+use Rattle.prom_exporter.proofs.Progress.{ok_any, ok_behind, err_behind}
+use Rattle.prom_exporter.proofs.States.{stepped-same}
+use Rattle.prom_exporter.proofs.ValuePages.{page_written}
+use Rattle.prom_exporter.proofs.state.PrometheusState.render_to_write.Given.{Over}
+use Rattle.prom_exporter.proofs.state.PrometheusState.render_to_write.Goals as goal
+
+pub returns-in_err-counters-clause-front : goal.returns-in_err-counters-clause-front
+returns-in_err-counters-clause-front g c =
+    let refusal = err_from_is_err_and c.from_residual.result c.from_residual.ensures.1 in
+    rw refusal.1 (grew_none _ _)
+
+pub returns-in_err-gauges-clause-front : goal.returns-in_err-gauges-clause-front
+returns-in_err-gauges-clause-front g c =
+    let refusal = err_from_is_err_and c.from_residual-in_err-gauges.result c.from_residual-in_err-gauges.ensures.1 in
+    rw refusal.1 (grew_none _ _)
+
+pub returns-in_err-write_families-clause-failed : goal.returns-in_err-write_families-clause-failed
+returns-in_err-write_families-clause-failed g c _ = rw (← c.self.view_is) (sym (stepped-same c.args.moment (labels_of c.self.inside.globals.entries) c.self.inside.series))
+
+pub returns-in_err-write_families-clause-front : goal.returns-in_err-write_families-clause-front
+returns-in_err-write_families-clause-front g c =
+    let globals = labels_of c.self.inside.globals.entries in
+    let series = c.self.inside.series in
+    let counted = c.in_ok-counters.ensures ∙ ap (λ es. grouped metric_name (map member_of es)) c.counters.ensures in
+    let gauged = c.in_ok-gauges.ensures ∙ ap (λ es. grouped metric_name (map member_of es)) c.gauges.ensures in
+    let whole = page_written c.args.moment globals series c.args.self.now _ _ c.self.view_is counted gauged in
+    let refusal = err_from_is_err_and c.from_residual-in_err-write_families.result c.from_residual-in_err-write_families.ensures.1 in
+    rw (refusal.1, whole) (grew_front-longer _ _ _ _ c.in_err-write_families.ensures.front)
+
+pub returns-clause-stepped : goal.returns-clause-stepped
+returns-clause-stepped g c =
+    let same : c.args.self.now ≡ stepped c.args.moment c.args.self.now = rw (← c.self.view_is) (sym (stepped-same c.args.moment (labels_of c.self.inside.globals.entries) c.self.inside.series)) in
+    ok_any c.write_families-2.result same
+
+pub returns-clause-failed : goal.returns-clause-failed
+returns-clause-failed g c _ = rw (← c.self.view_is) (sym (stepped-same c.args.moment (labels_of c.self.inside.globals.entries) c.self.inside.series))
+
+pub returns-clause-body : goal.returns-clause-body
+returns-clause-body g c =
+    let globals = labels_of c.self.inside.globals.entries in
+    let series = c.self.inside.series in
+    let counted = c.in_ok-counters.ensures ∙ ap (λ es. grouped metric_name (map member_of es)) c.counters.ensures in
+    let gauged = c.in_ok-gauges.ensures ∙ ap (λ es. grouped metric_name (map member_of es)) c.gauges.ensures in
+    let whole = page_written c.args.moment globals series c.args.self.now _ _ c.self.view_is counted gauged in
+    let P : List ℕ → Type 0 = λ text. OnOk c.write_families-2.result (GrewBy (g.K.Sink.written c.args.sink.now) (g.K.Sink.written c.write_families-2.new.sink) text) in
+    subst P (sym whole) (ok_behind c.write_families-2.result (g.K.Sink.written c.args.sink.now) (g.K.Sink.written c.write_families.new.sink) (g.K.Sink.written c.write_families-2.new.sink) _ _ c.in_ok-write_families.ensures.body c.write_families-2.ensures.body)
+
+pub returns-clause-front : goal.returns-clause-front
+returns-clause-front g c =
+    let globals = labels_of c.self.inside.globals.entries in
+    let series = c.self.inside.series in
+    let counted = c.in_ok-counters.ensures ∙ ap (λ es. grouped metric_name (map member_of es)) c.counters.ensures in
+    let gauged = c.in_ok-gauges.ensures ∙ ap (λ es. grouped metric_name (map member_of es)) c.gauges.ensures in
+    let whole = page_written c.args.moment globals series c.args.self.now _ _ c.self.view_is counted gauged in
+    let P : List ℕ → Type 0 = λ text. OnErr c.write_families-2.result (GrewByFront (g.K.Sink.written c.args.sink.now) (g.K.Sink.written c.write_families-2.new.sink) text) in
+    subst P (sym whole) (err_behind c.write_families-2.result (g.K.Sink.written c.args.sink.now) (g.K.Sink.written c.write_families.new.sink) (g.K.Sink.written c.write_families-2.new.sink) _ _ c.in_ok-write_families.ensures.body c.write_families-2.ensures.front)
