@@ -76,8 +76,8 @@ module _ {H : Type 0} (globals : List LabelText) (t : ℕ) (registry : RegistryT
   families_are =
       append-nil _
       ∙ (λ j.
-        families_of_kind counter_shown globals (counter_rows (settings_with globals) (state_of registry)) (λ e. one_row globals e (counter_shown e.cell)) types.Counter registry.counters j
-        ++ families_of_kind gauge_shown globals (gauge_rows (settings_with globals) (state_of registry)) (λ e. one_row globals e (gauge_shown e.cell)) types.Gauge registry.gauges j)
+      families_of_kind counter_shown globals (counter_rows (settings_with globals) (state_of registry)) (λ e. one_row globals e (counter_shown e.cell)) types.Counter registry.counters j
+      ++ families_of_kind gauge_shown globals (gauge_rows (settings_with globals) (state_of registry)) (λ e. one_row globals e (gauge_shown e.cell)) types.Gauge registry.gauges j)
 
   -- the body of the page is the text of the groups
   pub page_body-values : page_body t (record { settings = settings_with globals; state = state_of registry })

@@ -38,7 +38,10 @@ impl Model for PrometheusState {
 
 impl PrometheusState {
     /// An exporter with these global labels, otherwise with the default settings, and no series.
-    pub(crate) fn new(alloc: Global, globals: IndexMap<String, String>) -> Result<PrometheusState, Memory>
+    pub(crate) fn new(
+        alloc: Global,
+        globals: IndexMap<String, String>,
+    ) -> Result<PrometheusState, Memory>
         ensures { IfOk result (λ exporter. exporter ≡ record { settings = settings_with (labels_of globals.entries); state = empty_state }) }
     {
         Ok(PrometheusState {

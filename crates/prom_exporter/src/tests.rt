@@ -1,7 +1,7 @@
 //! Worked pages, and what the exporter answers to ids and to a failing sink.
 
 use crate::{BuildError, PrometheusBuilder, PrometheusState, basic_page, pages_are_read};
-use metrics_core::{Key, KeyName, Label, MemorySink, MetricKind, SeriesCall, SeriesId};
+use metrics_core::{Fixed, Key, KeyName, Label, MemorySink, MetricKind, SeriesCall, SeriesId};
 use std::alloc::Global;
 use std::test::Fail;
 
@@ -77,6 +77,42 @@ fn ids_and_families(rt: HostRuntime) -> Result<(), Fail> {
     assert_eq!(rt;
         sink.written(),
         b"# TYPE a_b counter\na_b 7\na_b 0\n\n".as_slice()
+    );
+    Ok(())
+}
+
+#[test]
+fn counters_before_gauges_with_global_labels(rt: HostRuntime) -> Result<(), Fail> {
+    let alloc = rt.alloc();
+    let mut exporter = PrometheusBuilder::new(alloc)?
+        .add_global_label(alloc, "a", "1")?
+        .add_global_label(alloc, "b", "2")?
+        .build_state(alloc)?;
+    let labels = Vec::from_array(
+        alloc,
+        [
+            Label::from_static_parts("a", "9"),
+            Label::from_static_parts("c", "\\\""),
+        ],
+    )?;
+    let labeled = Key::from_parts(KeyName::from_const_str("g"), labels);
+    let gauge = exporter.register_gauge(alloc, &labeled)?;
+    let counter = exporter.register_counter(alloc, &Key::from_static_name("g"))?;
+    assert_eq!(rt; exporter.register_gauge(alloc, &labeled), Ok(gauge));
+    for (id, call) in [
+        (counter, SeriesCall::Increment(1)),
+        (counter, SeriesCall::Absolute(10)),
+        (gauge, SeriesCall::Set(Fixed(i64::MAX))),
+        (gauge, SeriesCall::Add(Fixed(1))),
+        (gauge, SeriesCall::Sub(Fixed(0))),
+    ] {
+        assert_eq!(rt; exporter.apply(alloc, id, call), Ok(true));
+    }
+    let mut sink = MemorySink::new(alloc, 1000, Vec::new(alloc));
+    exporter.render_to_write(alloc, 0, &mut sink)?;
+    assert_eq!(rt;
+        sink.written(),
+        b"# TYPE g counter\ng{a=\"1\",b=\"2\"} 10\n\n# TYPE g gauge\ng{a=\"9\",b=\"2\",c=\"\\\"\"} -9223372036.854775808\n\n".as_slice()
     );
     Ok(())
 }

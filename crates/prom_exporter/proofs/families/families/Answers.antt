@@ -25,18 +25,17 @@ loop-key-preserved g c =
     let more : map deref_pair group.items ≡ map deref_pair (unwrap_or (lookup (string_eq name) c.loop-key.families.entries) c.new.result).items ++ member ∷ [] =
     ap (map deref_pair) c.in_ok-push.ensures.items
     ∙ map-append deref_pair c.or_insert-members.result.now.items ((c.in-Some.key, c.in-Some.cell) ∷ [])
-    ∙ ap (λ members. map deref_pair members.items ++ member ∷ []) (c.or_insert-members.ensures.value ∙ ap (λ found. unwrap_or found c.new.result) c.in_ok-families.ensures.value) in
-    (
+    ∙ ap (λ members. map deref_pair members.items ++ member ∷ []) (c.or_insert-members.ensures.value ∙ ap (λ found. unwrap_or found c.new.result) c.in_ok-families.ensures.value) in (
       shown_entries _ _ (map_with_value c.in_ok-families.field-0 group).entries _ (search rules)
-      (ap (map group_of) (c.in_ok-families.ensures.update.1 group)
-      ∙ entries-insert_entry (λ members. map deref_pair members.items) name group c.new.result member (ap (map deref_pair) c.new.ensures.items) c.loop-key.families.entries more
-      ∙ ap (λ groups. with_member groups (string_bytes name) member) c.loop-key.invariant.0
-      ∙ ap (λ n. with_member (grouped metric_name so_far) n member) (c.in_ok-name.ensures ∙ ap sanitized_metric_name c.name.ensures.text)
-      ∙ sym (grouped-push metric_name so_far member)
-      ∙ ap (grouped metric_name) (sym (map_push seen c.loop-key.yielded item))),
+          (ap (map group_of) (c.in_ok-families.ensures.update.1 group)
+          ∙ entries-insert_entry (λ members. map deref_pair members.items) name group c.new.result member (ap (map deref_pair) c.new.ensures.items) c.loop-key.families.entries more
+          ∙ ap (λ groups. with_member groups (string_bytes name) member) c.loop-key.invariant.0
+          ∙ ap (λ n. with_member (grouped metric_name so_far) n member) (c.in_ok-name.ensures ∙ ap sanitized_metric_name c.name.ensures.text)
+          ∙ sym (grouped-push metric_name so_far member)
+          ∙ ap (grouped metric_name) (sym (map_push seen c.loop-key.yielded item))),
       c.loop-key.invariant.1 ∙ ap (λ left. so_far ++ map member_of left) c.in-Some.ensures.steps
-      ∙ sym (append_assoc so_far (member ∷ []) (map member_of c.next.new.self))
-      ∙ ap (λ l. l ++ map member_of c.next.new.self) (sym (map_push seen c.loop-key.yielded item)),
+          ∙ sym (append_assoc so_far (member ∷ []) (map member_of c.next.new.self))
+          ∙ ap (λ l. l ++ map member_of c.next.new.self) (sym (map_push seen c.loop-key.yielded item)),
     )
 
 pub returns : goal.returns
