@@ -17,7 +17,8 @@ use std::sync::Wait;
 use std::thread::Threads;
 
 /// Runs lanes side by side over counters, and reads the counter with this index. Its value is then that after the earlier calls
-/// and all calls of the lanes on it, in one order in which each lane's calls stand as the lane has them.
+/// and all calls of the lanes on it, in one order in which each lane's calls stand as the lane has them. All passes are back at
+/// the end, also after a refusal.
 pub fn run_counters<R: Threads + Wait + Sync, H: LaneHook + Sync>(
     rt: &R,
     alloc: Global,
@@ -29,6 +30,7 @@ pub fn run_counters<R: Threads + Wait + Sync, H: LaneHook + Sync>(
     requires roots { Roots counter_root counters.old × AtRest counter_root counters.old }
     requires fit { AllFit (length counters.old) lanes.now }
     requires index { index < length counters.old }
+    ensures roots { Roots counter_root counters.new × AtRest counter_root counters.new }
     ensures value { IfOk result (λ n. (c : CounterSeries) → get_elem? counters.old index ≡ some c → PlayedByCounter (all_calls_on index lanes.now) (counter_root c) n) }
 {
     match run_lanes(rt, alloc, hook, counters, lanes) {
@@ -38,7 +40,8 @@ pub fn run_counters<R: Threads + Wait + Sync, H: LaneHook + Sync>(
 }
 
 /// Runs lanes side by side over gauges, and reads the gauge with this index. Its value is then that after the earlier calls
-/// and all calls of the lanes on it, in one order in which each lane's calls stand as the lane has them.
+/// and all calls of the lanes on it, in one order in which each lane's calls stand as the lane has them. All passes are back at
+/// the end, also after a refusal.
 pub fn run_gauges<R: Threads + Wait + Sync, H: LaneHook + Sync>(
     rt: &R,
     alloc: Global,
@@ -50,6 +53,7 @@ pub fn run_gauges<R: Threads + Wait + Sync, H: LaneHook + Sync>(
     requires roots { Roots gauge_root gauges.old × AtRest gauge_root gauges.old }
     requires fit { AllFit (length gauges.old) lanes.now }
     requires index { index < length gauges.old }
+    ensures roots { Roots gauge_root gauges.new × AtRest gauge_root gauges.new }
     ensures value { IfOk result (λ n. (c : GaugeSeries) → get_elem? gauges.old index ≡ some c → PlayedByGauge (all_calls_on index lanes.now) (gauge_root c) n.0) }
 {
     match run_lanes(rt, alloc, hook, gauges, lanes) {
