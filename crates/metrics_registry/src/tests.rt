@@ -1,9 +1,5 @@
 //! Worked examples: what each call answers at concrete types.
 
-ghost use Rattle.std.specs.Prelude.{◌≡◌, is_some, IsTrue, nat_lt, filter_map};
-ghost use Rattle.metrics_registry.specs.Live.{cell_of, with_cell};
-ghost use Rattle.metrics_registry.specs.RetainedLaws.{kept_series};
-
 use crate::*;
 use metrics_core::{Fixed, Key, Memory, MetricKind, SeriesId};
 use std::alloc::Global;
@@ -52,31 +48,6 @@ fn live(alloc: Global, registry: &Numbers) -> Result<Vec<(u64, u64)>, Memory> {
     Ok(live)
 }
 
-/// Writes the cell of a counter, where it is live.
-fn write(registry: &mut Numbers, id: SeriesId, value: u64) -> bool
-    ensures live { result ≡ is_some (cell_of id registry.old.counters) }
-    ensures written { IsTrue result → registry.new ≡ record registry.old { counters = with_cell id registry.old.counters value } }
-{
-    match registry.get_counter_mut(id) {
-        Some(cell) => {
-            *cell = value;
-            true
-        }
-        None => false,
-    }
-}
-
-/// Keeps the counters below a bound.
-fn keep_below(registry: &mut Numbers, bound: u64)
-    ensures { registry.new.counters ≡ filter_map (kept_series (λ _ cell. nat_lt cell bound) (λ _ cell. cell)) registry.old.counters }
-{
-    registry.retain_counters(
-        |_id: SeriesId, cell: &mut u64| -> bool
-            ensures { (result ≡ nat_lt cell.old bound) × (cell.new ≡ cell.old) }
-        { *cell < bound },
-    );
-}
-
 #[test]
 fn a_deletion_keeps_the_order(rt: HostRuntime) -> Result<(), Fail> {
     let alloc = rt.alloc();
@@ -90,64 +61,11 @@ fn a_deletion_keeps_the_order(rt: HostRuntime) -> Result<(), Fail> {
 }
 
 #[test]
-fn many_are_removed_at_once(rt: HostRuntime) -> Result<(), Fail> {
-    let alloc = rt.alloc();
-    let mut registry = four(alloc)?;
-    write(&mut registry, counter(1), 25);
-    keep_below(&mut registry, 25);
-    let expected = [(0, 0), (2, 20)];
-    assert_eq!(rt; live(alloc, &registry)?.as_slice(), expected.as_slice());
-    Ok(())
-}
-
-#[test]
 fn an_id_names_one_kind(rt: HostRuntime) -> Result<(), Fail> {
     let registry = four(rt.alloc())?;
     assert_eq!(rt; registry.get_counter(counter(2)).copied(), Some(20));
     assert_eq!(rt; registry.get_gauge(counter(2)).copied(), None);
     Ok(())
-}
-
-/// A gauge that is made, found, changed, kept and removed: its cell at the end, if each step succeeded.
-fn gauge(alloc: Global) -> Option<u64> {
-    let mut registry = Numbers::new(alloc).ok()?;
-    let id = registry.add_gauge(Key::from_static_name("a"), 5).ok()?;
-    *registry.get_gauge_mut(id)? += 1;
-    registry.retain_gauges(|_, _| true);
-    let cell = registry.get_gauge(id).copied()?;
-    let count = registry.gauges().count();
-    if registry.find_gauge(&Key::from_static_name("a")) == Some(id)
-        && registry.delete_gauge(id)
-        && count == 1
-    {
-        Some(cell)
-    } else {
-        None
-    }
-}
-
-/// The same of a histogram.
-fn histogram(alloc: Global) -> Option<u64> {
-    let mut registry = Numbers::new(alloc).ok()?;
-    let id = registry.add_histogram(Key::from_static_name("a"), 5).ok()?;
-    *registry.get_histogram_mut(id)? += 1;
-    registry.retain_histograms(|_, _| true);
-    let cell = registry.get_histogram(id).copied()?;
-    let count = registry.histograms().count();
-    if registry.find_histogram(&Key::from_static_name("a")) == Some(id)
-        && registry.delete_histogram(id)
-        && count == 1
-    {
-        Some(cell)
-    } else {
-        None
-    }
-}
-
-#[test]
-fn gauges_and_histograms_are_kept_alike(rt: HostRuntime) {
-    assert_eq!(rt; gauge(rt.alloc()), Some(6));
-    assert_eq!(rt; histogram(rt.alloc()), Some(6));
 }
 
 /// Whether a page at each moment keeps a series with so many updates, where it falls idle after 5.
