@@ -260,15 +260,16 @@ call_again line call h =
     let w = worded rest call.handle call.act act in
     let whole_line : line ≡ decimal call.lane ++ (verb_text w.verb ++ (decimal call.handle ++ (codes " " ++ w.argument))) =
     h.spelled ∙ ap spaced (words_are ∙ ap (λ l. decimal call.lane ∷ l) w.words_are) ∙ call_spaced w.verb (decimal call.lane) (decimal call.handle) w.argument in
-    whole_again _ _ Ends (seen_reads call_of_parts call_parts_at SpellsParts Ends parts_read) refl line call
-    (
+    whole_again _ _ Ends (seen_reads call_of_parts call_parts_at SpellsParts Ends parts_read) refl line call (
       (call.lane, (w.verb, (call.handle, call.act))),
-      refl, (
-      decimal call.lane,
-      verb_text w.verb ++ (decimal call.handle ++ (codes " " ++ w.argument)),
-      (refl, omega (arith, lane_fits)),
-      (verb_text w.verb, decimal call.handle ++ (codes " " ++ w.argument), refl, (decimal call.handle, codes " " ++ w.argument, (refl, omega (arith, handle_fits)), (w.argument, w.spelled, refl), refl), refl),
-      whole_line),
+      refl,
+      (
+        decimal call.lane,
+        verb_text w.verb ++ (decimal call.handle ++ (codes " " ++ w.argument)),
+        (refl, omega (arith, lane_fits)),
+        (verb_text w.verb, decimal call.handle ++ (codes " " ++ w.argument), refl, (decimal call.handle, codes " " ++ w.argument, (refl, omega (arith, handle_fits)), (w.argument, w.spelled, refl), refl), refl),
+        whole_line,
+      ),
     )
 
 -- ---- one reading

@@ -327,8 +327,7 @@ next_handles old new (CallOf call) h handles =
 pub next_valid : (lines : List (List ℕ)) (line : List ℕ) (old new : ScriptText) (says : ScriptLine) → Valid lines old → IsLine line says → IsNext old says new → Valid (lines ++ line ∷ []) new
 next_valid lines line old new says h is_line next =
     let each : AllZip IsLine (lines ++ line ∷ []) (script_lines new) = subst (AllZip IsLine (lines ++ line ∷ [])) (sym (next_said old new says next)) (zip_push IsLine lines (script_lines old) line says h.0.each is_line) in
-    let script : IsScript (lines ++ line ∷ []) new = record { settings = next_settings old new says next h.0.settings; each = each } in
-    (
+    let script : IsScript (lines ++ line ∷ []) new = record { settings = next_settings old new says next h.0.settings; each = each } in (
       script,
       record {
         moments = next_moments old new says next h.1.moments;

@@ -106,10 +106,10 @@ pub none_after : (rounds : List Round) (n : ℕ) (round : Round) (moment : ℕ) 
 none_after rounds n round moment len some last sorted within =
     All-from_get_or (λ (r : text.RoundText). r.moment ≤ moment) (map round_of rounds) (round_of round)
     (λ i inside.
-        let count : length (map round_of rounds) ≡ n = length-map rounds round_of ∙ sym len in
-        let end : get_or (map round_of rounds) (n - 1) (round_of round) ≡ round_of round = get_or-map round_of rounds (n - 1) round ∙ ap round_of (sym last) in
-        let below = sorted i (n - 1) (round_of round) (omega (arith, inside, count)) (omega (arith, count, some)) in
-        omega (arith, below, within, ap (λ (r : text.RoundText). r.moment) end))
+    let count : length (map round_of rounds) ≡ n = length-map rounds round_of ∙ sym len in
+    let end : get_or (map round_of rounds) (n - 1) (round_of round) ≡ round_of round = get_or-map round_of rounds (n - 1) round ∙ ap round_of (sym last) in
+    let below = sorted i (n - 1) (round_of round) (omega (arith, inside, count)) (omega (arith, count, some)) in
+    omega (arith, below, within, ap (λ (r : text.RoundText). r.moment) end))
 
 -- a round does not begin before the last one
 pub no_earlier : (settings : SettingsText) (rounds : List Round) (n : ℕ) (round : Round) (moment : ℕ) (new : ScriptText) → n ≡ length rounds → 0 < n → round ≡ get_or rounds (n - 1) round → moment < round.moment → BeginsRound (script_with settings rounds) moment new → ⊥

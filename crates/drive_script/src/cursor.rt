@@ -51,6 +51,7 @@ use std::alloc::Global;
 
 /// How many billionths one is, and how many places they have behind the point.
 const ONE: u64 = 1_000_000_000;
+
 const PLACES: usize = 9;
 
 /// The greatest whole part of a value.
@@ -207,10 +208,7 @@ impl<'a> Cursor<'a> {
         let Some(value) = self.text(alloc)? else {
             return Ok(None);
         };
-        Ok(Some(Label::new(
-            SharedString::from(key),
-            SharedString::from(value),
-        )))
+        Ok(Some(Label::new(SharedString::from(key), SharedString::from(value))))
     }
 
     /// Takes what a call line does.

@@ -41,13 +41,18 @@ impl Heads {
     }
 
     /// Notes the head of one more register line. Answers whether all with this head have equal keys.
-    pub(crate) fn note(&mut self, alloc: Global, kind: MetricKind, key: &Key) -> Result<bool, Memory>
+    pub(crate) fn note(
+        &mut self,
+        alloc: Global,
+        kind: MetricKind,
+        key: &Key,
+    ) -> Result<bool, Memory>
         ensures globals { self.new.globals ≡ self.old.globals }
         ensures apart { (registered : List Registration) → AreHeadsOf (labels_of self.old.globals.entries) (keys_by_head self.old.keys.entries) registered
             → IfOk result (λ apart. MatchBool apart
-                (AreHeadsOf (labels_of self.old.globals.entries) (keys_by_head self.new.keys.entries) (registered ++ record { kind = kind; key = key.now } ∷ [])
-                    × All (λ r. PrintApart (labels_of self.old.globals.entries) r (record { kind = kind; key = key.now })) registered)
-                (¬ All (λ r. PrintApart (labels_of self.old.globals.entries) r (record { kind = kind; key = key.now })) registered)) }
+            (AreHeadsOf (labels_of self.old.globals.entries) (keys_by_head self.new.keys.entries) (registered ++ record { kind = kind; key = key.now } ∷ [])
+            × All (λ r. PrintApart (labels_of self.old.globals.entries) r (record { kind = kind; key = key.now })) registered)
+            (¬ All (λ r. PrintApart (labels_of self.old.globals.entries) r (record { kind = kind; key = key.now })) registered)) }
     {
         let head = self.head(alloc, kind, key)?;
         if let Some(known) = self.keys.get(&head) {

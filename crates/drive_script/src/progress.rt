@@ -80,7 +80,9 @@ impl Progress {
         ensures { script_of result ≡ script_so_far self }
     {
         let Progress {
-            settings, rounds, ..
+            settings,
+            rounds,
+            ..
         } = self;
         Script { settings, rounds }
     }

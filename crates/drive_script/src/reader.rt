@@ -52,13 +52,17 @@ mod tests {
 
     #[test]
     fn a_counter_a_gauge_and_their_calls(rt: HostRuntime) -> Result<(), Fail> {
-        let bytes = b"global \"e\" \"a b\"\nround 0\nregister counter \"c\"\nregister gauge \"\xc3\xa9 \\\"\" \"k\"=\"\\n\\\\\" \"l\"=\"\"\n0 inc 0 42\n7 abs 0 7\n1 set 1 -3.14\n2 add 1 5\n3 sub 1 0.000000001\nround 0\nround 1\n";
+        let bytes =
+            b"global \"e\" \"a b\"\nround 0\nregister counter \"c\"\nregister gauge \"\xc3\xa9 \\\"\" \"k\"=\"\\n\\\\\" \"l\"=\"\"\n0 inc 0 42\n7 abs 0 7\n1 set 1 -3.14\n2 add 1 5\n3 sub 1 0.000000001\nround 0\nround 1\n";
         let script = read_script(rt.alloc(), bytes)?;
         let (key, value) = &script.settings.globals[0];
         assert_eq!(rt; (key.as_str(), value.as_str()), ("e", "a b"));
         assert_eq!(rt; script.rounds.len(), 3);
         let round = &script.rounds[0];
-        assert_eq!(rt; (round.moment, round.setup.len(), round.calls.len()), (0, 2, 5));
+        assert_eq!(rt;
+            (round.moment, round.setup.len(), round.calls.len()),
+            (0, 2, 5)
+        );
         let Setup::Register { kind, key } = &round.setup[1];
         assert_eq!(rt; (*kind, key.name()), (MetricKind::Gauge, "\u{e9} \""));
         for (label, value) in key.labels().zip(["\n\\", ""].iter()) {
@@ -100,10 +104,22 @@ mod tests {
             ("round 0\nregister counter \"a\"\n0 set 0 1\n", 3),
             ("round 0\nregister gauge \"a\"\n0 set 0 1.0000000001\n", 3),
             ("round 0\nregister gauge \"a\"\n0 set 0 1.\n", 3),
-            ("round 0\nregister gauge \"a\"\n0 set 0 9223372036.854775808\n", 3),
-            ("round 0\nregister counter \"a\"\n0 inc 0 1\nregister counter \"b\"\n", 4),
-            ("round 0\nregister counter \"x\" \"a\"=\"\\\\\"\nregister counter \"x\" \"a\"=\"\\\\\\\\\"\n", 3),
-            ("round 0\nregister counter \"a b\"\nregister gauge \"a_b\"\nregister counter \"a_b\"\n", 4),
+            (
+                "round 0\nregister gauge \"a\"\n0 set 0 9223372036.854775808\n",
+                3,
+            ),
+            (
+                "round 0\nregister counter \"a\"\n0 inc 0 1\nregister counter \"b\"\n",
+                4,
+            ),
+            (
+                "round 0\nregister counter \"x\" \"a\"=\"\\\\\"\nregister counter \"x\" \"a\"=\"\\\\\\\\\"\n",
+                3,
+            ),
+            (
+                "round 0\nregister counter \"a b\"\nregister gauge \"a_b\"\nregister counter \"a_b\"\n",
+                4,
+            ),
         ] {
             let fault = read_script(rt.alloc(), text.as_bytes()).err();
             assert_eq!(rt; fault, Some(DriveFault::Script { line }), "at {text}");

@@ -16,8 +16,8 @@ mod tests;
 pub use families::FamilyType;
 pub use labels::{LabelSet, LabelStrings, put_label};
 pub use laws::{
-    escapes_tell_their_text, full_names_are_metric_names, heads_tell_names_and_labels, names_stay, one_reading, one_text,
-    printed_alike_where_meant_alike, sanitized_texts_are_names,
+    escapes_tell_their_text, full_names_are_metric_names, heads_tell_names_and_labels, names_stay,
+    one_reading, one_text, printed_alike_where_meant_alike, sanitized_texts_are_names,
 };
 pub use lines::{row_head, write_help_line, write_metric_line, write_type_line};
 pub use names::{sanitize_label_key, sanitize_metric_name};

@@ -34,10 +34,12 @@ returns-2 c =
           let begins : BeginsRound (script_so_far old) c.args.moment (script_with (settings_of old.settings) c.push.new.self.items) =
           subst (λ rs. BeginsRound (script_so_far old) c.args.moment (script_with (settings_of old.settings) rs)) (sym c.in_ok-push.ensures.items)
           (round_begun (settings_of old.settings) old.rounds.items round c.new.ensures.items c.new-2.ensures.items (not_before c sorted)) in
-          let same = round_registered (script_so_far old) (script_with (settings_of old.settings) c.push.new.self.items) c.args.moment begins in
-          (begins, record {
-            globals = known.globals;
-            kinds = known.kinds ∙ ap kinds_of (sym same);
-            heads = subst (AreHeadsOf (labels_of old.heads.globals.entries) (keys_by_head old.heads.keys.entries)) (sym same) known.heads;
-          });
+          let same = round_registered (script_so_far old) (script_with (settings_of old.settings) c.push.new.self.items) c.args.moment begins in (
+            begins,
+            record {
+              globals = known.globals;
+              kinds = known.kinds ∙ ap kinds_of (sym same);
+              heads = subst (AreHeadsOf (labels_of old.heads.globals.entries) (keys_by_head old.heads.keys.entries)) (sym same) known.heads;
+            },
+          );
     }

@@ -21,5 +21,5 @@ returns c = record {
   next = λ known.
       let next = added c known in
       let same = none_registered _ _ _ next in
-      (next, record { globals = known.globals; kinds = known.kinds ∙ ap kinds_of (sym same); heads = subst (AreHeadsOf (labels_of c.args.self.now.heads.globals.entries) (keys_by_head c.args.self.now.heads.keys.entries)) (sym same) known.heads })
+      (next, record { globals = known.globals; kinds = known.kinds ∙ ap kinds_of (sym same); heads = subst (AreHeadsOf (labels_of c.args.self.now.heads.globals.entries) (keys_by_head c.args.self.now.heads.keys.entries)) (sym same) known.heads });
 }

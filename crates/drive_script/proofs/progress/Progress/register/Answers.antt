@@ -57,8 +57,7 @@ returns c = record {
       let some = c.in-Some.ensures.variant.0 refl in
       let pushed = c.in_ok-push-2.ensures.items in
       let grown = script_with settings (set rounds.items (vec_len rounds - 1) (record { moment = c.in-Some.round.now.moment; setup = c.push-2.new.self; calls = c.in-Some.round.now.calls })) in
-      let all = key_registered settings rounds.items (vec_len rounds) rounds.ok.0 some c.in-Some.round.now last c.push-2.new.self c.args.kind c.args.key pushed (no_call c) in
-      (
+      let all = key_registered settings rounds.items (vec_len rounds) rounds.ok.0 some c.in-Some.round.now last c.push-2.new.self c.args.kind c.args.key pushed (no_call c) in (
         register_added settings rounds.items (vec_len rounds) rounds.ok.0 some c.in-Some.round.now last c.push-2.new.self c.args.kind c.args.key pushed (no_call c) room apart,
         record {
           globals = ap (λ globals. labels_of globals.entries) c.in_ok-note.ensures.globals ∙ known.globals;
