@@ -134,3 +134,95 @@ fn answers_by_the_bytes_that_come(rt: HostRuntime) -> Result<(), Fail> {
     assert!(rt; holds(alloc, vec![in alloc; 0u8; 67_108_865]?, &long)?);
     Ok(())
 }
+
+/// Whether the program answers 0 over a script of one round and writes this page.
+fn shows(alloc: Global, script: &[u8], page: &'static [u8]) -> Result<bool, AllocError> {
+    holds(alloc, script.to_vec(alloc)?, &Case { page, ..DONE })
+}
+
+#[test]
+fn shows_counters_and_gauges_of_any_texts(rt: HostRuntime) -> Result<(), Fail> {
+    let alloc = rt.alloc();
+    let rows: [(&'static [u8], &'static [u8]); 9] = [
+        (
+            b"round 0\nregister gauge \"basic_gauge\" \"wutang\"=\"forever\"\n0 set 0 -3.14\n",
+            b"# TYPE basic_gauge gauge\nbasic_gauge{wutang=\"forever\"} -3.14\n\n# EOF\n",
+        ),
+        (
+            b"round 0\nregister counter \"c\"\n0 inc 0 1\n1 abs 0 10\n",
+            b"# TYPE c counter\nc 10\n\n# EOF\n",
+        ),
+        (
+            b"round 0\nregister counter \"c\"\n0 inc 0 18446744073709551615\n0 inc 0 1\n",
+            b"# TYPE c counter\nc 0\n\n# EOF\n",
+        ),
+        (
+            b"round 0\nregister gauge \"g\"\n0 set 0 9223372036.854775807\n0 add 0 0.000000001\n",
+            b"# TYPE g gauge\ng -9223372036.854775808\n\n# EOF\n",
+        ),
+        (
+            b"round 0\nregister counter \"1\xC3\xA9 b\"\n",
+            b"# TYPE ___b counter\n___b 0\n\n# EOF\n",
+        ),
+        (
+            b"round 0\nregister counter \"\"\n",
+            b"# TYPE _ counter\n_ 0\n\n# EOF\n",
+        ),
+        (
+            b"round 0\nregister counter \"x\" \"a\"=\"\\\\\\\"\"\n",
+            b"# TYPE x counter\nx{a=\"\\\"\"} 0\n\n# EOF\n",
+        ),
+        (
+            b"round 0\nregister counter \"x\" \"a\"=\"\\\\\\nb\"\n",
+            b"# TYPE x counter\nx{a=\"\\n\\\\b\"} 0\n\n# EOF\n",
+        ),
+        (
+            b"global \"a\" \"1\"\nglobal \"b\" \"2\"\nround 0\nregister counter \"x\" \"a\"=\"9\" \"c\"=\"3\"\n",
+            b"# TYPE x counter\nx{a=\"9\",b=\"2\",c=\"3\"} 0\n\n# EOF\n",
+        ),
+    ];
+    for (script, page) in &rows {
+        assert!(rt; shows(alloc, script, page)?);
+    }
+    Ok(())
+}
+
+#[test]
+fn writes_a_page_for_each_round(rt: HostRuntime) -> Result<(), Fail> {
+    let alloc = rt.alloc();
+    let rounds = Case {
+        page: b"# TYPE c counter\nc 42\n\n# EOF\n# TYPE c counter\nc 42\n\n# EOF\n# TYPE c counter\nc 42\n\n# EOF\n",
+        said: b"pages 3 sent 0 unsent 0 dropped 0\n",
+        ..DONE
+    };
+    let script = b"round 0\nregister counter \"c\"\n0 inc 0 42\nround 0\nround 1\n";
+    assert!(rt; holds(alloc, script.to_vec(alloc)?, &rounds)?);
+    Ok(())
+}
+
+#[test]
+fn names_the_first_bad_line(rt: HostRuntime) -> Result<(), Fail> {
+    let alloc = rt.alloc();
+    let rows: [(&'static [u8], &'static [u8]); 4] = [
+        (
+            b"round 0\nregister counter \"x\" \"a\"=\"\\\\\"\nregister counter \"x\" \"a\"=\"\\\\\\\\\"\n",
+            b"script: line 3\n",
+        ),
+        (b"round 5\nround 4\n", b"script: line 2\n"),
+        (
+            b"round 0\nregister counter \"basic_counter\"\n0 inc 0",
+            b"script: line 3\n",
+        ),
+        (b"round 0\n8 inc 0 1\nround 0\nround\n", b"script: line 2\n"),
+    ];
+    for (script, said) in &rows {
+        let case = Case {
+            status: 3,
+            page: b"",
+            said,
+            ..DONE
+        };
+        assert!(rt; holds(alloc, script.to_vec(alloc)?, &case)?);
+    }
+    Ok(())
+}
