@@ -1,7 +1,7 @@
 -- From the parts of a run to what it says as a whole.
 use Rattle.std.proofs.Common.{◌≡◌, ℕ, ◌≤◌, ◌⊎◌, inl, inr, List, length, refl, subst, arith}
 use Rattle.std.specs.Prelude.{Option, Some, None, IfSome}
-use Rattle.metrics_core.specs.Outside.{GrewBy, GrewByFront}
+use Rattle.metrics_core.specs.Outside.{Rose, GrewBy, GrewByFront}
 use Rattle.drive_script.specs.Script.{ScriptText, lines_of}
 use Rattle.drive_script.specs.Valid.{IsScriptOf}
 use Rattle.drive_script.proofs.Laws.{beginnings}
@@ -133,3 +133,11 @@ unread_answers (Some bytes) S K faults.TooLong h = long_complete bytes S K h
 unread_answers (Some bytes) S K faults.ReadFault h = read_fault_complete bytes S K h
 unread_answers (Some bytes) S K faults.WriteFault h = absurd h
 unread_answers (Some bytes) S K faults.Memory h = memory_complete bytes S K
+
+-- the cause that a round had is one of the play that it stands in
+pub play_fault_later : (first before now : ℕ) (fault : DriveFault) → first ≤ before → IsPlayFault (Rose before now) fault → IsPlayFault (Rose first now) fault
+play_fault_later first before now faults.WriteFault le rose = omega (arith, le, rose)
+play_fault_later first before now faults.Memory le rose = tt
+play_fault_later first before now (faults.Script _) le rose = absurd rose
+play_fault_later first before now faults.TooLong le rose = absurd rose
+play_fault_later first before now faults.ReadFault le rose = absurd rose

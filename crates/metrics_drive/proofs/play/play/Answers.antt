@@ -1,11 +1,12 @@
-use Rattle.std.proofs.Common.{◌≡◌, ◌<◌, ◌+◌, length, get_or, ℕ, List, subst, sym, ap, ◌∙◌, map, drop, arith}
+use Rattle.std.proofs.Common.{◌≡◌, ◌<◌, ◌≤◌, ◌+◌, length, get_or, ℕ, List, [], subst, sym, ap, ◌∙◌, map, drop, drop_of_length-le, arith}
 use Rattle.metrics_core.specs.Outside.{GrewUpTo}
-use Rattle.metrics_core.proofs.Grown.{grew_none, grew_up_to-append, grew_up_to-front}
+use Rattle.metrics_core.proofs.Grown.{grew_none, grew_up_to-append, grew_up_to-front, grew_up_to-end}
 use Rattle.drive_script.specs.Texts.{script_of, settings_of, round_of}
 use Rattle.metrics_drive.specs.InTurn.{run_text, rounds_text}
 use Rattle.metrics_drive.specs.Play.{PlayState}
 use Rattle.metrics_drive.specs.Player.{state_of}
 use Rattle.metrics_drive.proofs.TurnSteps.{next_round}
+use Rattle.metrics_drive.proofs.DriveSteps.{play_fault_later}
 use Rattle.metrics_drive.proofs.play.play.Goals as goal
 
 pub returns-in-Err-clause-front : goal.returns-in-Err-clause-front
@@ -34,3 +35,15 @@ loop-round-preserved g c =
       never_falls = omega (arith, c.loop-round.invariant.never_falls, c.in-Ok-play_round.ensures.never_falls);
       so_far = subst Q (sym (c.in-Ok-play_round.ensures.played (settings_of c.args.script.now.settings) c.loop-round.invariant.settings)) (grew_up_to-append _ _ _ _ _ _ so_far (c.in-Ok-play_round.ensures.page (settings_of c.args.script.now.settings) c.loop-round.invariant.settings));
     }
+
+pub returns-in-Err-play_round-clause-cause : goal.returns-in-Err-play_round-clause-cause
+returns-in-Err-play_round-clause-cause g c =
+    play_fault_later _ (g.K.Sink.faults c.loop-round.out) _ c.in-Err-play_round.fault c.loop-round.invariant.never_falls c.in-Err-play_round.ensures.cause
+
+pub returns-clause-pages : goal.returns-clause-pages
+returns-clause-pages g c =
+    let past : length c.args.script.now.rounds.items ≤ c.loop-round.round-index
+    = omega (arith, c.loop-round-test.false, ap length c.deref-round-items.ensures.value) in
+    let none : rounds_text (settings_of c.args.script.now.settings) (state_of c.loop-round.player) (map round_of (drop c.loop-round.round-index c.args.script.now.rounds.items)) ≡ []
+    = ap (λ rest. rounds_text (settings_of c.args.script.now.settings) (state_of c.loop-round.player) (map round_of rest)) (drop_of_length-le c.args.script.now.rounds.items past) in
+    grew_up_to-end _ _ _ _ none c.loop-round.invariant.so_far
