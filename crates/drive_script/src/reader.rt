@@ -55,6 +55,7 @@ mod tests {
         let bytes =
             b"global \"e\" \"a b\"\nround 0\nregister counter \"c\"\nregister gauge \"\xc3\xa9 \\\"\" \"k\"=\"\\n\\\\\" \"l\"=\"\"\n0 inc 0 42\n7 abs 0 7\n1 set 1 -3.14\n2 add 1 5\n3 sub 1 0.000000001\nround 0\nround 1\n";
         let script = read_script(rt.alloc(), bytes)?;
+        assert_eq!(rt; script.settings.globals.len(), 1);
         let (key, value) = &script.settings.globals[0];
         assert_eq!(rt; (key.as_str(), value.as_str()), ("e", "a b"));
         assert_eq!(rt; script.rounds.len(), 3);
