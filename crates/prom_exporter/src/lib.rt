@@ -13,6 +13,3 @@ pub use builder::PrometheusBuilder;
 pub use errors::BuildError;
 pub use laws::{basic_page, pages_are_read};
 pub use state::PrometheusState;
-
-#[cfg(test)]
-mod tests;
