@@ -4,7 +4,7 @@ ghost use Rattle.std.specs.Prelude.{◌≡◌, ◌+◌, ◌-◌, ◌^◌, ◌<�
 ghost use Rattle.std.specs.Option.{option_copied, option_copied_mut};
 ghost use Rattle.std.specs.Borrow.{sem};
 ghost use Rattle.metrics_core.specs.declared.kinds.MetricKind.TheVariants.{Counter, Gauge, Histogram};
-ghost use Rattle.metrics_registry.specs.Live.{IsNumbered, id_of_key, cell_of, is_live, without, Rises};
+ghost use Rattle.metrics_registry.specs.Live.{IsNumbered, id_of_key, cell_of, is_live, without};
 ghost use Rattle.metrics_registry.specs.Places.{IsPlace};
 ghost use Rattle.metrics_registry.specs.Retained.{Retains};
 
@@ -106,6 +106,7 @@ impl<C: Drop, G: Drop, H: Drop> Registry<C, G, H> {
     pub fn get_counter_mut(&mut self, id: SeriesId) -> Option<&mut C>
         ensures* writes_back { sem 𝓛 (lends_counter C.row G.row H.row self.entry id result) }
         ensures value { option_copied_mut result ≡ cell_of id self.old.counters }
+        ensures numbered { IsNumbered self.old }
     {
         match self.place_of_counter(id) {
             Some(place) => Some(self.counter_at(place)),
@@ -116,7 +117,7 @@ impl<C: Drop, G: Drop, H: Drop> Registry<C, G, H> {
     /// The place of a live counter.
     fn place_of_counter(&self, id: SeriesId) -> Option<usize>
         ensures place { IsPlace id self.now.counters result }
-        ensures rises { Rises self.now.counters }
+        ensures numbered { IsNumbered self.now }
     {
         self.counters.place(id)
     }
@@ -195,6 +196,7 @@ impl<C: Drop, G: Drop, H: Drop> Registry<C, G, H> {
     pub fn get_gauge_mut(&mut self, id: SeriesId) -> Option<&mut G>
         ensures* writes_back { sem 𝓛 (lends_gauge C.row G.row H.row self.entry id result) }
         ensures value { option_copied_mut result ≡ cell_of id self.old.gauges }
+        ensures numbered { IsNumbered self.old }
     {
         match self.place_of_gauge(id) {
             Some(place) => Some(self.gauge_at(place)),
@@ -205,7 +207,7 @@ impl<C: Drop, G: Drop, H: Drop> Registry<C, G, H> {
     /// The place of a live gauge.
     fn place_of_gauge(&self, id: SeriesId) -> Option<usize>
         ensures place { IsPlace id self.now.gauges result }
-        ensures rises { Rises self.now.gauges }
+        ensures numbered { IsNumbered self.now }
     {
         self.gauges.place(id)
     }
@@ -284,6 +286,7 @@ impl<C: Drop, G: Drop, H: Drop> Registry<C, G, H> {
     pub fn get_histogram_mut(&mut self, id: SeriesId) -> Option<&mut H>
         ensures* writes_back { sem 𝓛 (lends_histogram C.row G.row H.row self.entry id result) }
         ensures value { option_copied_mut result ≡ cell_of id self.old.histograms }
+        ensures numbered { IsNumbered self.old }
     {
         match self.place_of_histogram(id) {
             Some(place) => Some(self.histogram_at(place)),
@@ -294,7 +297,7 @@ impl<C: Drop, G: Drop, H: Drop> Registry<C, G, H> {
     /// The place of a live histogram.
     fn place_of_histogram(&self, id: SeriesId) -> Option<usize>
         ensures place { IsPlace id self.now.histograms result }
-        ensures rises { Rises self.now.histograms }
+        ensures numbered { IsNumbered self.now }
     {
         self.histograms.place(id)
     }

@@ -2,4 +2,6 @@ pub mod Printable
 pub mod Groups
 pub mod Progress
 pub mod States
+pub mod Seen
+pub mod Home
 pub mod ValuePages

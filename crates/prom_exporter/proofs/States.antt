@@ -11,11 +11,10 @@ use Rattle.metrics_core.specs.declared.kinds.MetricKind.{MetricKind}
 use Rattle.metrics_core.specs.declared.kinds.MetricKind.TheVariants as kinds
 use Rattle.metrics_core.specs.declared.kinds.SeriesId.{SeriesId}
 use Rattle.metrics_core.specs.Kinds.{kind_eq}
-use Rattle.metrics_core.specs.Keys.{KeyText, LabelText, key_eq}
+use Rattle.metrics_core.specs.Keys.{KeyText, key_eq}
 use Rattle.metrics_core.specs.Calls.{Call}
 use Rattle.metrics_registry.specs.Live.{LiveSeries, RegistryText, id_eq, has_id, has_key, id_of_key, cell_of, set_cell, with_cell, IsBelowAll, Rises, AreOf, IsNumbered}
-use Rattle.prom_exporter.specs.State.{Series, PrometheusState, live, with_live, no_series, live_series, number_given, register, with_call, call_on, is_live, kept_at}
-use Rattle.prom_exporter.specs.Exporter.{Exporter, settings_with, stepped}
+use Rattle.prom_exporter.specs.State.{Series, PrometheusState, live, with_live, no_series, live_series, number_given, register, with_call, call_on, is_live, kept_at, page_step}
 use Rattle.prom_exporter.specs.Values.{series_of, state_of}
 
 abbrev Cell : Type 0
@@ -61,7 +60,7 @@ kind_eq_refl kinds.Gauge = refl
 kind_eq_refl kinds.Histogram = refl
 
 module _ (id : SeriesId) where
-  same_id : (e : LiveSeries Cell) → e.id.kind ≡ id.kind → has_id id e ≡ (e.id.number == id.number)
+  same_id : {X : Type 0} (e : LiveSeries X) → e.id.kind ≡ id.kind → has_id id e ≡ (e.id.number == id.number)
   same_id e kind = ap (λ k. kind_eq k id.kind && (e.id.number == id.number)) kind ∙ ap (λ b. b && (e.id.number == id.number)) (kind_eq_refl id.kind)
 
   -- series with greater numbers take no call
@@ -71,7 +70,7 @@ module _ (id : SeriesId) where
       let other : (e.id.number == id.number) ≡ false = ne_eqb e.id.number id.number (λ same. absurd (omega (arith, same, below.0))) in
       (λ j. cond (other j) (record (series_of e) { calls = e.cell ++ call ∷ [] }) (series_of e) ∷ above_stay call es below.1 j)
 
-  above_keep : (cell : Cell) (es : List (LiveSeries Cell)) (n : ℕ) → AreOf id.kind n es → IsBelowAll id.number es → with_cell id es cell ≡ es
+  above_keep : {X : Type 0} (cell : X) (es : List (LiveSeries X)) (n : ℕ) → AreOf id.kind n es → IsBelowAll id.number es → with_cell id es cell ≡ es
   above_keep cell [] n are below = refl
   above_keep cell (e ∷ es) n are below =
       let other : has_id id e ≡ false = same_id e are.0 ∙ ne_eqb e.id.number id.number (λ same. absurd (omega (arith, same, below.0))) in
@@ -146,12 +145,9 @@ all_stay : (t : ℕ) (kind : MetricKind) (es : List Series) → filter_map (kept
 all_stay t kind [] = refl
 all_stay t kind (s ∷ es) = ap (λ l. s ∷ l) (all_stay t kind es)
 
-pub stepped-same : {H : Type 0} (t : ℕ) (globals : List LabelText) (registry : RegistryText Cell Cell H) → stepped t (record { settings = settings_with globals; state = state_of registry }) ≡ record { settings = settings_with globals; state = state_of registry }
-stepped-same t globals registry =
-    (λ j. record {
-      settings = settings_with globals;
-      state = record { counters = all_stay t kinds.Counter (map series_of registry.counters) j; gauges = all_stay t kinds.Gauge (map series_of registry.gauges) j; histograms = []; made = registry.made; published = []; pending = [] };
-    })
+pub page_step-same : {H : Type 0} (t : ℕ) (registry : RegistryText Cell Cell H) → page_step None t (state_of registry) ≡ state_of registry
+page_step-same t registry =
+    (λ j. record { counters = all_stay t kinds.Counter (map series_of registry.counters) j; gauges = all_stay t kinds.Gauge (map series_of registry.gauges) j; histograms = []; made = registry.made; published = []; pending = [] })
 
 -- ---- registering, as a whole
 
@@ -212,19 +208,19 @@ module _ {H : Type 0} (kind : MetricKind) (key : KeyText) (registry : RegistryTe
 -- ---- calling, as a whole
 
 -- the cell that is there, put back
-pub kept : (id : SeriesId) (es : List (LiveSeries Cell)) (n : ℕ) (cell : Cell) → Rises es → AreOf id.kind n es → cell_of id es ≡ Some cell → with_cell id es cell ≡ es
+pub kept : {X : Type 0} (id : SeriesId) (es : List (LiveSeries X)) (n : ℕ) (cell : X) → Rises es → AreOf id.kind n es → cell_of id es ≡ Some cell → with_cell id es cell ≡ es
 kept id [] n cell rises are found = absurd cc
-kept id (e ∷ es) n cell rises are found = by (e.id.number == id.number) refl (kept id es n cell rises.1 are.2)
+kept {X} id (e ∷ es) n cell rises are found = by (e.id.number == id.number) refl (kept id es n cell rises.1 are.2)
   where
     by : (b : Bool) → (e.id.number == id.number) ≡ b → (cell_of id es ≡ Some cell → with_cell id es cell ≡ es) → with_cell id (e ∷ es) cell ≡ e ∷ es
     by true is rest =
         let has : has_id id e ≡ true = same_id id e are.0 ∙ is in
-        let here : e.cell ≡ cell = same_Some e.cell cell (sym (ap (λ b. option_map (λ (s : LiveSeries Cell). s.cell) (cond b (Some e) (find (has_id id) es))) has) ∙ found) in
+        let here : e.cell ≡ cell = same_Some e.cell cell (sym (ap (λ b. option_map (λ (s : LiveSeries X). s.cell) (cond b (Some e) (find (has_id id) es))) has) ∙ found) in
         let number : e.id.number ≡ id.number = eqb-true e.id.number id.number is in
         (λ j. cond (has j) (record e { cell = sym here j }) e ∷ above_keep id cell es n are.2 (subst (λ m. IsBelowAll m es) number rises.0) j)
     by false is rest =
         let has : has_id id e ≡ false = same_id id e are.0 ∙ is in
-        let later : cell_of id es ≡ Some cell = sym (ap (λ b. option_map (λ (s : LiveSeries Cell). s.cell) (cond b (Some e) (find (has_id id) es))) has) ∙ found in
+        let later : cell_of id es ≡ Some cell = sym (ap (λ b. option_map (λ (s : LiveSeries X). s.cell) (cond b (Some e) (find (has_id id) es))) has) ∙ found in
         (λ j. cond (has j) (record e { cell = cell }) e ∷ rest later j)
 
 numbers_of : {H : Type 0} (kind : MetricKind) (registry : RegistryText Cell Cell H) → IsNumbered registry → Rises (of_kind kind registry) × AreOf kind registry.made (of_kind kind registry)

@@ -12,7 +12,6 @@ use Rattle.metrics_core.specs.Numbers.{page_number}
 use Rattle.metrics_core.specs.declared.kinds.MetricKind.{MetricKind}
 use Rattle.metrics_core.specs.declared.kinds.MetricKind.TheVariants as kinds
 use Rattle.metrics_core.specs.Keys.{KeyText, LabelText, label_set}
-use Rattle.metrics_core.specs.Calls.{Call}
 use Rattle.metrics_registry.specs.Live.{LiveSeries, RegistryText}
 use Rattle.prom_format.proofs.PageText.{label_set_braced}
 use Rattle.prom_format.specs.Names.{sanitized_metric_name}
@@ -23,67 +22,72 @@ use Rattle.prom_format.specs.declared.families.FamilyType.TheVariants as types
 use Rattle.prom_exporter.specs.State.{Series, PrometheusState, live}
 use Rattle.prom_exporter.specs.Families.{distinct, names_of_kind, counter_rows, gauge_rows, family_of}
 use Rattle.prom_exporter.specs.Families as pages
-use Rattle.prom_exporter.specs.Exporter.{Exporter, settings_with, page_body}
-use Rattle.prom_exporter.specs.Values.{series_of, state_of, counter_shown, gauge_shown, named, grouped, member_of, metric_name, value_row, value_family, value_families}
-use Rattle.prom_exporter.proofs.States.{stepped-same}
-
-abbrev Cell : Type 0
-Cell = List Call
+use Rattle.prom_exporter.specs.Exporter.{settings_with, body_shown}
+use Rattle.prom_exporter.specs.Shared.{Shared}
+use Rattle.prom_exporter.specs.Values.{series_of, seen_series, seen_registry, state_seen, counter_shown, gauge_shown, named, grouped, member_of, metric_name, value_row, value_family, value_families}
+use Rattle.prom_exporter.proofs.States.{page_step-same}
 
 abbrev metric : Series → List ℕ
 metric series = sanitized_metric_name series.key.name
 
-names_of_series : (es : List (LiveSeries Cell)) → map metric (map series_of es) ≡ map metric_name (map member_of es)
+-- a series of a shared cell, with the calls that are seen of it
+abbrev shown_series : {F : Type 0} → LiveSeries (Shared F) → Series
+shown_series e = series_of (seen_series e)
+
+abbrev all_shown : {F : Type 0} → List (LiveSeries (Shared F)) → List Series
+all_shown es = map series_of (map seen_series es)
+
+names_of_series : {F : Type 0} (es : List (LiveSeries (Shared F))) → map metric (all_shown es) ≡ map metric_name (map member_of es)
 names_of_series [] = refl
 names_of_series (e ∷ es) = ap (λ l. metric_name (member_of e) ∷ l) (names_of_series es)
 
 -- each series has one row
-module _ (shown : Cell → ℤ) (globals : List LabelText) (rows : Series → List Row) (one : (e : LiveSeries Cell) → rows (series_of e) ≡ value_row shown globals (metric_name (member_of e)) (member_of e) ∷ []) where
-  rows_step : (name : List ℕ) (e : LiveSeries Cell) (es : List (LiveSeries Cell)) (b : Bool) → bytes_eq (metric_name (member_of e)) name ≡ b
-      → flat_map rows (filter (λ series. bytes_eq (metric series) name) (map series_of es)) ≡ map (value_row shown globals name) (named metric_name (map member_of es) name)
-      → flat_map rows (filter (λ series. bytes_eq (metric series) name) (map series_of (e ∷ es))) ≡ map (value_row shown globals name) (named metric_name (map member_of (e ∷ es)) name)
+module _ {F : Type 0} (shown : Shared F → ℤ) (globals : List LabelText) (rows : Series → List Row) (one : (e : LiveSeries (Shared F)) → rows (shown_series e) ≡ value_row shown globals (metric_name (member_of e)) (member_of e) ∷ []) where
+  rows_step : (name : List ℕ) (e : LiveSeries (Shared F)) (es : List (LiveSeries (Shared F))) (b : Bool) → bytes_eq (metric_name (member_of e)) name ≡ b
+      → flat_map rows (filter (λ series. bytes_eq (metric series) name) (all_shown es)) ≡ map (value_row shown globals name) (named metric_name (map member_of es) name)
+      → flat_map rows (filter (λ series. bytes_eq (metric series) name) (all_shown (e ∷ es))) ≡ map (value_row shown globals name) (named metric_name (map member_of (e ∷ es)) name)
   rows_step name e es true is rest =
       let same : metric_name (member_of e) ≡ name = (bytes_eq-Decides (metric_name (member_of e)) name).0 is in
       rw is ((λ j. one e j ++ rest j) ∙ ap (λ n. value_row shown globals n (member_of e) ∷ map (value_row shown globals name) (named metric_name (map member_of es) name)) same)
   rows_step name e es false is rest = rw is rest
 
-  rows_named : (name : List ℕ) (es : List (LiveSeries Cell))
-      → flat_map rows (filter (λ series. bytes_eq (metric series) name) (map series_of es)) ≡ map (value_row shown globals name) (named metric_name (map member_of es) name)
+  rows_named : (name : List ℕ) (es : List (LiveSeries (Shared F)))
+      → flat_map rows (filter (λ series. bytes_eq (metric series) name) (all_shown es)) ≡ map (value_row shown globals name) (named metric_name (map member_of es) name)
   rows_named name [] = refl
   rows_named name (e ∷ es) = rows_step name e es (bytes_eq (metric_name (member_of e)) name) refl (rows_named name es)
 
-  families_named : (type : FamilyType) (es : List (LiveSeries Cell)) (names : List (List ℕ))
-      → map (λ name. record { help = None; name = name; type = type; rows = flat_map rows (filter (λ series. bytes_eq (metric series) name) (map series_of es)) }) names
+  families_named : (type : FamilyType) (es : List (LiveSeries (Shared F))) (names : List (List ℕ))
+      → map (λ name. record { help = None; name = name; type = type; rows = flat_map rows (filter (λ series. bytes_eq (metric series) name) (all_shown es)) }) names
       ≡ map (value_family type shown globals) (map (λ name. (name, named metric_name (map member_of es) name)) names)
   families_named type es [] = refl
   families_named type es (name ∷ names) = (λ j. record { help = None; name = name; type = type; rows = rows_named name es j } ∷ families_named type es names j)
 
-  families_of_kind : (type : FamilyType) (es : List (LiveSeries Cell))
-      → map (λ name. record { help = None; name = name; type = type; rows = flat_map rows (filter (λ series. bytes_eq (metric series) name) (map series_of es)) }) (distinct (map metric (map series_of es)))
+  families_of_kind : (type : FamilyType) (es : List (LiveSeries (Shared F)))
+      → map (λ name. record { help = None; name = name; type = type; rows = flat_map rows (filter (λ series. bytes_eq (metric series) name) (all_shown es)) }) (distinct (map metric (all_shown es)))
       ≡ value_families type shown globals es
   families_of_kind type es =
-      ap (λ names. map (λ name. record { help = None; name = name; type = type; rows = flat_map rows (filter (λ series. bytes_eq (metric series) name) (map series_of es)) }) (distinct names)) (names_of_series es)
+      ap (λ names. map (λ name. record { help = None; name = name; type = type; rows = flat_map rows (filter (λ series. bytes_eq (metric series) name) (all_shown es)) }) (distinct names)) (names_of_series es)
       ∙ families_named type es (distinct (map metric_name (map member_of es)))
 
-abbrev row_of_series : LiveSeries Cell → ℤ → List LabelText → List Row
+abbrev row_of_series : {F : Type 0} → LiveSeries (Shared F) → ℤ → List LabelText → List Row
 row_of_series e value labels = record { name = metric_name (member_of e); labels = labels; value = value } ∷ []
 
-one_row : (globals : List LabelText) (e : LiveSeries Cell) (value : ℤ) → row_of_series e value (shown_label_set globals e.key.labels ++ []) ≡ row_of_series e value (shown_label_set globals e.key.labels)
+one_row : {F : Type 0} (globals : List LabelText) (e : LiveSeries (Shared F)) (value : ℤ) → row_of_series e value (shown_label_set globals e.key.labels ++ []) ≡ row_of_series e value (shown_label_set globals e.key.labels)
 one_row globals e value = ap (row_of_series e value) (append-nil (shown_label_set globals e.key.labels))
 
-module _ {H : Type 0} (globals : List LabelText) (t : ℕ) (registry : RegistryText Cell Cell H) where
-  pub families_are : pages.families_at (settings_with globals) t (state_of registry) ≡ value_families types.Counter counter_shown globals registry.counters ++ value_families types.Gauge gauge_shown globals registry.gauges
+module _ {C G H : Type 0} (globals : List LabelText) (t : ℕ) (registry : RegistryText (Shared C) (Shared G) H) where
+  pub families_are : pages.families_at (settings_with globals) t (state_seen registry) ≡ value_families types.Counter counter_shown globals registry.counters ++ value_families types.Gauge gauge_shown globals registry.gauges
   families_are =
       append-nil _
       ∙ (λ j.
-      families_of_kind counter_shown globals (counter_rows (settings_with globals) (state_of registry)) (λ e. one_row globals e (counter_shown e.cell)) types.Counter registry.counters j
-      ++ families_of_kind gauge_shown globals (gauge_rows (settings_with globals) (state_of registry)) (λ e. one_row globals e (gauge_shown e.cell)) types.Gauge registry.gauges j)
+      families_of_kind counter_shown globals (counter_rows (settings_with globals) (state_seen registry)) (λ e. one_row globals e (counter_shown e.cell)) types.Counter registry.counters j
+      ++ families_of_kind gauge_shown globals (gauge_rows (settings_with globals) (state_seen registry)) (λ e. one_row globals e (gauge_shown e.cell)) types.Gauge registry.gauges j)
 
   -- the body of the page is the text of the groups
-  pub page_body-values : page_body t (record { settings = settings_with globals; state = state_of registry })
+  pub page_body-values : body_shown (settings_with globals) t (state_seen registry)
       ≡ body_text (value_families types.Counter counter_shown globals registry.counters) ++ body_text (value_families types.Gauge gauge_shown globals registry.gauges)
   page_body-values =
-      ap (λ exporter. body_text (pages.families_at (settings_with globals) t exporter.state)) (stepped-same t globals registry)
+      ap (λ s. body_text (pages.families_at (settings_with globals) t s)) (page_step-same t (seen_registry registry))
       ∙ ap body_text families_are
       ∙ flat_map-append block_text (value_families types.Counter counter_shown globals registry.counters) (value_families types.Gauge gauge_shown globals registry.gauges)
 
@@ -128,10 +132,10 @@ module _ {E X : Type 0} (shown : X → Family) (seen : E → X) where
 
 -- ---- a page in two parts
 
--- the body of an exporter's page is what its counters and then its gauges make
-pub page_written : {H : Type 0} (t : ℕ) (globals : List LabelText) (registry : RegistryText Cell Cell H) (exporter : Exporter) (counters gauges : List (List ℕ × List (KeyText × Cell)))
-    → record { settings = settings_with globals; state = state_of registry } ≡ exporter → counters ≡ grouped metric_name (map member_of registry.counters) → gauges ≡ grouped metric_name (map member_of registry.gauges)
-    → page_body t exporter ≡ body_text (map (value_family types.Counter counter_shown globals) counters) ++ body_text (map (value_family types.Gauge gauge_shown globals) gauges)
-page_written t globals registry exporter counters gauges view counted gauged =
-    ap (page_body t) (sym view) ∙ page_body-values globals t registry
+-- the body of a page is what the counters and then the gauges make
+pub page_written : {C G H : Type 0} (t : ℕ) (globals : List LabelText) (registry : RegistryText (Shared C) (Shared G) H) (counters : List (List ℕ × List (KeyText × Shared C))) (gauges : List (List ℕ × List (KeyText × Shared G)))
+    → counters ≡ grouped metric_name (map member_of registry.counters) → gauges ≡ grouped metric_name (map member_of registry.gauges)
+    → body_shown (settings_with globals) t (state_seen registry) ≡ body_text (map (value_family types.Counter counter_shown globals) counters) ++ body_text (map (value_family types.Gauge gauge_shown globals) gauges)
+page_written t globals registry counters gauges counted gauged =
+    page_body-values globals t registry
     ∙ sym (λ j. body_text (map (value_family types.Counter counter_shown globals) (counted j)) ++ body_text (map (value_family types.Gauge gauge_shown globals) (gauged j)))

@@ -1,13 +1,34 @@
--- An exporter as its contracts see it: what it was built with, and its state.
-use Rattle.std.specs.Prelude.{ℕ, List, [], ◌∷◌, map, pos, None, false}
-use Rattle.metrics_core.specs.Keys.{LabelText}
+-- An exporter as its contracts see it: what it was built with, and its live series with their cells.
+use Rattle.std.specs.Prelude.{◌≡◌, ℕ, ◌+◌, List, [], ◌∷◌, ◌++◌, map, pos, None, false, Option, Some, All}
+use Rattle.std.specs.List.{AllZip}
+use Rattle.metrics_core.specs.Keys.{LabelText, KeyText}
+use Rattle.metrics_core.specs.declared.kinds.MetricKind.TheVariants as kinds
+use Rattle.metrics_core.specs.declared.kinds.SeriesId.{SeriesId}
+use Rattle.metrics_registry.specs.Live.{LiveSeries, RegistryText, cell_of, with_cell}
+use Rattle.series_cells.specs.declared.calls.ValueCall.{ValueCall}
+use Rattle.series_cells.specs.declared.counter.PromCounter.{PromCounter}
+use Rattle.series_cells.specs.declared.gauge.PromGauge.{PromGauge}
 use Rattle.prom_format.specs.Pages.{Family, body_text}
 use Rattle.prom_exporter.specs.State.{PrometheusState, page_step}
 use Rattle.prom_exporter.specs.Families.{ExporterSettings, families_at}
+use Rattle.prom_exporter.specs.Shared.{Shared, IsHome, Looks, unused}
+use Rattle.prom_exporter.specs.Values.{state_seen}
+
+-- the live series, each with its cell
+abbrev pub Cells : Type 0
+Cells = RegistryText (Shared PromCounter) (Shared PromGauge) (Unit {0})
 
 pub record Exporter : Type 0 where
   pub settings : ExporterSettings
-  pub state : PrometheusState
+  pub series : Cells
+
+-- no series
+abbrev pub no_cells : Cells
+no_cells = record { counters = []; gauges = []; histograms = []; made = 0 }
+
+-- the sequential state that the exporter has seen
+abbrev pub state_of : Exporter → PrometheusState
+state_of exporter = state_seen exporter.series
 
 -- the settings of a new builder: quantiles 0, 0.5, 0.9, 0.95, 0.99, 0.999 and 1, three buckets of 20 seconds
 abbrev pub default_settings : ExporterSettings
@@ -28,14 +49,60 @@ default_settings = record {
 abbrev pub settings_with : List LabelText → ExporterSettings
 settings_with globals = record default_settings { globals = globals }
 
--- the exporter after the page step at a moment
-abbrev pub stepped : ℕ → Exporter → Exporter
-stepped moment exporter = record exporter { state = page_step exporter.settings.idle moment exporter.state }
+-- ---- cells
 
--- the families that the state shows at a moment, after its page step
+-- no pass of any cell is out
+abbrev pub AllHome : Exporter → Type 0
+AllHome exporter = All (λ series. IsHome series.cell) exporter.series.counters × All (λ series. IsHome series.cell) exporter.series.gauges
+
+-- a series of which the exporter has looked on
+abbrev pub SeriesLooks : {F : Type 0} → LiveSeries (Shared F) → LiveSeries (Shared F) → Type 0
+SeriesLooks s t = (t.id ≡ s.id) × (t.key ≡ s.key) × Looks s.cell t.cell
+
+-- the exporter has looked on of each series, and nothing else changed
+pub record LooksOn (old new : Exporter) : Type 0 where
+  pub settings : new.settings ≡ old.settings
+  pub counters : AllZip SeriesLooks old.series.counters new.series.counters
+  pub gauges : AllZip SeriesLooks old.series.gauges new.series.gauges
+  pub histograms : new.series.histograms ≡ old.series.histograms
+  pub made : new.series.made ≡ old.series.made
+
+-- a new counter goes last, and a new gauge: its cell is one that nobody has called
+abbrev pub AddsCounter : KeyText → Exporter → Exporter → Type 0
+AddsCounter key old new = (cell : PromCounter) × (new ≡ record old { series = record old.series {
+  counters = old.series.counters ++ record { id = record { kind = kinds.Counter; number = old.series.made }; key = key; cell = unused cell } ∷ [];
+  made = old.series.made + 1;
+} })
+
+abbrev pub AddsGauge : KeyText → Exporter → Exporter → Type 0
+AddsGauge key old new = (cell : PromGauge) × (new ≡ record old { series = record old.series {
+  gauges = old.series.gauges ++ record { id = record { kind = kinds.Gauge; number = old.series.made }; key = key; cell = unused cell } ∷ [];
+  made = old.series.made + 1;
+} })
+
+-- the counter with the id is live and changes so, and a gauge; nothing else does
+abbrev pub ChangesCounter : SeriesId → (Shared PromCounter → Shared PromCounter → Type 0) → Exporter → Exporter → Type 0
+ChangesCounter id changes old new =
+    (s t : Shared PromCounter) × (cell_of id old.series.counters ≡ Some s) × changes s t
+    × (new ≡ record old { series = record old.series { counters = with_cell id old.series.counters t } })
+
+abbrev pub ChangesGauge : SeriesId → (Shared PromGauge → Shared PromGauge → Type 0) → Exporter → Exporter → Type 0
+ChangesGauge id changes old new =
+    (s t : Shared PromGauge) × (cell_of id old.series.gauges ≡ Some s) × changes s t
+    × (new ≡ record old { series = record old.series { gauges = with_cell id old.series.gauges t } })
+
+-- ---- pages
+
+-- the families that a state shows at a moment, after its page step, and the body of its page
+abbrev pub families_shown : ExporterSettings → ℕ → PrometheusState → List Family
+families_shown settings moment s = families_at settings moment (page_step settings.idle moment s)
+
+abbrev pub body_shown : ExporterSettings → ℕ → PrometheusState → List ℕ
+body_shown settings moment s = body_text (families_shown settings moment s)
+
+-- those of an exporter, as far as it has seen
 abbrev pub page_families : ℕ → Exporter → List Family
-page_families moment exporter = families_at exporter.settings moment (stepped moment exporter).state
+page_families moment exporter = families_shown exporter.settings moment (state_of exporter)
 
--- the body of the page at a moment
 abbrev pub page_body : ℕ → Exporter → List ℕ
-page_body moment exporter = body_text (page_families moment exporter)
+page_body moment exporter = body_shown exporter.settings moment (state_of exporter)

@@ -2,6 +2,8 @@ pub mod State
 pub mod Window
 pub mod Native
 pub mod Families
-pub mod Exporter
+pub mod Shared
 pub mod Values
+pub mod Exporter
+pub mod Lending
 pub mod Vectors

@@ -15,6 +15,7 @@ use Rattle.prom_format.specs.Pages.{Row, Family}
 use Rattle.prom_format.specs.declared.families.FamilyType.{FamilyType}
 use Rattle.prom_exporter.specs.State.{Series, PrometheusState}
 use Rattle.prom_exporter.specs.Families.{distinct}
+use Rattle.prom_exporter.specs.Shared.{Shared, calls_seen}
 
 -- ---- the state
 
@@ -33,12 +34,28 @@ state_of registry = record {
   pending = [];
 }
 
--- what a page shows of a counter and of a gauge, in billionths
-abbrev pub counter_shown : List Call → ℤ
-counter_shown calls = whole (counter_value calls)
+-- the series of shared cells, each with the calls that the exporter has seen
+abbrev pub seen_series : {F : Type 0} → LiveSeries (Shared F) → LiveSeries (List Call)
+seen_series series = record { id = series.id; key = series.key; cell = calls_seen series.cell }
 
-abbrev pub gauge_shown : List Call → ℤ
-gauge_shown calls = gauge_value calls
+abbrev pub seen_registry : {C G H : Type 0} → RegistryText (Shared C) (Shared G) H → RegistryText (List Call) (List Call) H
+seen_registry registry = record {
+  counters = map seen_series registry.counters;
+  gauges = map seen_series registry.gauges;
+  histograms = registry.histograms;
+  made = registry.made;
+}
+
+-- the sequential state: the calls of a series are those of its cell's history that the exporter has seen
+abbrev pub state_seen : {C G H : Type 0} → RegistryText (Shared C) (Shared G) H → PrometheusState
+state_seen registry = state_of (seen_registry registry)
+
+-- what a page shows of a counter and of a gauge, in billionths
+abbrev pub counter_shown : {F : Type 0} → Shared F → ℤ
+counter_shown cell = whole (counter_value (calls_seen cell))
+
+abbrev pub gauge_shown : {F : Type 0} → Shared F → ℤ
+gauge_shown cell = gauge_value (calls_seen cell)
 
 -- ---- the families
 

@@ -13,7 +13,7 @@ use Rattle.metrics_registry.specs.Cumulative.{sample_sum}
 use Rattle.prom_exporter.specs.Window.{Sample, window}
 use Rattle.prom_exporter.specs.Native.{NativeText, Positive, native_depth, native_count, zero_count}
 use Rattle.prom_exporter.specs.Families.{ExporterSettings, families_at}
-use Rattle.prom_exporter.specs.Exporter.{default_settings, page_body}
+use Rattle.prom_exporter.specs.Exporter.{default_settings, body_shown}
 
 abbrev seconds : ℕ → ℕ
 seconds n = n * 1000000000
@@ -129,7 +129,7 @@ abbrev pub basic : PrometheusState
 basic = call_on kinds.Counter 0 (Increment 42) (register kinds.Counter (key (codes "basic_counter") []) empty_state)
 
 abbrev pub BasicPage : Type 0
-BasicPage = page_body 0 (record { settings = default_settings; state = basic }) ≡ codes "# TYPE basic_counter counter\nbasic_counter 42\n\n"
+BasicPage = body_shown default_settings 0 basic ≡ codes "# TYPE basic_counter counter\nbasic_counter 42\n\n"
 
 pub basic_page : BasicPage
 unfolding digits chars

@@ -2,8 +2,7 @@
 
 ghost use Rattle.std.specs.Prelude.{◌≡◌, string_bytes, IfOk, IfErr};
 ghost use Rattle.metrics_core.specs.Keys.{put_label};
-ghost use Rattle.prom_exporter.specs.State.{empty_state};
-ghost use Rattle.prom_exporter.specs.Exporter.{default_settings};
+ghost use Rattle.prom_exporter.specs.Exporter.{default_settings, no_cells};
 
 use crate::{BuildError, PrometheusState};
 use indexmap::IndexMap;
@@ -57,7 +56,7 @@ impl PrometheusBuilder {
 
     /// An exporter with these settings and no series.
     pub fn build_state(self, alloc: Global) -> Result<PrometheusState, BuildError>
-        ensures built { IfOk result (λ exporter. exporter ≡ record { settings = self; state = empty_state }) }
+        ensures built { IfOk result (λ exporter. exporter ≡ record { settings = self; series = no_cells }) }
         ensures refused { IfErr result (λ error. error ≡ BuildError.Memory) }
     {
         let PrometheusBuilder { globals } = self;

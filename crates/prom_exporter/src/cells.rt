@@ -1,17 +1,21 @@
-//! Counters and gauges as the exporter keeps them: of each its value, and for clauses alone all calls on it.
+//! Counters and gauges as the exporter keeps them: the cell that threads share, and the value that was last read of it.
 
-ghost use Rattle.std.specs.Prelude.{◌≡◌, ◌<◌, [], ◌∷◌, ◌++◌, length, IsOk, IfOk, OnOk, OnErr, string_bytes};
+ghost use Rattle.std.specs.Prelude.{◌≡◌, ◌++◌, IfOk, OnOk, OnErr, string_bytes};
+ghost use Rattle.std.specs.Arc.{arc_value};
+ghost use Rattle.legal_history.specs.History.{child};
 ghost use Rattle.metrics_core.specs.Numbers.{page_number};
-ghost use Rattle.metrics_core.specs.Series.{call_of};
+ghost use Rattle.series_cells.specs.Pass.{view_of, IsCounterPass, IsGaugePass};
+ghost use Rattle.series_cells.specs.Series.{counter_entry, gauge_entry};
+ghost use Rattle.prom_exporter.specs.Shared.{unused, with_one_out, Looks, MakesCall, TakesBack};
 
-use metrics_core::{Fixed, Memory, SeriesCall};
+use metrics_core::{Fixed, Memory};
 use prom_format::{push_count, push_fixed};
+use series_cells::{
+    CellPass, CounterCall, CounterSeries, GaugeCall, GaugeSeries, PromCounter, PromGauge,
+};
 use std::alloc::Global;
 use std::marker::Model;
-use std::snapshot::Snapshot;
-
-/// How many calls a history has room for from the start: as many as a `Vec` can have elements. So no call asks for memory.
-const MOST_CALLS: usize = 0x7fff_ffff_ffff_ffff;
+use std::sync::Arc;
 
 /// A cell whose value stands on a page.
 pub(crate) trait Shown {
@@ -26,52 +30,72 @@ pub(crate) trait Shown {
         ensures { OnOk result (string_bytes buffer.new ≡ string_bytes buffer.old ++ page_number (shown self.now)) };
 }
 
-/// A counter. A contract sees it as the list of all calls on it.
+/// A counter. A contract sees it as its cell and what the exporter's own pass knows.
 #[derive(Drop)]
 pub(crate) struct CounterCell {
-    total: u64,
-    /// All calls. They have no bytes.
-    calls: Vec<Snapshot<SeriesCall>>,
+    series: CounterSeries,
+    /// The value after the calls that the exporter has seen.
+    value: u64,
 }
 
 impl Model for CounterCell {
-    ghost use Rattle.std.specs.Prelude.{◌≡◌, ◌≤◌, List, map, vec_capacity};
-    ghost use Rattle.metrics_core.specs.Calls.{Call, counter_value};
-    ghost use Rattle.metrics_core.specs.Series.{call_of};
-    ghost use Rattle.prom_exporter.specs.declared.cells.TheConstants.{MOST_CALLS};
+    ghost use Rattle.std.specs.Prelude.{◌≡◌};
+    ghost use Rattle.legal_history.specs.History.{calls};
+    ghost use Rattle.metrics_core.specs.Calls.{counter_value};
+    ghost use Rattle.series_cells.specs.Values.{calls_of};
+    ghost use Rattle.series_cells.specs.Series.{counter_root, counter_cell};
+    ghost use Rattle.series_cells.specs.declared.counter.PromCounter.{PromCounter};
+    ghost use Rattle.prom_exporter.specs.Shared.{Shared};
 
-    ghost Value = { List Call };
+    ghost Value = { Shared PromCounter };
 
-    ghost view = { λ cell. map (λ call. call_of call.value) cell.calls.items };
+    ghost view = { λ cell. record { cell = counter_cell cell.series; root = counter_root cell.series } };
 
-    ghost invariant = { λ cell. (cell.total ≡ counter_value (map (λ call. call_of call.value) cell.calls.items)) × (MOST_CALLS ≤ vec_capacity cell.calls) };
+    ghost invariant = { λ cell. cell.value ≡ counter_value (calls_of (calls (counter_root cell.series).seen)) };
 }
 
 impl CounterCell {
     /// A counter at 0.
     pub(crate) fn new(alloc: Global) -> Result<CounterCell, Memory>
-        ensures { IfOk result (λ cell. cell ≡ []) }
+        ensures { IfOk result (λ made. made ≡ unused made.cell) }
     {
-        Ok(CounterCell {
-            total: 0,
-            calls: Vec::with_capacity(alloc, MOST_CALLS)?,
-        })
+        match CounterSeries::new(alloc) {
+            Ok(series) => Ok(CounterCell { series, value: 0 }),
+            Err(refused) => Err(refused),
+        }
     }
 
-    /// Makes a call on the counter; one that is no call on a counter leaves its value. It is refused only where more were
-    /// made than anyone makes.
-    pub(crate) fn call(&mut self, call: SeriesCall) -> Result<(), Memory>
-        ensures called { OnOk result (self.new ≡ self.old ++ call_of call ∷ []) }
-        ensures refused { OnErr result (self.new ≡ self.old) }
-        ensures succeeds { length self.old < MOST_CALLS → IsOk result }
+    /// Reads the counter.
+    pub(crate) fn read(&mut self)
+        ensures { Looks self.old self.new }
     {
-        self.calls.push(Snapshot::of(&call))?;
-        match call {
-            SeriesCall::Increment(count) => self.total = self.total.wrapping_add(count),
-            SeriesCall::Absolute(total) => self.total = self.total.max(total),
-            SeriesCall::Add(_) | SeriesCall::Sub(_) | SeriesCall::Set(_) => (),
-        }
-        Ok(())
+        self.value = self.series.value();
+    }
+
+    /// Makes a call on the counter, and reads it.
+    pub(crate) fn make(&mut self, call: CounterCall)
+        ensures { MakesCall (counter_entry call) self.old self.new }
+    {
+        self.series.make(call);
+        self.value = self.series.value();
+    }
+
+    /// Lends the counter and a new pass of it.
+    pub(crate) fn lend(&mut self, alloc: Global) -> Result<(Arc<PromCounter>, CellPass), Memory>
+        ensures lent { IfOk result (λ lent. (arc_value lent.0 ≡ self.old.cell) × IsCounterPass self.old.cell lent.1 × (view_of lent.1 ≡ child self.old.root)) }
+        ensures out { OnOk result (self.new ≡ with_one_out self.old) }
+        ensures refused { OnErr result (self.new ≡ self.old) }
+    {
+        self.series.lend_pass(alloc)
+    }
+
+    /// Takes a pass back, and reads the counter.
+    pub(crate) fn take_back(&mut self, pass: CellPass)
+        requires { IsCounterPass self.old.cell pass }
+        ensures { TakesBack (view_of pass) self.old self.new }
+    {
+        self.series.take_pass(pass);
+        self.value = self.series.value();
     }
 }
 
@@ -81,57 +105,79 @@ impl Shown for CounterCell {
     ghost shown = { counter_shown };
 
     fn push_value(&self, buffer: &mut String) -> Result<(), Memory> {
-        push_count(buffer, self.total)
+        push_count(buffer, self.value)
     }
 }
 
-/// A gauge. A contract sees it as the list of all calls on it.
+/// A gauge. A contract sees it as its cell and what the exporter's own pass knows.
 #[derive(Drop)]
 pub(crate) struct GaugeCell {
+    series: GaugeSeries,
+    /// The value after the calls that the exporter has seen.
     value: Fixed,
-    /// All calls. They have no bytes.
-    calls: Vec<Snapshot<SeriesCall>>,
 }
 
 impl Model for GaugeCell {
-    ghost use Rattle.std.specs.Prelude.{◌≡◌, ◌≤◌, List, map, vec_capacity};
-    ghost use Rattle.metrics_core.specs.Calls.{Call, gauge_value};
-    ghost use Rattle.metrics_core.specs.Series.{call_of};
-    ghost use Rattle.prom_exporter.specs.declared.cells.TheConstants.{MOST_CALLS};
+    ghost use Rattle.std.specs.Prelude.{◌≡◌};
+    ghost use Rattle.legal_history.specs.History.{calls};
+    ghost use Rattle.metrics_core.specs.Calls.{gauge_value};
+    ghost use Rattle.series_cells.specs.Values.{calls_of};
+    ghost use Rattle.series_cells.specs.Series.{gauge_root, gauge_cell};
+    ghost use Rattle.series_cells.specs.declared.gauge.PromGauge.{PromGauge};
+    ghost use Rattle.prom_exporter.specs.Shared.{Shared};
 
-    ghost Value = { List Call };
+    ghost Value = { Shared PromGauge };
 
-    ghost view = { λ cell. map (λ call. call_of call.value) cell.calls.items };
+    ghost view = { λ cell. record { cell = gauge_cell cell.series; root = gauge_root cell.series } };
 
-    ghost invariant = { λ cell. (cell.value.0 ≡ gauge_value (map (λ call. call_of call.value) cell.calls.items)) × (MOST_CALLS ≤ vec_capacity cell.calls) };
+    ghost invariant = { λ cell. cell.value.0 ≡ gauge_value (calls_of (calls (gauge_root cell.series).seen)) };
 }
 
 impl GaugeCell {
     /// A gauge at 0.
     pub(crate) fn new(alloc: Global) -> Result<GaugeCell, Memory>
-        ensures { IfOk result (λ cell. cell ≡ []) }
+        ensures { IfOk result (λ made. made ≡ unused made.cell) }
     {
-        Ok(GaugeCell {
-            value: Fixed(0),
-            calls: Vec::with_capacity(alloc, MOST_CALLS)?,
-        })
+        match GaugeSeries::new(alloc) {
+            Ok(series) => Ok(GaugeCell {
+                series,
+                value: Fixed(0),
+            }),
+            Err(refused) => Err(refused),
+        }
     }
 
-    /// Makes a call on the gauge; one that is no call on a gauge leaves its value. It is refused only where more were made
-    /// than anyone makes.
-    pub(crate) fn call(&mut self, call: SeriesCall) -> Result<(), Memory>
-        ensures called { OnOk result (self.new ≡ self.old ++ call_of call ∷ []) }
-        ensures refused { OnErr result (self.new ≡ self.old) }
-        ensures succeeds { length self.old < MOST_CALLS → IsOk result }
+    /// Reads the gauge.
+    pub(crate) fn read(&mut self)
+        ensures { Looks self.old self.new }
     {
-        self.calls.push(Snapshot::of(&call))?;
-        match call {
-            SeriesCall::Increment(_) | SeriesCall::Absolute(_) => (),
-            SeriesCall::Add(value) => self.value = Fixed(self.value.0.wrapping_add(value.0)),
-            SeriesCall::Sub(value) => self.value = Fixed(self.value.0.wrapping_sub(value.0)),
-            SeriesCall::Set(value) => self.value = value,
-        }
-        Ok(())
+        self.value = self.series.value();
+    }
+
+    /// Makes a call on the gauge, and reads it.
+    pub(crate) fn make(&mut self, call: GaugeCall)
+        ensures { MakesCall (gauge_entry call) self.old self.new }
+    {
+        self.series.make(call);
+        self.value = self.series.value();
+    }
+
+    /// Lends the gauge and a new pass of it.
+    pub(crate) fn lend(&mut self, alloc: Global) -> Result<(Arc<PromGauge>, CellPass), Memory>
+        ensures lent { IfOk result (λ lent. (arc_value lent.0 ≡ self.old.cell) × IsGaugePass self.old.cell lent.1 × (view_of lent.1 ≡ child self.old.root)) }
+        ensures out { OnOk result (self.new ≡ with_one_out self.old) }
+        ensures refused { OnErr result (self.new ≡ self.old) }
+    {
+        self.series.lend_pass(alloc)
+    }
+
+    /// Takes a pass back, and reads the gauge.
+    pub(crate) fn take_back(&mut self, pass: CellPass)
+        requires { IsGaugePass self.old.cell pass }
+        ensures { TakesBack (view_of pass) self.old self.new }
+    {
+        self.series.take_pass(pass);
+        self.value = self.series.value();
     }
 }
 

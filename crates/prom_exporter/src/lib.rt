@@ -6,10 +6,12 @@ mod cells;
 mod errors;
 mod families;
 mod laws;
+mod lent;
 mod pages;
 mod state;
 
 pub use builder::PrometheusBuilder;
 pub use errors::BuildError;
 pub use laws::{basic_page, pages_are_read};
+pub use lent::Lent;
 pub use state::PrometheusState;

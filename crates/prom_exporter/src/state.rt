@@ -1,25 +1,33 @@
 //! The state of the exporter: its live series of each kind, in order of registration.
 
-ghost use Rattle.std.specs.Prelude.{◌≡◌, ◌-◌, ◌^◌, ◌<◌, ◌≤◌, ◌⊎◌, length, All, IsOk, IfOk, OnErr, OnOk};
+ghost use Rattle.std.specs.Prelude.{◌≡◌, ◌-◌, ◌^◌, ◌<◌, ◌≤◌, ◌⊎◌, length, All, IsOk, IfOk, OnErr, OnOk, true, false};
 ghost use Rattle.metrics_core.specs.declared.kinds.MetricKind.TheVariants.{Counter, Gauge};
 ghost use Rattle.metrics_core.specs.Outside.{Rose, GrewBy, GrewByFront};
-ghost use Rattle.metrics_core.specs.Series.{call_of};
 ghost use Rattle.prom_format.specs.LabelSets.{labels_of};
-ghost use Rattle.prom_exporter.specs.State.{empty_state, register, number_given, call_on, is_live, live};
-ghost use Rattle.prom_exporter.specs.Exporter.{Exporter, settings_with, stepped, page_body};
+ghost use Rattle.series_cells.specs.Values.{call_of};
+ghost use Rattle.series_cells.specs.Pass.{view_of};
+ghost use Rattle.series_cells.specs.Series.{counter_entry, gauge_entry};
+ghost use Rattle.prom_exporter.specs.State.{register, number_given, call_on, page_step};
+ghost use Rattle.prom_exporter.specs.Shared.{MakesCall, TakesBack, Looks};
+ghost use Rattle.prom_exporter.specs.Exporter.{Exporter, settings_with, state_of, no_cells, AllHome, AddsCounter, AddsGauge, ChangesCounter, ChangesGauge, LooksOn, page_body};
+ghost use Rattle.prom_exporter.specs.Lending.{LendsCounter, LendsGauge, LentCounter, LentGauge, HasNoCounter, HasNoGauge};
 
 use crate::BuildError;
 use crate::cells::{CounterCell, GaugeCell};
 use crate::families::families;
+use crate::lent::Lent;
 use crate::pages::write_families;
 use indexmap::IndexMap;
-use metrics_core::{Key, Memory, MetricKind, SeriesCall, SeriesId, Sink};
+use metrics_core::{Key, Memory, MetricKind, SeriesId, Sink};
+use metrics_facade as facade;
 use metrics_registry::Registry;
 use prom_format::FamilyType;
+use series_cells::{CellPass, CounterCall, GaugeCall, PromCounter, PromGauge};
 use std::alloc::Global;
 use std::marker::Model;
 
-/// The exporter: what it was built with, and its series.
+/// The exporter: what it was built with, and its series. Each counter and each gauge is a cell that threads share, of which
+/// the exporter has the root pass; it lends passes of it and takes them back.
 #[derive(Drop)]
 pub struct PrometheusState {
     globals: IndexMap<String, String>,
@@ -28,12 +36,11 @@ pub struct PrometheusState {
 
 impl Model for PrometheusState {
     ghost use Rattle.prom_format.specs.LabelSets.{labels_of};
-    ghost use Rattle.prom_exporter.specs.Values.{state_of};
     ghost use Rattle.prom_exporter.specs.Exporter.{Exporter, settings_with};
 
     ghost Value = { Exporter };
 
-    ghost view = { λ s. record { settings = settings_with (labels_of s.globals.entries); state = state_of s.series } };
+    ghost view = { λ s. record { settings = settings_with (labels_of s.globals.entries); series = s.series } };
 }
 
 impl PrometheusState {
@@ -42,7 +49,7 @@ impl PrometheusState {
         alloc: Global,
         globals: IndexMap<String, String>,
     ) -> Result<PrometheusState, Memory>
-        ensures { IfOk result (λ exporter. exporter ≡ record { settings = settings_with (labels_of globals.entries); state = empty_state }) }
+        ensures { IfOk result (λ exporter. exporter ≡ record { settings = settings_with (labels_of globals.entries); series = no_cells }) }
     {
         Ok(PrometheusState {
             globals,
@@ -53,8 +60,11 @@ impl PrometheusState {
     /// Registers a counter. Where one with an equal key is live its id is given, and nothing changes; otherwise a new
     /// one at 0 goes last. Past 2^64 - 1 series none is made, and the id names none.
     pub fn register_counter(&mut self, alloc: Global, key: &Key) -> Result<SeriesId, Memory>
-        ensures registered { OnOk result (self.new ≡ record self.old { state = register Counter key.now self.old.state }) }
-        ensures id { IfOk result (λ id. id ≡ record { kind = Counter; number = number_given Counter key.now self.old.state }) }
+        ensures registered { OnOk result (state_of self.new ≡ register Counter key.now (state_of self.old)) }
+        ensures cells { OnOk result ((self.new ≡ self.old) ⊎ AddsCounter key.now self.old self.new) }
+        ensures home { AllHome self.old → AllHome self.new }
+        ensures settings { self.new.settings ≡ self.old.settings }
+        ensures id { IfOk result (λ id. id ≡ record { kind = Counter; number = number_given Counter key.now (state_of self.old) }) }
         ensures refused { OnErr result (self.new ≡ self.old) }
     {
         let number = self.series.made();
@@ -77,8 +87,11 @@ impl PrometheusState {
 
     /// Registers a gauge, as `register_counter` does a counter.
     pub fn register_gauge(&mut self, alloc: Global, key: &Key) -> Result<SeriesId, Memory>
-        ensures registered { OnOk result (self.new ≡ record self.old { state = register Gauge key.now self.old.state }) }
-        ensures id { IfOk result (λ id. id ≡ record { kind = Gauge; number = number_given Gauge key.now self.old.state }) }
+        ensures registered { OnOk result (state_of self.new ≡ register Gauge key.now (state_of self.old)) }
+        ensures cells { OnOk result ((self.new ≡ self.old) ⊎ AddsGauge key.now self.old self.new) }
+        ensures home { AllHome self.old → AllHome self.new }
+        ensures settings { self.new.settings ≡ self.old.settings }
+        ensures id { IfOk result (λ id. id ≡ record { kind = Gauge; number = number_given Gauge key.now (state_of self.old) }) }
         ensures refused { OnErr result (self.new ≡ self.old) }
     {
         let number = self.series.made();
@@ -99,54 +112,147 @@ impl PrometheusState {
         Ok(id)
     }
 
-    /// Makes a call on a series. Answers false exactly where no series of the id's kind is live under its number, and
-    /// then nothing changed. It is refused only at a series with 2^63 - 1 calls, since calls on counters and gauges take
-    /// no memory.
-    pub fn apply(&mut self, alloc: Global, id: SeriesId, call: SeriesCall) -> Result<bool, Memory>
-        ensures called { OnOk result (self.new ≡ record self.old { state = call_on id.kind id.number (call_of call) self.old.state }) }
-        ensures live { IfOk result (λ live. live ≡ is_live id.kind id.number self.old.state) }
-        ensures refused { OnErr result (self.new ≡ self.old) }
-        ensures succeeds { All (λ series. length series.calls < 2 ^ 63 - 1) (live id.kind self.old.state) → IsOk result }
+    /// Makes a call on a counter with the exporter's own pass, and reads the counter. Answers false exactly where no
+    /// counter with the id is live, and then nothing changed. It takes no memory.
+    pub fn call_counter(&mut self, id: SeriesId, call: CounterCall) -> bool
+        ensures called { result ≡ true → ChangesCounter id (MakesCall (counter_entry call)) self.old self.new }
+        ensures none { result ≡ false → HasNoCounter id self.old × (self.new ≡ self.old) }
+        ensures state { AllHome self.old → id.kind ≡ Counter → state_of self.new ≡ call_on Counter id.number (call_of (counter_entry call)) (state_of self.old) }
+        ensures home { AllHome self.old → AllHome self.new }
+        ensures settings { self.new.settings ≡ self.old.settings }
     {
-        if id.number >= self.series.made() {
-            return Ok(false);
-        }
-        match id.kind {
-            MetricKind::Counter => {
-                let Some(cell) = self.series.get_counter_mut(id) else {
-                    return Ok(false);
-                };
-                cell.call(call)?;
-            }
-            MetricKind::Gauge => {
-                let Some(cell) = self.series.get_gauge_mut(id) else {
-                    return Ok(false);
-                };
-                cell.call(call)?;
-            }
-            MetricKind::Histogram => return Ok(false),
-        }
-        Ok(true)
+        let Some(cell) = self.series.get_counter_mut(id) else {
+            return false;
+        };
+        cell.make(call);
+        true
     }
 
-    /// Writes the page's body at a moment, in nanoseconds (Prometheus text exposition format, version 0.0.4). Where
-    /// the sink fails a front of it was written.
+    /// Makes a call on a gauge, as `call_counter` does on a counter.
+    pub fn call_gauge(&mut self, id: SeriesId, call: GaugeCall) -> bool
+        ensures called { result ≡ true → ChangesGauge id (MakesCall (gauge_entry call)) self.old self.new }
+        ensures none { result ≡ false → HasNoGauge id self.old × (self.new ≡ self.old) }
+        ensures state { AllHome self.old → id.kind ≡ Gauge → state_of self.new ≡ call_on Gauge id.number (call_of (gauge_entry call)) (state_of self.old) }
+        ensures home { AllHome self.old → AllHome self.new }
+        ensures settings { self.new.settings ≡ self.old.settings }
+    {
+        let Some(cell) = self.series.get_gauge_mut(id) else {
+            return false;
+        };
+        cell.make(call);
+        true
+    }
+
+    /// Lends a counter: its handle, and a new pass that has seen what the exporter has seen and has made no call. Answers
+    /// `None` exactly where no counter with the id is live.
+    pub fn lend_counter(
+        &mut self,
+        alloc: Global,
+        id: SeriesId,
+    ) -> Result<Option<Lent<facade::Counter<PromCounter>, CellPass>>, Memory>
+        ensures lent { IfOk result (λ lent. LendsCounter id lent self.old self.new) }
+        ensures refused { OnErr result (self.new ≡ self.old) }
+    {
+        let Some(cell) = self.series.get_counter_mut(id) else {
+            return Ok(None);
+        };
+        let (cell, pass) = cell.lend(alloc)?;
+        Ok(Some(Lent {
+            handle: facade::Counter::from_arc(cell),
+            pass,
+            id,
+        }))
+    }
+
+    /// Lends a gauge, as `lend_counter` does a counter.
+    pub fn lend_gauge(
+        &mut self,
+        alloc: Global,
+        id: SeriesId,
+    ) -> Result<Option<Lent<facade::Gauge<PromGauge>, CellPass>>, Memory>
+        ensures lent { IfOk result (λ lent. LendsGauge id lent self.old self.new) }
+        ensures refused { OnErr result (self.new ≡ self.old) }
+    {
+        let Some(cell) = self.series.get_gauge_mut(id) else {
+            return Ok(None);
+        };
+        let (cell, pass) = cell.lend(alloc)?;
+        Ok(Some(Lent {
+            handle: facade::Gauge::from_arc(cell),
+            pass,
+            id,
+        }))
+    }
+
+    /// Takes back a counter that this exporter lent: the exporter has then seen all that the pass had seen. Where the series
+    /// isn't live the pass is dropped.
+    pub fn give_back_counter(&mut self, lent: Lent<facade::Counter<PromCounter>, CellPass>)
+        requires lent { LentCounter self.old lent }
+        ensures taken { (HasNoCounter lent.id self.old × (self.new ≡ self.old)) ⊎ ChangesCounter lent.id (TakesBack (view_of lent.pass)) self.old self.new }
+    {
+        let Lent {
+            handle: _,
+            pass,
+            id,
+        } = lent;
+        if let Some(cell) = self.series.get_counter_mut(id) {
+            cell.take_back(pass);
+        }
+    }
+
+    /// Takes back a gauge that this exporter lent, as `give_back_counter` does a counter.
+    pub fn give_back_gauge(&mut self, lent: Lent<facade::Gauge<PromGauge>, CellPass>)
+        requires lent { LentGauge self.old lent }
+        ensures taken { (HasNoGauge lent.id self.old × (self.new ≡ self.old)) ⊎ ChangesGauge lent.id (TakesBack (view_of lent.pass)) self.old self.new }
+    {
+        let Lent {
+            handle: _,
+            pass,
+            id,
+        } = lent;
+        if let Some(cell) = self.series.get_gauge_mut(id) {
+            cell.take_back(pass);
+        }
+    }
+
+    /// Reads every cell, each once.
+    fn read(&mut self)
+        ensures { LooksOn self.old self.new }
+    {
+        self.series.retain_counters(|_: SeriesId, cell: &mut CounterCell| -> bool
+            ensures { (result ≡ true) × Looks cell.entry.now cell.exit.now }
+            {
+                cell.read();
+                true
+            });
+        self.series.retain_gauges(|_: SeriesId, cell: &mut GaugeCell| -> bool
+            ensures { (result ≡ true) × Looks cell.entry.now cell.exit.now }
+            {
+                cell.read();
+                true
+            });
+    }
+
+    /// Writes the page's body at a moment, in nanoseconds (Prometheus text exposition format, version 0.0.4). It shows each
+    /// series after a beginning of its cell's history that has all that the exporter had seen; where no pass is out, after
+    /// all calls ever made. Where the sink fails a front of it was written.
     pub fn render_to_write<K: Sink>(
         &mut self,
         alloc: Global,
         moment: u64,
         sink: &mut K,
     ) -> Result<(), BuildError>
-        ensures stepped { OnOk result (self.new ≡ stepped moment self.old) }
-        ensures failed { result ≡ Err BuildError.WriteFault → self.new ≡ stepped moment self.old }
-        ensures refused { result ≡ Err BuildError.Memory → (self.new ≡ self.old) ⊎ (self.new ≡ stepped moment self.old) }
+        ensures read { LooksOn self.old self.new }
+        ensures home { AllHome self.old → self.new ≡ self.old }
+        ensures stepped { state_of self.new ≡ page_step self.new.settings.idle moment (state_of self.new) }
 
-        ensures body { OnOk result (GrewBy (K.written sink.old) (K.written sink.new) (page_body moment self.old)) }
-        ensures front { OnErr result (GrewByFront (K.written sink.old) (K.written sink.new) (page_body moment self.old)) }
+        ensures body { OnOk result (GrewBy (K.written sink.old) (K.written sink.new) (page_body moment self.new)) }
+        ensures front { OnErr result (GrewByFront (K.written sink.old) (K.written sink.new) (page_body moment self.new)) }
 
         ensures cause { result ≡ Err BuildError.WriteFault → Rose (K.faults sink.old) (K.faults sink.new) }
         ensures never_falls { K.faults sink.old ≤ K.faults sink.new }
     {
+        self.read();
         let counters = families(alloc, self.series.counters())?;
         let gauges = families(alloc, self.series.gauges())?;
         write_families(alloc, FamilyType::Counter, &counters, &self.globals, sink)?;

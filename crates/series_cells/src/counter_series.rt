@@ -17,13 +17,15 @@ pub struct CounterSeries {
     cell: Arc<PromCounter>,
     root: CellPass,
     ghost own: { root.seat.table_id ≡ (arc_value cell).table.shared.table_id },
+    ghost first: { root.seat.me.0.history.number ≡ 0 },
 }
 
 impl CounterSeries {
     ghost use Rattle.std.specs.Prelude.{IfOk};
-    ghost use Rattle.legal_history.specs.History.{first, Settled};
-    ghost use Rattle.series_cells.specs.Pass.{ReadsCounter};
-    ghost use Rattle.series_cells.specs.Series.{counter_root, counter_cell};
+    ghost use Rattle.std.specs.Prelude.{OnOk, OnErr};
+    ghost use Rattle.legal_history.specs.History.{first, lender, child, taker, Settled};
+    ghost use Rattle.series_cells.specs.Pass.{view_of, Calls, IsCounterPass, ReadsCounter};
+    ghost use Rattle.series_cells.specs.Series.{counter_root, counter_cell, counter_entry};
 
     /// A new counter, at 0 with no calls.
     pub fn new(alloc: Global) -> Result<CounterSeries, Memory>
@@ -45,6 +47,43 @@ impl CounterSeries {
         ensures cell { counter_cell self.new ≡ counter_cell self.old }
     {
         self.cell.load(&mut self.root)
+    }
+
+    /// Makes a call with the root pass.
+    pub fn make(&mut self, call: CounterCall)
+        ensures call { Calls (counter_entry call) (counter_root self.old) (counter_root self.new) }
+        ensures cell { counter_cell self.new ≡ counter_cell self.old }
+    {
+        match call {
+            CounterCall::Increment(value) => self.cell.increment(&mut self.root, value),
+            CounterCall::Absolute(value) => self.cell.absolute(&mut self.root, value),
+        }
+    }
+
+    /// Lends the counter itself and a new pass of it, which has seen what the root pass has seen and has made no call.
+    pub fn lend_pass(&mut self, alloc: Global) -> Result<(Arc<PromCounter>, CellPass), Memory>
+        ensures lent { IfOk result (λ lent. (arc_value lent.0 ≡ counter_cell self.old) × IsCounterPass (counter_cell self.old) lent.1 × (view_of lent.1 ≡ child (counter_root self.old))) }
+        ensures root { OnOk result (counter_root self.new ≡ lender (counter_root self.old)) }
+        ensures refused { OnErr result (counter_root self.new ≡ counter_root self.old) }
+        ensures cell { counter_cell self.new ≡ counter_cell self.old }
+    {
+        let cell = match Arc::try_clone(&self.cell) {
+            Ok(cell) => cell,
+            Err(_) => return Err(Memory),
+        };
+        match self.cell.split(alloc, &mut self.root) {
+            Ok(pass) => Ok((cell, pass)),
+            Err(refused) => Err(refused),
+        }
+    }
+
+    /// Takes a pass of the counter back. The root pass has then seen what either had seen, and holds the calls of both.
+    pub fn take_pass(&mut self, pass: CellPass)
+        requires pass { IsCounterPass (counter_cell self.old) pass }
+        ensures root { counter_root self.new ≡ taker (counter_root self.old) (view_of pass) }
+        ensures cell { counter_cell self.new ≡ counter_cell self.old }
+    {
+        self.cell.join(&mut self.root, pass);
     }
 }
 
@@ -72,12 +111,8 @@ impl Lender for CounterSeries {
     ghost stands_as = { StandsAsCounter };
 
     fn lend(&mut self, alloc: Global) -> Result<LentCounter, Memory> {
-        let cell = match Arc::try_clone(&self.cell) {
-            Ok(cell) => cell,
-            Err(_) => return Err(Memory),
-        };
-        match self.cell.split(alloc, &mut self.root) {
-            Ok(pass) => Ok(LentCounter::new(cell, pass)),
+        match self.lend_pass(alloc) {
+            Ok((cell, pass)) => Ok(LentCounter::new(cell, pass)),
             Err(refused) => Err(refused),
         }
     }
@@ -93,7 +128,7 @@ impl Lender for CounterSeries {
     }
 
     fn take_back(&mut self, lent: LentCounter) {
-        self.cell.join(&mut self.root, lent.into_pass());
+        self.take_pass(lent.into_pass());
     }
 
     fn settle<R: Wait>(&mut self, _rt: &R) {

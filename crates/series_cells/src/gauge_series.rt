@@ -17,13 +17,15 @@ pub struct GaugeSeries {
     cell: Arc<PromGauge>,
     root: CellPass,
     ghost own: { root.seat.table_id ≡ (arc_value cell).table.shared.table_id },
+    ghost first: { root.seat.me.0.history.number ≡ 0 },
 }
 
 impl GaugeSeries {
     ghost use Rattle.std.specs.Prelude.{IfOk};
-    ghost use Rattle.legal_history.specs.History.{first, Settled};
-    ghost use Rattle.series_cells.specs.Pass.{ReadsGauge};
-    ghost use Rattle.series_cells.specs.Series.{gauge_root, gauge_cell};
+    ghost use Rattle.std.specs.Prelude.{OnOk, OnErr};
+    ghost use Rattle.legal_history.specs.History.{first, lender, child, taker, Settled};
+    ghost use Rattle.series_cells.specs.Pass.{view_of, Calls, IsGaugePass, ReadsGauge};
+    ghost use Rattle.series_cells.specs.Series.{gauge_root, gauge_cell, gauge_entry};
 
     /// A new gauge, at 0 with no calls.
     pub fn new(alloc: Global) -> Result<GaugeSeries, Memory>
@@ -45,6 +47,44 @@ impl GaugeSeries {
         ensures cell { gauge_cell self.new ≡ gauge_cell self.old }
     {
         self.cell.load(&mut self.root)
+    }
+
+    /// Makes a call with the root pass.
+    pub fn make(&mut self, call: GaugeCall)
+        ensures call { Calls (gauge_entry call) (gauge_root self.old) (gauge_root self.new) }
+        ensures cell { gauge_cell self.new ≡ gauge_cell self.old }
+    {
+        match call {
+            GaugeCall::Increment(value) => self.cell.increment(&mut self.root, value),
+            GaugeCall::Decrement(value) => self.cell.decrement(&mut self.root, value),
+            GaugeCall::Set(value) => self.cell.set(&mut self.root, value),
+        }
+    }
+
+    /// Lends the gauge itself and a new pass of it, which has seen what the root pass has seen and has made no call.
+    pub fn lend_pass(&mut self, alloc: Global) -> Result<(Arc<PromGauge>, CellPass), Memory>
+        ensures lent { IfOk result (λ lent. (arc_value lent.0 ≡ gauge_cell self.old) × IsGaugePass (gauge_cell self.old) lent.1 × (view_of lent.1 ≡ child (gauge_root self.old))) }
+        ensures root { OnOk result (gauge_root self.new ≡ lender (gauge_root self.old)) }
+        ensures refused { OnErr result (gauge_root self.new ≡ gauge_root self.old) }
+        ensures cell { gauge_cell self.new ≡ gauge_cell self.old }
+    {
+        let cell = match Arc::try_clone(&self.cell) {
+            Ok(cell) => cell,
+            Err(_) => return Err(Memory),
+        };
+        match self.cell.split(alloc, &mut self.root) {
+            Ok(pass) => Ok((cell, pass)),
+            Err(refused) => Err(refused),
+        }
+    }
+
+    /// Takes a pass of the gauge back. The root pass has then seen what either had seen, and holds the calls of both.
+    pub fn take_pass(&mut self, pass: CellPass)
+        requires pass { IsGaugePass (gauge_cell self.old) pass }
+        ensures root { gauge_root self.new ≡ taker (gauge_root self.old) (view_of pass) }
+        ensures cell { gauge_cell self.new ≡ gauge_cell self.old }
+    {
+        self.cell.join(&mut self.root, pass);
     }
 }
 
@@ -72,12 +112,8 @@ impl Lender for GaugeSeries {
     ghost stands_as = { StandsAsGauge };
 
     fn lend(&mut self, alloc: Global) -> Result<LentGauge, Memory> {
-        let cell = match Arc::try_clone(&self.cell) {
-            Ok(cell) => cell,
-            Err(_) => return Err(Memory),
-        };
-        match self.cell.split(alloc, &mut self.root) {
-            Ok(pass) => Ok(LentGauge::new(cell, pass)),
+        match self.lend_pass(alloc) {
+            Ok((cell, pass)) => Ok(LentGauge::new(cell, pass)),
             Err(refused) => Err(refused),
         }
     }
@@ -93,7 +129,7 @@ impl Lender for GaugeSeries {
     }
 
     fn take_back(&mut self, lent: LentGauge) {
-        self.cell.join(&mut self.root, lent.into_pass());
+        self.take_pass(lent.into_pass());
     }
 
     fn settle<R: Wait>(&mut self, _rt: &R) {

@@ -4,12 +4,13 @@ use Rattle.metrics_registry.proofs.registry.Registry.get_histogram_mut.Goals as 
 
 pub returns-in-Some : goal.returns-in-Some
 returns-in-Some g c = (
-  ap (λ f. inl (c.histogram_at.result.ghost_name, λ cell. record c.args.self.now { histograms = f cell })) (with_cell-place c.args.id c.args.self.now.histograms c.in-Some.place c.in-Some.ensures.rises c.in-Some.ensures.place),
+  ap (λ f. inl (c.histogram_at.result.ghost_name, λ cell. record c.args.self.now { histograms = f cell })) (with_cell-place c.args.id c.args.self.now.histograms c.in-Some.place c.in-Some.ensures.numbered.histograms.0 c.in-Some.ensures.place),
   record {
     writes_back = tt;
-    value = sym (cell_of-place c.args.id c.args.self.now.histograms c.in-Some.place c.in-Some.ensures.rises c.in-Some.ensures.place ∙ c.histogram_at.ensures.value);
+    value = sym (cell_of-place c.args.id c.args.self.now.histograms c.in-Some.place c.in-Some.ensures.numbered.histograms.0 c.in-Some.ensures.place ∙ c.histogram_at.ensures.value);
+    numbered = c.in-Some.ensures.numbered;
   },
 )
 
 pub returns-in-None : goal.returns-in-None
-returns-in-None g c = (refl, record { writes_back = tt; value = sym (cell_of-none c.args.id c.args.self.now.histograms c.in-None.ensures.place) })
+returns-in-None g c = (refl, record { writes_back = tt; value = sym (cell_of-none c.args.id c.args.self.now.histograms c.in-None.ensures.place); numbered = c.in-None.ensures.numbered })

@@ -1,41 +1,67 @@
-use Rattle.std.proofs.Common.{◌≡◌, List, ◌+◌, [], ◌∷◌, ◌++◌, None, map, sym, ap, subst, ◌∙◌, arith}
+use Rattle.std.proofs.Common.{◌≡◌, List, ◌+◌, ◌-◌, ◌^◌, ◌<◌, ◌≤◌, [], ◌∷◌, ◌++◌, None, Some, map, refl, sym, ap, subst, ◌∙◌, inl, inr, arith, true, false}
 use Rattle.std.proofs.lemmas.List.{map_push}
 use Rattle.metrics_core.specs.Keys.{LabelText}
 use Rattle.metrics_core.specs.declared.kinds.MetricKind.TheVariants.{Gauge}
-use Rattle.metrics_registry.specs.Live.{IsNumbered}
 use Rattle.prom_format.specs.LabelSets.{labels_of}
-use Rattle.prom_exporter.specs.State.{PrometheusState}
-use Rattle.prom_exporter.specs.Exporter.{Exporter, settings_with}
-use Rattle.prom_exporter.specs.Values.{series_of, state_of}
-use Rattle.prom_exporter.proofs.States.{with_gauges, new_series, register-live, id-live, number-new, register-full, register-new}
+use Rattle.metrics_registry.specs.Live.{LiveSeries}
+use Rattle.series_cells.specs.declared.gauge.PromGauge.{PromGauge}
+use Rattle.prom_exporter.specs.Shared.{Shared, unused}
+use Rattle.prom_exporter.specs.Exporter.{Exporter, Cells, settings_with, AddsGauge}
+use Rattle.prom_exporter.specs.contracts.state.PrometheusState.{the_view}
+use Rattle.prom_exporter.proofs.Home.{adds_gauge-home}
+use Rattle.prom_exporter.specs.Values.{series_of, seen_series, seen_registry, state_of, state_seen}
+use Rattle.prom_exporter.proofs.Seen.{id_of_key-seen, is_numbered-seen}
+use Rattle.prom_exporter.proofs.States.{new_series, register-live, id-live, number-new, register-full, register-new}
 use Rattle.prom_exporter.proofs.state.PrometheusState.register_gauge.Goals as goal
-
-abbrev exporter : List LabelText → PrometheusState → Exporter
-exporter globals state = record { settings = settings_with globals; state = state }
 
 pub returns-in-Some-clause-registered : goal.returns-in-Some-clause-registered
 returns-in-Some-clause-registered c =
-    rw (← c.self.view_is) (ap (exporter (labels_of c.self.inside.globals.entries)) (sym (register-live Gauge c.args.key.now c.self.inside.series c.in-Some.id (sym c.in-Some.ensures))))
+    let series = c.self.inside.series in
+    let found = id_of_key-seen c.args.key.now series.gauges ∙ sym c.in-Some.ensures in
+    rw (← c.self.view_is) (sym (register-live Gauge c.args.key.now (seen_registry series) c.in-Some.id found))
 
 pub returns-in-Some-clause-id : goal.returns-in-Some-clause-id
 returns-in-Some-clause-id c =
-    rw (← c.self.view_is) (id-live Gauge c.args.key.now c.self.inside.series c.self.inside.series.made c.in-Some.id c.made-number.ensures.numbered.gauges.1 (sym c.in-Some.ensures))
+    let series = c.self.inside.series in
+    let found = id_of_key-seen c.args.key.now series.gauges ∙ sym c.in-Some.ensures in
+    rw (← c.self.view_is) (id-live Gauge c.args.key.now (seen_registry series) series.made c.in-Some.id (is_numbered-seen series c.made-number.ensures.numbered).gauges.1 found)
 
 pub returns-then-number-clause-id : goal.returns-then-number-clause-id
 returns-then-number-clause-id c =
-    rw (← c.self.view_is) (ap (λ n. record { kind = Gauge; number = n }) (c.made-number.ensures.made ∙ sym (number-new Gauge c.args.key.now c.self.inside.series (sym c.in_default.ensures))))
+    let series = c.self.inside.series in
+    let none = id_of_key-seen c.args.key.now series.gauges ∙ sym c.in_default.ensures in
+    rw (← c.self.view_is) (ap (λ n. record { kind = Gauge; number = n }) (c.made-number.ensures.made ∙ sym (number-new Gauge c.args.key.now (seen_registry series) none)))
 
 pub returns-clause-registered : goal.returns-clause-registered
 returns-clause-registered c =
     let series = c.self.inside.series in
     let key = c.args.key.now in
-    let new = new_series Gauge series.made key in
-    let grown : state_of c.add_gauge.new.self ≡ state_of (with_gauges series (series.gauges ++ new ∷ []) (series.made + 1)) =
-    ap state_of (c.in-Ok.ensures.added ∙ (λ j. with_gauges series (series.gauges ++ record { id = c.in-Ok.ensures.id j; key = c.in_ok-key.ensures.same j; cell = c.in_ok-cell.ensures j } ∷ []) (series.made + 1))) in
-    let pushed = ap (λ l. record (state_of series) { gauges = l; made = series.made + 1 }) (map_push series_of series.gauges new) in
-    let room = register-new Gauge key series (sym c.in_default.ensures) (λ full. c.if-number.false (c.made-number.ensures.made ∙ full)) in
-    rw (← c.self.view_is) (ap (exporter (labels_of c.self.inside.globals.entries)) (grown ∙ pushed ∙ sym room))
+    let none = id_of_key-seen key series.gauges ∙ sym c.in_default.ensures in
+    let new : LiveSeries (Shared PromGauge) = record { id = record { kind = Gauge; number = series.made }; key = key; cell = unused c.in_ok-cell.cell.cell } in
+    let grown : state_seen c.add_gauge.new.self ≡ state_seen (record series { gauges = series.gauges ++ new ∷ []; made = series.made + 1 }) =
+    ap state_seen (c.in-Ok.ensures.added ∙ (λ j. record series { gauges = series.gauges ++ record { id = c.in-Ok.ensures.id j; key = c.in_ok-key.ensures.same j; cell = c.in_ok-cell.ensures j } ∷ []; made = series.made + 1 })) in
+    let pushed = ap (λ l. record (state_seen series) { gauges = l; made = series.made + 1 }) (ap (map series_of) (map_push seen_series series.gauges new) ∙ map_push series_of (map seen_series series.gauges) (seen_series new)) in
+    let room = register-new Gauge key (seen_registry series) none (λ full. c.if-number.false (c.made-number.ensures.made ∙ full)) in
+    rw (← c.self.view_is) (grown ∙ pushed ∙ sym room)
+
+adds : (c : goal.In-Ok) → AddsGauge c.args.key.now c.args.self.now (the_view (record { globals = c.self.inside.globals; series = c.add_gauge.new.self }))
+adds c =
+    let series = c.self.inside.series in
+    rw (← c.self.view_is) (c.in_ok-cell.cell.cell,
+        ap (λ cells. record { settings = settings_with (labels_of c.self.inside.globals.entries); series = cells })
+        (c.in-Ok.ensures.added ∙ (λ j. record series { gauges = series.gauges ++ record { id = c.in-Ok.ensures.id j; key = c.in_ok-key.ensures.same j; cell = c.in_ok-cell.ensures j } ∷ []; made = series.made + 1 })))
 
 pub returns-clause-id : goal.returns-clause-id
 returns-clause-id c =
-    rw (← c.self.view_is) (c.in-Ok.ensures.id ∙ ap (λ n. record { kind = Gauge; number = n }) (sym (number-new Gauge c.args.key.now c.self.inside.series (sym c.in_default.ensures))))
+    let series = c.self.inside.series in
+    let none = id_of_key-seen c.args.key.now series.gauges ∙ sym c.in_default.ensures in
+    rw (← c.self.view_is) (c.in-Ok.ensures.id ∙ ap (λ n. record { kind = Gauge; number = n }) (sym (number-new Gauge c.args.key.now (seen_registry series) none)))
+
+pub returns-clause-cells : goal.returns-clause-cells
+returns-clause-cells c = inr (adds c)
+
+pub returns-clause-home : goal.returns-clause-home
+returns-clause-home c = adds_gauge-home c.args.key.now c.args.self.now _ (adds c)
+
+pub returns-in_default-add_gauge-clause-home : goal.returns-in_default-add_gauge-clause-home
+returns-in_default-add_gauge-clause-home c = rw (c.in_default-add_gauge.ensures.refused, ← c.self.view_is) (λ home. home)

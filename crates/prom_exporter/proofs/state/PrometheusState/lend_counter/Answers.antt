@@ -1,0 +1,25 @@
+use Rattle.std.proofs.Common.{◌≡◌, List, ◌+◌, ◌-◌, ◌^◌, ◌<◌, ◌≤◌, [], ◌∷◌, ◌++◌, None, Some, map, refl, sym, ap, subst, ◌∙◌, inl, inr, arith, true, false}
+use Rattle.std.proofs.lemmas.Result.{err_from_is_err_and}
+use Rattle.metrics_core.specs.Keys.{LabelText}
+use Rattle.prom_format.specs.LabelSets.{labels_of}
+use Rattle.metrics_registry.specs.Live.{with_cell}
+use Rattle.prom_exporter.specs.Exporter.{Exporter, Cells, settings_with}
+use Rattle.prom_exporter.proofs.States.{kept}
+use Rattle.prom_exporter.proofs.Seen.{of_counters}
+use Rattle.prom_exporter.proofs.state.PrometheusState.lend_counter.Goals as goal
+
+pub returns-in_err-cell-clause-refused : goal.returns-in_err-cell-clause-refused
+returns-in_err-cell-clause-refused c =
+    let refusal = err_from_is_err_and c.from_residual.result c.from_residual.ensures.1 in
+    let series = c.self.inside.series in
+    let numbered = c.in-Some.ensures.numbered in
+    rw refusal.1 (
+        ap (λ es. record { settings = settings_with (labels_of c.self.inside.globals.entries); series = record series { counters = es } })
+        (ap (λ cell. with_cell c.args.id series.counters cell) c.in_err-cell.ensures.refused
+        ∙ kept c.args.id series.counters series.made c.in-Some.cell.now numbered.counters.0 (of_counters c.args.id c.in-Some.cell.now series.counters series.made numbered.counters.1 (sym c.in-Some.ensures.value)) (sym c.in-Some.ensures.value))
+        ∙ c.self.view_is)
+
+pub returns-clause-lent : goal.returns-clause-lent
+returns-clause-lent c =
+    rw (← c.self.view_is) (c.in-Some.cell.now, c.lend.new.self, sym c.in-Some.ensures.value,
+        (record { id_is = refl; handle = c.from_arc.ensures ∙ ap Some c.in_ok-cell.ensures.lent.0; pass = c.in_ok-cell.ensures.lent.1; knows = c.in_ok-cell.ensures.lent.2 }, c.in_ok-cell.ensures.out), refl)

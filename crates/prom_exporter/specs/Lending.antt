@@ -1,0 +1,50 @@
+-- Which passes an exporter lends and takes back.
+use Rattle.std.specs.Prelude.{◌≡◌, Option, Some, None}
+use Rattle.metrics_core.specs.declared.kinds.SeriesId.{SeriesId}
+use Rattle.metrics_facade.specs.declared.handles.Counter.{Counter}
+use Rattle.metrics_facade.specs.declared.handles.Gauge.{Gauge}
+use Rattle.metrics_registry.specs.Live.{cell_of}
+use Rattle.legal_history.specs.History.{child}
+use Rattle.series_cells.specs.declared.counter.PromCounter.{PromCounter}
+use Rattle.series_cells.specs.declared.gauge.PromGauge.{PromGauge}
+use Rattle.series_cells.specs.declared.pass.CellPass.{CellPass}
+use Rattle.series_cells.specs.Pass.{view_of, IsCounterPass, IsGaugePass}
+use Rattle.prom_exporter.specs.declared.lent.Lent.{Lent}
+use Rattle.prom_exporter.specs.Shared.{Shared, with_one_out}
+use Rattle.prom_exporter.specs.Exporter.{Exporter, ChangesCounter, ChangesGauge}
+
+-- no counter with the id is live, and no gauge
+abbrev pub HasNoCounter : SeriesId → Exporter → Type 0
+HasNoCounter id exporter = cell_of id exporter.series.counters ≡ None
+
+abbrev pub HasNoGauge : SeriesId → Exporter → Type 0
+HasNoGauge id exporter = cell_of id exporter.series.gauges ≡ None
+
+-- what is lent of a counter is its handle, and a new pass that has seen what the exporter has seen
+pub record IsLentCounter (id : SeriesId) (cell : Shared PromCounter) (lent : Lent (Option PromCounter) CellPass) : Type 0 where
+  pub id_is : lent.id ≡ id
+  pub handle : lent.handle ≡ Some cell.cell
+  pub pass : IsCounterPass cell.cell lent.pass
+  pub knows : view_of lent.pass ≡ child cell.root
+
+pub record IsLentGauge (id : SeriesId) (cell : Shared PromGauge) (lent : Lent (Option PromGauge) CellPass) : Type 0 where
+  pub id_is : lent.id ≡ id
+  pub handle : lent.handle ≡ Some cell.cell
+  pub pass : IsGaugePass cell.cell lent.pass
+  pub knows : view_of lent.pass ≡ child cell.root
+
+-- nothing is lent exactly where no such series is live; otherwise one more pass of the series is out
+abbrev pub LendsCounter : SeriesId → Option (Lent (Option PromCounter) CellPass) → Exporter → Exporter → Type 0
+LendsCounter id None old new = HasNoCounter id old × (new ≡ old)
+LendsCounter id (Some lent) old new = ChangesCounter id (λ s t. IsLentCounter id s lent × (t ≡ with_one_out s)) old new
+
+abbrev pub LendsGauge : SeriesId → Option (Lent (Option PromGauge) CellPass) → Exporter → Exporter → Type 0
+LendsGauge id None old new = HasNoGauge id old × (new ≡ old)
+LendsGauge id (Some lent) old new = ChangesGauge id (λ s t. IsLentGauge id s lent × (t ≡ with_one_out s)) old new
+
+-- where its series is live, what was lent has a pass of the series' cell
+abbrev pub LentCounter : Exporter → Lent (Option PromCounter) CellPass → Type 0
+LentCounter exporter lent = (s : Shared PromCounter) → cell_of lent.id exporter.series.counters ≡ Some s → IsCounterPass s.cell lent.pass
+
+abbrev pub LentGauge : Exporter → Lent (Option PromGauge) CellPass → Type 0
+LentGauge exporter lent = (s : Shared PromGauge) → cell_of lent.id exporter.series.gauges ≡ Some s → IsGaugePass s.cell lent.pass
