@@ -5,3 +5,4 @@ pub mod RunPages
 pub mod DriveSteps
 pub mod Sayings
 pub mod WordSteps
+pub mod Fits

@@ -8,7 +8,7 @@ use Rattle.metrics_core.specs.Calls.{Call}
 use Rattle.prom_format.specs.Pages.{page_text}
 use Rattle.prom_exporter.specs.State.{Series, PrometheusState, live, with_live, with_call, call_on, page_step}
 use Rattle.prom_exporter.specs.Families.{families_at}
-use Rattle.prom_exporter.specs.Exporter.{Exporter, page_families, stepped}
+use Rattle.prom_exporter.specs.Exporter.{Exporter, families_shown, page_families, state_of as prometheus_of}
 use Rattle.drive_script.specs.Script.{CallLine, RoundText, call_of, SettingsText}
 use Rattle.drive_script.specs.Texts.{round_of}
 use Rattle.drive_script.specs.declared.script.Round.{Round}
@@ -151,26 +151,30 @@ state_after p q round x set_up called =
 
 -- The state of a player, and the page, after a round: q is the state after the round's setup.
 pub round_played : (settings : SettingsText) (p q : PlayState) (round : RoundText) (exporter : Exporter) (handles : List SeriesId) → q ≡ after_setup p round
-    → record { prometheus = exporter.state; handles = handles } ≡ fold (call_step round.moment) q round.calls
+    → record { prometheus = prometheus_of exporter; handles = handles } ≡ fold (call_step round.moment) q round.calls
     → exporter.settings ≡ exporter_settings settings
-    → record { prometheus = (stepped round.moment exporter).state; handles = handles } ≡ played settings p round
+    → record { prometheus = page_step exporter.settings.idle round.moment (prometheus_of exporter); handles = handles } ≡ played settings p round
 round_played settings p q round exporter handles set_up called same =
-    ap (λ idle. record { prometheus = page_step idle round.moment exporter.state; handles = handles }) (ap (λ s. s.idle) same)
+    ap (λ idle. record { prometheus = page_step idle round.moment (prometheus_of exporter); handles = handles }) (ap (λ s. s.idle) same)
     ∙ ap (λ x. record { prometheus = page_step (exporter_settings settings).idle round.moment x.prometheus; handles = x.handles }) (state_after p q round _ set_up called)
 
 pub page_written : (settings : SettingsText) (p q : PlayState) (round : RoundText) (exporter : Exporter) (handles : List SeriesId) → q ≡ after_setup p round
-    → record { prometheus = exporter.state; handles = handles } ≡ fold (call_step round.moment) q round.calls
+    → record { prometheus = prometheus_of exporter; handles = handles } ≡ fold (call_step round.moment) q round.calls
     → exporter.settings ≡ exporter_settings settings
     → page_text (page_families round.moment exporter) ≡ round_text settings p round
 page_written settings p q round exporter handles set_up called same =
-    ap (λ s. page_text (page_families round.moment (record { settings = s; state = exporter.state }))) same
+    ap (λ s. page_text (families_shown s round.moment (prometheus_of exporter))) same
     ∙ ap (λ x. page_text (families_at (exporter_settings settings) round.moment (page_step (exporter_settings settings).idle round.moment x.prometheus))) (state_after p q round _ set_up called)
+
+-- a round and those behind it
+pub rounds_behind : (rounds : List Round) (i : ℕ) (round : Round) → i < length rounds → round ≡ get_or rounds i round → map round_of (drop i rounds) ≡ round_of round ∷ map round_of (drop (i + 1) rounds)
+rounds_behind rounds i round within found = ap (map round_of) here
+  where
+    here : drop i rounds ≡ round ∷ drop (i + 1) rounds
+    here = rw add-one (drop-cons rounds i round within ∙ ap (λ r. r ∷ drop (suc i) rounds) (sym found))
 
 -- the pages from a round on are that of the round and those behind it
 pub next_round : (settings : SettingsText) (p : PlayState) (rounds : List Round) (i : ℕ) (round : Round) → i < length rounds → round ≡ get_or rounds i round
     → rounds_text settings p (map round_of (drop i rounds))
     ≡ round_text settings p (round_of round) ++ rounds_text settings (played settings p (round_of round)) (map round_of (drop (i + 1) rounds))
-next_round settings p rounds i round within found = ap (λ rs. rounds_text settings p (map round_of rs)) here
-  where
-    here : drop i rounds ≡ round ∷ drop (i + 1) rounds
-    here = rw add-one (drop-cons rounds i round within ∙ ap (λ r. r ∷ drop (suc i) rounds) (sym found))
+next_round settings p rounds i round within found = ap (rounds_text settings p) (rounds_behind rounds i round within found)

@@ -6,4 +6,5 @@ pub mod Reading
 pub mod Player
 pub mod Turns
 pub mod Built
+pub mod Fitting
 pub mod Vectors

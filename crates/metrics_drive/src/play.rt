@@ -1,22 +1,25 @@
 //! The play of a script: what each round does to the exporter, and the page that it writes.
 
-ghost use Rattle.std.specs.Prelude.{◌≡◌, ◌≤◌, fold, map, length, IfOk, IfErr, OnOk, OnErr};
+ghost use Rattle.std.specs.Prelude.{◌≡◌, ◌≤◌, [], fold, map, length, IfOk, IfErr, OnOk, OnErr};
 ghost use Rattle.metrics_core.specs.Outside.{Rose, GrewBy, GrewByFront};
-ghost use Rattle.drive_script.specs.Texts.{script_of, settings_of};
+ghost use Rattle.drive_script.specs.Texts.{script_of, settings_of, round_of};
 ghost use Rattle.metrics_drive.specs.Answers.{IsPlayFault, report_of};
 ghost use Rattle.metrics_drive.specs.Built.{AreBuiltRounds};
+ghost use Rattle.metrics_drive.specs.Fitting.{CallsFit};
 ghost use Rattle.metrics_drive.specs.InTurn.{run_text};
 ghost use Rattle.metrics_drive.specs.Play.{exporter_settings};
 
 use crate::Report;
 use drive_script::{Act, CallLine, DriveFault, Round, Script, Settings, Setup};
-use metrics_core::{Memory, MetricKind, SeriesCall, SeriesId, Sink, write_whole};
+use metrics_core::{Memory, MetricKind, SeriesId, Sink, write_whole};
 use prom_exporter::{BuildError, PrometheusBuilder, PrometheusState};
+use series_cells::{CounterCall, GaugeCall};
 use std::alloc::Global;
 
 /// Plays a script: a page for each round goes to the sink, each ended by the line `# EOF`.
 pub fn play<K: Sink>(alloc: Global, script: &Script, out: &mut K) -> Result<Report, DriveFault>
-    requires { AreBuiltRounds script.now.rounds.items }
+    requires built { AreBuiltRounds script.now.rounds.items }
+    requires fit { CallsFit [] (map round_of script.now.rounds.items) }
     ensures pages { OnOk result (GrewBy (K.written out.old) (K.written out.new) (run_text (script_of script.now))) }
     ensures counted { IfOk result (λ report. report ≡ report_of (length script.now.rounds.items)) }
     ensures front { OnErr result (GrewByFront (K.written out.old) (K.written out.new) (run_text (script_of script.now))) }
@@ -49,10 +52,11 @@ pub struct Player {
 }
 
 impl Player {
-    ghost use Rattle.std.specs.Prelude.{◌≡◌, ◌≤◌, fold, map, IfOk, IfErr, OnOk, OnErr};
+    ghost use Rattle.std.specs.Prelude.{◌≡◌, ◌≤◌, ℕ, All, [], ◌∷◌, fold, map, IfOk, IfErr, OnOk, OnErr};
     ghost use Rattle.metrics_core.specs.Outside.{Rose, GrewBy, GrewByFront};
     ghost use Rattle.prom_format.specs.Pages.{page_text};
-    ghost use Rattle.prom_exporter.specs.Exporter.{page_families, stepped as exporter_stepped};
+    ghost use Rattle.prom_exporter.specs.State.{page_step};
+    ghost use Rattle.prom_exporter.specs.Exporter.{AllHome, page_families, state_of as prometheus_of};
     ghost use Rattle.drive_script.specs.Script.{SettingsText};
     ghost use Rattle.drive_script.specs.Texts.{round_of, settings_of, setup_of, call_line_of};
     ghost use Rattle.metrics_drive.specs.Answers.{IsPlayFault};
@@ -61,11 +65,13 @@ impl Player {
     ghost use Rattle.metrics_drive.specs.Player.{state_of};
     ghost use Rattle.metrics_drive.specs.Turns.{call_step};
     ghost use Rattle.metrics_drive.specs.Built.{AreBuiltSetups, IsBuiltSetup};
+    ghost use Rattle.metrics_drive.specs.Fitting.{CallsFit, FitsHandle};
 
     /// A player before its first round, over an exporter with these settings.
     fn new(alloc: Global, settings: &Settings) -> Result<Player, Memory>
         ensures start { IfOk result (λ player. state_of player ≡ play_start) }
         ensures settings { IfOk result (λ player. player.exporter.settings ≡ exporter_settings (settings_of settings.now)) }
+        ensures home { IfOk result (λ player. AllHome player.exporter) }
     {
         let builder = builder_of(alloc, settings)?;
         match builder.build_state(alloc) {
@@ -85,6 +91,9 @@ impl Player {
         out: &mut K,
     ) -> Result<(), DriveFault>
         requires built { AreBuiltSetups round.now.setup.items }
+        requires fit { CallsFit self.old.handles.items (round_of round.now ∷ []) }
+        requires home { AllHome self.old.exporter }
+        ensures home { OnOk result (AllHome self.new.exporter) }
         ensures settings { self.new.exporter.settings ≡ self.old.exporter.settings }
         ensures played { (settings : SettingsText) → self.old.exporter.settings ≡ exporter_settings settings
             → OnOk result (state_of self.new ≡ played settings (state_of self.old) (round_of round.now)) }
@@ -99,10 +108,7 @@ impl Player {
             Ok(()) => (),
             Err(Memory) => return Err(DriveFault::Memory),
         }
-        match self.make_calls(alloc, round.moment, &round.calls) {
-            Ok(()) => (),
-            Err(Memory) => return Err(DriveFault::Memory),
-        }
+        self.make_calls(&round.calls);
         self.write_page(alloc, round.moment, out)
     }
 
@@ -110,6 +116,7 @@ impl Player {
     fn set_up(&mut self, alloc: Global, setup: &[Setup]) -> Result<(), Memory>
         requires { AreBuiltSetups setup.now }
         ensures settings { self.new.exporter.settings ≡ self.old.exporter.settings }
+        ensures home { AllHome self.old.exporter → AllHome self.new.exporter }
         ensures stepped { OnOk result (state_of self.new ≡ fold setup_step (state_of self.old) (map setup_of setup.now)) }
     {
         for line in setup {
@@ -125,6 +132,7 @@ impl Player {
     fn set_up_line(&mut self, alloc: Global, line: &Setup) -> Result<(), Memory>
         requires { IsBuiltSetup (setup_of line.now) }
         ensures settings { self.new.exporter.settings ≡ self.old.exporter.settings }
+        ensures home { AllHome self.old.exporter → AllHome self.new.exporter }
         ensures stepped { OnOk result (state_of self.new ≡ setup_step (state_of self.old) (setup_of line.now)) }
     {
         let Setup::Register { kind, key } = line;
@@ -137,39 +145,38 @@ impl Player {
         Ok(())
     }
 
-    /// Makes the calls of a round at its moment, in nanoseconds, in the script's order.
-    fn make_calls(&mut self, alloc: Global, moment: u64, calls: &[CallLine]) -> Result<(), Memory>
+    /// Makes the calls of a round in the script's order.
+    fn make_calls(&mut self, calls: &[CallLine])
+        requires fit { All (λ line. FitsHandle self.old.handles.items (call_line_of line)) calls.now }
+        requires home { AllHome self.old.exporter }
         ensures settings { self.new.exporter.settings ≡ self.old.exporter.settings }
-        ensures called { OnOk result (state_of self.new ≡ fold (call_step moment) (state_of self.old) (map call_line_of calls.now)) }
+        ensures home { AllHome self.new.exporter }
+        ensures called { (moment : ℕ) → state_of self.new ≡ fold (call_step moment) (state_of self.old) (map call_line_of calls.now) }
     {
         for line in calls {
-            match self.make_call(alloc, moment, line) {
-                Ok(()) => (),
-                Err(refused) => return Err(refused),
-            }
+            self.make_call(line);
         }
-        Ok(())
     }
 
     /// Makes one call. A handle that no register line has names no series.
-    fn make_call(&mut self, alloc: Global, _moment: u64, line: &CallLine) -> Result<(), Memory>
+    fn make_call(&mut self, line: &CallLine)
+        requires fit { FitsHandle self.old.handles.items (call_line_of line.now) }
+        requires home { AllHome self.old.exporter }
         ensures settings { self.new.exporter.settings ≡ self.old.exporter.settings }
-        ensures called { OnOk result (state_of self.new ≡ call_step _moment (state_of self.old) (call_line_of line.now)) }
+        ensures home { AllHome self.new.exporter }
+        ensures handles { self.new.handles ≡ self.old.handles }
+        ensures called { (moment : ℕ) → state_of self.new ≡ call_step moment (state_of self.old) (call_line_of line.now) }
     {
         let Some(id) = self.handles.get(line.handle as usize).copied() else {
-            return Ok(());
+            return;
         };
-        let call = match line.act {
-            Act::Inc(value) => SeriesCall::Increment(value),
-            Act::Abs(value) => SeriesCall::Absolute(value),
-            Act::Add(value) => SeriesCall::Add(value),
-            Act::Sub(value) => SeriesCall::Sub(value),
-            Act::Set(value) => SeriesCall::Set(value),
+        match line.act {
+            Act::Inc(value) => self.exporter.call_counter(id, CounterCall::Increment(value)),
+            Act::Abs(value) => self.exporter.call_counter(id, CounterCall::Absolute(value)),
+            Act::Add(value) => self.exporter.call_gauge(id, GaugeCall::Increment(value)),
+            Act::Sub(value) => self.exporter.call_gauge(id, GaugeCall::Decrement(value)),
+            Act::Set(value) => self.exporter.call_gauge(id, GaugeCall::Set(value)),
         };
-        match self.exporter.apply(alloc, id, call) {
-            Ok(_) => Ok(()),
-            Err(refused) => Err(refused),
-        }
     }
 
     /// Writes the page at a moment, ended by the line `# EOF`.
@@ -179,8 +186,9 @@ impl Player {
         moment: u64,
         out: &mut K,
     ) -> Result<(), DriveFault>
-        ensures settings { self.new.exporter.settings ≡ self.old.exporter.settings }
-        ensures stepped { OnOk result (state_of self.new ≡ record (state_of self.old) { prometheus = (exporter_stepped moment self.old.exporter).state }) }
+        requires home { AllHome self.old.exporter }
+        ensures same { self.new.exporter ≡ self.old.exporter }
+        ensures stepped { OnOk result (state_of self.new ≡ record (state_of self.old) { prometheus = page_step self.old.exporter.settings.idle moment (prometheus_of self.old.exporter) }) }
         ensures page { OnOk result (GrewBy (K.written out.old) (K.written out.new) (page_text (page_families moment self.old.exporter))) }
         ensures front { OnErr result (GrewByFront (K.written out.old) (K.written out.new) (page_text (page_families moment self.old.exporter))) }
         ensures cause { IfErr result (IsPlayFault (Rose (K.faults out.old) (K.faults out.new))) }

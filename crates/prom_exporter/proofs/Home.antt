@@ -1,5 +1,5 @@
 -- Cells of which no pass is out: what the exporter sees of them is the whole history.
-use Rattle.std.proofs.Common.{◌≡◌, ℕ, Bool, true, false, cond, List, [], ◌∷◌, ◌++◌, map, Option, None, Some, refl, sym, ap, subst, ◌∙◌, arith}
+use Rattle.std.proofs.Common.{◌≡◌, ℕ, Bool, true, false, cond, List, [], ◌∷◌, ◌++◌, map, Option, None, Some, refl, sym, ap, subst, ◌∙◌, inl, inr, arith}
 use Rattle.std.specs.Prelude.{All, find, option_map}
 use Rattle.std.specs.List.{AllZip}
 use Rattle.std.proofs.lemmas.List.{map-append}
@@ -7,7 +7,10 @@ use Rattle.std.proofs.lemmas.List.Elements.{All-head, All-tail, All-cons, All-ap
 use Rattle.std.proofs.lemmas.Option.{same_Some}
 use Rattle.legal_history.specs.declared.history.View.{View}
 use Rattle.legal_history.specs.declared.history.Entry.{Entry}
-use Rattle.legal_history.specs.History.{calls, looked, after, said, Sees}
+use mathlib.Core.List.{IsPrefix}
+use Rattle.legal_history.specs.declared.history.Held.{Held}
+use Rattle.legal_history.specs.History.{calls, calls_by, held, longer, looked, after, said, Among, Sees}
+use Rattle.legal_history.proofs.Fronts.{prefix_trans}
 use Rattle.legal_history.proofs.Lists.{calls-append}
 use Rattle.metrics_core.specs.Keys.{KeyText}
 use Rattle.metrics_core.specs.declared.kinds.SeriesId.{SeriesId}
@@ -15,10 +18,26 @@ use Rattle.metrics_registry.specs.Live.{LiveSeries, has_id, cell_of, with_cell}
 use Rattle.series_cells.specs.declared.calls.ValueCall.{ValueCall}
 use Rattle.series_cells.specs.Values.{call_of}
 use Rattle.series_cells.specs.Pass.{Calls}
-use Rattle.prom_exporter.specs.Shared.{Shared, IsHome, unused, Looks, MakesCall, calls_seen}
+use Rattle.prom_exporter.specs.Shared.{Shared, IsHome, unused, Looks, MakesCall, TakesBack, calls_seen}
 use Rattle.prom_exporter.specs.Exporter.{Exporter, SeriesLooks, LooksOn, AllHome, AddsCounter, AddsGauge}
 
+among_last : (h : Held ValueCall) (hs : List (Held ValueCall)) → Among h (hs ++ h ∷ [])
+among_last h [] = inl refl
+among_last h (x ∷ hs) = inr (among_last h hs)
+
 module _ {F : Type 0} where
+  -- what was seen is a beginning of what is seen then
+  pub look_begins : (s t : Shared F) → Looks s t → IsPrefix s.root.seen t.root.seen
+  look_begins s t looks = subst (λ (x : Shared F). IsPrefix s.root.seen x.root.seen) (sym looks.2) looks.1.begins
+
+  pub given_back_seen : (s t : Shared F) (known : View ValueCall) → TakesBack known s t → IsPrefix known.seen t.root.seen × (calls_by known.number t.root.seen ≡ known.mine)
+  given_back_seen s t known takes =
+      let h = held known.number known.mine known.seen in
+      let last = among_last h s.root.joined in
+      let log = takes.0 in
+      subst (λ (x : Shared F). IsPrefix known.seen x.root.seen × (calls_by known.number x.root.seen ≡ known.mine)) (sym takes.2)
+      (prefix_trans known.seen (longer s.root.seen known.seen) log (takes.1.returned h last).begins takes.1.begins, takes.1.back h last)
+
   pub looks-home : (s t : Shared F) → IsHome s → Looks s t → t ≡ s
   looks-home s t home looks = looks.2 ∙ ap (λ log. record s { root = looked s.root log }) (looks.1.whole home.0 home.1).0
 
@@ -28,10 +47,9 @@ module _ {F : Type 0} where
       let whole = ap (λ log. after s.root log (call ∷ [])) (made.1.1.whole home.0 home.1).0 in
       let root : called.root ≡ after s.root s.root.seen (call ∷ []) = made.1.2 ∙ whole in
       let home' : IsHome called = (ap (λ (v : View ValueCall). v.number) root ∙ home.0, ap (λ (v : View ValueCall). v.out) root ∙ home.1) in
-      let same : t ≡ called = looks-home called t home' made.3 in
-      (
+      let same : t ≡ called = looks-home called t home' made.3 in (
         ap calls_seen same ∙ ap (λ (v : View ValueCall). map call_of (calls v.seen)) root
-        ∙ ap (map call_of) (calls-append s.root.seen (said s.root.number (call ∷ []))) ∙ map-append call_of (calls s.root.seen) (call ∷ []),
+            ∙ ap (map call_of) (calls-append s.root.seen (said s.root.number (call ∷ []))) ∙ map-append call_of (calls s.root.seen) (call ∷ []),
         subst IsHome (sym same) home',
       )
 
@@ -59,7 +77,7 @@ module _ {F : Type 0} where
   with_cell-home id t [] h home = home
   with_cell-home id t (e ∷ es) h home =
       All-cons (λ (x : LiveSeries (Shared F)). IsHome x.cell) _ _
-      (elim (has_id id e) as (λ b. IsHome (cond b (record e { cell = t }) e).cell) [ | true ↦ h | false ↦ All-head (λ (x : LiveSeries (Shared F)). IsHome x.cell) e es home ])
+      (elim (has_id id e) as (λ b. IsHome (cond b (record e { cell = t }) e).cell) [ true ↦ h | false ↦ All-head (λ (x : LiveSeries (Shared F)). IsHome x.cell) e es home ])
       (with_cell-home id t es h (All-tail (λ (x : LiveSeries (Shared F)). IsHome x.cell) e es home))
 
 pub looks_on-home : (old new : Exporter) → AllHome old → LooksOn old new → new ≡ old

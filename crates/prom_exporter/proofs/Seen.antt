@@ -37,7 +37,7 @@ module _ {F : Type 0} where
   pub with_cell-seen : (id : SeriesId) (cell : Shared F) (es : List (LiveSeries (Shared F))) → map seen_series (with_cell id es cell) ≡ with_cell id (map seen_series es) (calls_seen cell)
   with_cell-seen id cell [] = refl
   with_cell-seen id cell (e ∷ es) =
-      (λ j. elim (has_id id e) as (λ b. seen_series (cond b (record e { cell = cell }) e) ≡ cond b (record (seen_series e) { cell = calls_seen cell }) (seen_series e)) [ | true ↦ refl | false ↦ refl ] j ∷ with_cell-seen id cell es j)
+      (λ j. elim (has_id id e) as (λ b. seen_series (cond b (record e { cell = cell }) e) ≡ cond b (record (seen_series e) { cell = calls_seen cell }) (seen_series e)) [ true ↦ refl | false ↦ refl ] j ∷ with_cell-seen id cell es j)
 
   is_below_all-seen : (n : ℕ) (es : List (LiveSeries (Shared F))) → IsBelowAll n es → IsBelowAll n (map seen_series es)
   is_below_all-seen n [] h = tt

@@ -69,16 +69,20 @@ pub record LooksOn (old new : Exporter) : Type 0 where
 
 -- a new counter goes last, and a new gauge: its cell is one that nobody has called
 abbrev pub AddsCounter : KeyText → Exporter → Exporter → Type 0
-AddsCounter key old new = (cell : PromCounter) × (new ≡ record old { series = record old.series {
-  counters = old.series.counters ++ record { id = record { kind = kinds.Counter; number = old.series.made }; key = key; cell = unused cell } ∷ [];
-  made = old.series.made + 1;
-} })
+AddsCounter key old new = (cell : PromCounter) × (new ≡ record old {
+  series = record old.series {
+    counters = old.series.counters ++ record { id = record { kind = kinds.Counter; number = old.series.made }; key = key; cell = unused cell } ∷ [];
+    made = old.series.made + 1;
+  };
+})
 
 abbrev pub AddsGauge : KeyText → Exporter → Exporter → Type 0
-AddsGauge key old new = (cell : PromGauge) × (new ≡ record old { series = record old.series {
-  gauges = old.series.gauges ++ record { id = record { kind = kinds.Gauge; number = old.series.made }; key = key; cell = unused cell } ∷ [];
-  made = old.series.made + 1;
-} })
+AddsGauge key old new = (cell : PromGauge) × (new ≡ record old {
+  series = record old.series {
+    gauges = old.series.gauges ++ record { id = record { kind = kinds.Gauge; number = old.series.made }; key = key; cell = unused cell } ∷ [];
+    made = old.series.made + 1;
+  };
+})
 
 -- the counter with the id is live and changes so, and a gauge; nothing else does
 abbrev pub ChangesCounter : SeriesId → (Shared PromCounter → Shared PromCounter → Type 0) → Exporter → Exporter → Type 0

@@ -12,6 +12,9 @@ mod state;
 
 pub use builder::PrometheusBuilder;
 pub use errors::BuildError;
-pub use laws::{basic_page, pages_are_read};
+pub use laws::{basic_page, given_back_is_seen, looking_forgets_nothing, pages_are_read};
 pub use lent::Lent;
 pub use state::PrometheusState;
+
+#[cfg(test)]
+mod tests;

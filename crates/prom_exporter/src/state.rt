@@ -121,10 +121,10 @@ impl PrometheusState {
         ensures home { AllHome self.old → AllHome self.new }
         ensures settings { self.new.settings ≡ self.old.settings }
     {
-        let Some(cell) = self.series.get_counter_mut(id) else {
+        let Some(counter) = self.series.get_counter_mut(id) else {
             return false;
         };
-        cell.make(call);
+        counter.make(call);
         true
     }
 
@@ -136,10 +136,10 @@ impl PrometheusState {
         ensures home { AllHome self.old → AllHome self.new }
         ensures settings { self.new.settings ≡ self.old.settings }
     {
-        let Some(cell) = self.series.get_gauge_mut(id) else {
+        let Some(gauge) = self.series.get_gauge_mut(id) else {
             return false;
         };
-        cell.make(call);
+        gauge.make(call);
         true
     }
 
@@ -153,10 +153,10 @@ impl PrometheusState {
         ensures lent { IfOk result (λ lent. LendsCounter id lent self.old self.new) }
         ensures refused { OnErr result (self.new ≡ self.old) }
     {
-        let Some(cell) = self.series.get_counter_mut(id) else {
+        let Some(counter) = self.series.get_counter_mut(id) else {
             return Ok(None);
         };
-        let (cell, pass) = cell.lend(alloc)?;
+        let (cell, pass) = counter.lend(alloc)?;
         Ok(Some(Lent {
             handle: facade::Counter::from_arc(cell),
             pass,
@@ -173,10 +173,10 @@ impl PrometheusState {
         ensures lent { IfOk result (λ lent. LendsGauge id lent self.old self.new) }
         ensures refused { OnErr result (self.new ≡ self.old) }
     {
-        let Some(cell) = self.series.get_gauge_mut(id) else {
+        let Some(gauge) = self.series.get_gauge_mut(id) else {
             return Ok(None);
         };
-        let (cell, pass) = cell.lend(alloc)?;
+        let (cell, pass) = gauge.lend(alloc)?;
         Ok(Some(Lent {
             handle: facade::Gauge::from_arc(cell),
             pass,
@@ -195,8 +195,8 @@ impl PrometheusState {
             pass,
             id,
         } = lent;
-        if let Some(cell) = self.series.get_counter_mut(id) {
-            cell.take_back(pass);
+        if let Some(counter) = self.series.get_counter_mut(id) {
+            counter.take_back(pass);
         }
     }
 
@@ -210,8 +210,8 @@ impl PrometheusState {
             pass,
             id,
         } = lent;
-        if let Some(cell) = self.series.get_gauge_mut(id) {
-            cell.take_back(pass);
+        if let Some(gauge) = self.series.get_gauge_mut(id) {
+            gauge.take_back(pass);
         }
     }
 
@@ -219,18 +219,22 @@ impl PrometheusState {
     fn read(&mut self)
         ensures { LooksOn self.old self.new }
     {
-        self.series.retain_counters(|_: SeriesId, cell: &mut CounterCell| -> bool
-            ensures { (result ≡ true) × Looks cell.entry.now cell.exit.now }
+        self.series.retain_counters(
+            |_: SeriesId, cell: &mut CounterCell| -> bool
+                ensures { (result ≡ true) × Looks cell.entry.now cell.exit.now }
             {
                 cell.read();
                 true
-            });
-        self.series.retain_gauges(|_: SeriesId, cell: &mut GaugeCell| -> bool
-            ensures { (result ≡ true) × Looks cell.entry.now cell.exit.now }
+            },
+        );
+        self.series.retain_gauges(
+            |_: SeriesId, cell: &mut GaugeCell| -> bool
+                ensures { (result ≡ true) × Looks cell.entry.now cell.exit.now }
             {
                 cell.read();
                 true
-            });
+            },
+        );
     }
 
     /// Writes the page's body at a moment, in nanoseconds (Prometheus text exposition format, version 0.0.4). It shows each

@@ -1,4 +1,4 @@
-use Rattle.std.proofs.Common.{◌≡◌, ◌≤◌, ℕ, List, length, subst, sym, refl, inl}
+use Rattle.std.proofs.Common.{◌≡◌, ◌≤◌, ℕ, List, [], length, subst, sym, refl, inl}
 use Rattle.std.specs.Prelude.{IfSome}
 use Rattle.metrics_core.specs.Outside.{Rose}
 use Rattle.drive_script.specs.Texts.{script_of}
@@ -7,8 +7,11 @@ use Rattle.metrics_drive.proofs.BuiltRounds.{script_built}
 use Rattle.metrics_drive.proofs.DriveSteps.{played_whole, played_front, good_answers, play_faults, refused_answers}
 use Rattle.metrics_drive.proofs.drive.drive.Goals as goal
 
-pub play-requires : goal.play-requires
-play-requires g c = script_built c.deref.result.now c.in-Ok-read_script.script c.in-Ok-read_script.ensures.valid
+pub play-requires-clause-built : goal.play-requires-clause-built
+play-requires-clause-built g c = script_built c.deref.result.now c.in-Ok-read_script.script c.in-Ok-read_script.ensures.valid
+
+pub play-requires-clause-fit : goal.play-requires-clause-fit
+play-requires-clause-fit g c = ([], refl, c.in-Ok-read_script.ensures.valid.1.handles)
 
 pub returns-in-Err-read_script-clause-complete : goal.returns-in-Err-read_script-clause-complete
 returns-in-Err-read_script-clause-complete g c =

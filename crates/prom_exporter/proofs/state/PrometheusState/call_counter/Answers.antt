@@ -12,12 +12,12 @@ use Rattle.prom_exporter.proofs.States.{counter-called, none-called}
 use Rattle.prom_exporter.proofs.state.PrometheusState.call_counter.Goals as goal
 
 pub returns-clause-called : goal.returns-clause-called
-returns-clause-called c _ = rw (← c.self.view_is) (c.in-Some.cell.now, c.make.new.self, sym c.in-Some.ensures.value, c.make.ensures, refl)
+returns-clause-called c _ = rw (← c.self.view_is) (c.in-Some.counter.now, c.make.new.self, sym c.in-Some.ensures.value, c.make.ensures, refl)
 
 pub returns-clause-state : goal.returns-clause-state
 returns-clause-state c = rw (← c.self.view_is) (λ home kind.
     let series = c.self.inside.series in
-    let cell = c.in-Some.cell.now in
+    let cell = c.in-Some.counter.now in
     let found = sym c.in-Some.ensures.value in
     let made = made-home (counter_entry c.args.call) cell c.make.new.self (found-home c.args.id series.counters cell home.0 found) c.make.ensures in
     let left = with_cell-seen c.args.id c.make.new.self series.counters ∙ ap (with_cell c.args.id (seen_registry series).counters) made.0 in
@@ -35,6 +35,6 @@ returns-in_default-clause-state c = rw (← c.self.view_is) (λ home kind.
 pub returns-clause-home : goal.returns-clause-home
 returns-clause-home c = rw (← c.self.view_is) (λ home.
     let series = c.self.inside.series in
-    let cell = c.in-Some.cell.now in
+    let cell = c.in-Some.counter.now in
     let made = made-home (counter_entry c.args.call) cell c.make.new.self (found-home c.args.id series.counters cell home.0 (sym c.in-Some.ensures.value)) c.make.ensures in
     (with_cell-home c.args.id c.make.new.self series.counters made.1 home.0, home.1))

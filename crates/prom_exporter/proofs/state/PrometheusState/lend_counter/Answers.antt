@@ -14,12 +14,17 @@ returns-in_err-cell-clause-refused c =
     let series = c.self.inside.series in
     let numbered = c.in-Some.ensures.numbered in
     rw refusal.1 (
-        ap (λ es. record { settings = settings_with (labels_of c.self.inside.globals.entries); series = record series { counters = es } })
-        (ap (λ cell. with_cell c.args.id series.counters cell) c.in_err-cell.ensures.refused
-        ∙ kept c.args.id series.counters series.made c.in-Some.cell.now numbered.counters.0 (of_counters c.args.id c.in-Some.cell.now series.counters series.made numbered.counters.1 (sym c.in-Some.ensures.value)) (sym c.in-Some.ensures.value))
-        ∙ c.self.view_is)
+    ap (λ es. record { settings = settings_with (labels_of c.self.inside.globals.entries); series = record series { counters = es } })
+    (ap (λ cell. with_cell c.args.id series.counters cell) c.in_err-cell.ensures.refused
+    ∙ kept c.args.id series.counters series.made c.in-Some.counter.now numbered.counters.0 (of_counters c.args.id c.in-Some.counter.now series.counters series.made numbered.counters.1 (sym c.in-Some.ensures.value)) (sym c.in-Some.ensures.value))
+    ∙ c.self.view_is)
 
 pub returns-clause-lent : goal.returns-clause-lent
 returns-clause-lent c =
-    rw (← c.self.view_is) (c.in-Some.cell.now, c.lend.new.self, sym c.in-Some.ensures.value,
-        (record { id_is = refl; handle = c.from_arc.ensures ∙ ap Some c.in_ok-cell.ensures.lent.0; pass = c.in_ok-cell.ensures.lent.1; knows = c.in_ok-cell.ensures.lent.2 }, c.in_ok-cell.ensures.out), refl)
+    rw (← c.self.view_is) (
+      c.in-Some.counter.now,
+      c.lend.new.self,
+      sym c.in-Some.ensures.value,
+      (record { id_is = refl; handle = c.from_arc.ensures ∙ ap Some c.in_ok-cell.ensures.lent.0; pass = c.in_ok-cell.ensures.lent.1; knows = c.in_ok-cell.ensures.lent.2 }, c.in_ok-cell.ensures.out),
+      refl,
+    )

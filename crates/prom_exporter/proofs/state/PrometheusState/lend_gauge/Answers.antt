@@ -14,12 +14,17 @@ returns-in_err-cell-clause-refused c =
     let series = c.self.inside.series in
     let numbered = c.in-Some.ensures.numbered in
     rw refusal.1 (
-        ap (λ es. record { settings = settings_with (labels_of c.self.inside.globals.entries); series = record series { gauges = es } })
-        (ap (λ cell. with_cell c.args.id series.gauges cell) c.in_err-cell.ensures.refused
-        ∙ kept c.args.id series.gauges series.made c.in-Some.cell.now numbered.gauges.0 (of_gauges c.args.id c.in-Some.cell.now series.gauges series.made numbered.gauges.1 (sym c.in-Some.ensures.value)) (sym c.in-Some.ensures.value))
-        ∙ c.self.view_is)
+    ap (λ es. record { settings = settings_with (labels_of c.self.inside.globals.entries); series = record series { gauges = es } })
+    (ap (λ cell. with_cell c.args.id series.gauges cell) c.in_err-cell.ensures.refused
+    ∙ kept c.args.id series.gauges series.made c.in-Some.gauge.now numbered.gauges.0 (of_gauges c.args.id c.in-Some.gauge.now series.gauges series.made numbered.gauges.1 (sym c.in-Some.ensures.value)) (sym c.in-Some.ensures.value))
+    ∙ c.self.view_is)
 
 pub returns-clause-lent : goal.returns-clause-lent
 returns-clause-lent c =
-    rw (← c.self.view_is) (c.in-Some.cell.now, c.lend.new.self, sym c.in-Some.ensures.value,
-        (record { id_is = refl; handle = c.from_arc.ensures ∙ ap Some c.in_ok-cell.ensures.lent.0; pass = c.in_ok-cell.ensures.lent.1; knows = c.in_ok-cell.ensures.lent.2 }, c.in_ok-cell.ensures.out), refl)
+    rw (← c.self.view_is) (
+      c.in-Some.gauge.now,
+      c.lend.new.self,
+      sym c.in-Some.ensures.value,
+      (record { id_is = refl; handle = c.from_arc.ensures ∙ ap Some c.in_ok-cell.ensures.lent.0; pass = c.in_ok-cell.ensures.lent.1; knows = c.in_ok-cell.ensures.lent.2 }, c.in_ok-cell.ensures.out),
+      refl,
+    )

@@ -47,9 +47,11 @@ returns-clause-registered c =
 adds : (c : goal.In-Ok) → AddsGauge c.args.key.now c.args.self.now (the_view (record { globals = c.self.inside.globals; series = c.add_gauge.new.self }))
 adds c =
     let series = c.self.inside.series in
-    rw (← c.self.view_is) (c.in_ok-cell.cell.cell,
-        ap (λ cells. record { settings = settings_with (labels_of c.self.inside.globals.entries); series = cells })
-        (c.in-Ok.ensures.added ∙ (λ j. record series { gauges = series.gauges ++ record { id = c.in-Ok.ensures.id j; key = c.in_ok-key.ensures.same j; cell = c.in_ok-cell.ensures j } ∷ []; made = series.made + 1 })))
+    rw (← c.self.view_is) (
+      c.in_ok-cell.cell.cell,
+      ap (λ cells. record { settings = settings_with (labels_of c.self.inside.globals.entries); series = cells })
+          (c.in-Ok.ensures.added ∙ (λ j. record series { gauges = series.gauges ++ record { id = c.in-Ok.ensures.id j; key = c.in_ok-key.ensures.same j; cell = c.in_ok-cell.ensures j } ∷ []; made = series.made + 1 })),
+    )
 
 pub returns-clause-id : goal.returns-clause-id
 returns-clause-id c =
