@@ -7,6 +7,7 @@ use Rattle.legal_history.specs.declared.history.Held.{Held}
 use Rattle.legal_history.specs.declared.history.View.{View}
 use Rattle.legal_history.specs.History.{Distinct, held, keep, Settled}
 use Rattle.legal_history.specs.Order.{times, GrewInOrder}
+use Rattle.legal_history.specs.Places.{Ascend}
 use Rattle.legal_history.specs.News.{helds}
 use Rattle.cell_lanes.specs.declared.lane.Line.{Line}
 use Rattle.cell_lanes.specs.declared.lane.Lane.{Lane}
@@ -53,6 +54,14 @@ module _ {K : Type 0} where
 
   abbrev pub AllFit : ℕ → List (Lane K) → Type 0
   AllFit count lanes = (l : ℕ) (x : Lane K) → get_elem? lanes l ≡ some x → Fit count x
+
+  -- the cells that a lane names ascend and are there; each line has a slot
+  pub record InOrder (count : ℕ) (lane : Lane K) : Type 0 where
+    pub cells : Ascend 0 count lane.cells.items
+    pub lines : LineFit (length lane.cells.items) lane.lines.items
+
+  abbrev pub AllInOrder : ℕ → List (Lane K) → Type 0
+  AllInOrder count lanes = (l : ℕ) (x : Lane K) → get_elem? lanes l ≡ some x → InOrder count x
 
 -- a relation of each one before and after
 abbrev pub Each : {S : Type 0} → (ℕ → S → S → Type 0) → List S → List S → Type 0
