@@ -42,6 +42,14 @@ module _ {K : Type 0} where
   abbrev pub AllDone : List (Lane K) → (ℕ → ℕ) → Type 0
   AllDone lanes done = (l : ℕ) (x : Lane K) → get_elem? lanes l ≡ some x → done l ≡ length x.lines.items
 
+  -- a lane has calls left that it has not made
+  abbrev pub SomeLeft : List (Lane K) → (ℕ → ℕ) → Type 0
+  SomeLeft lanes done = (l : ℕ) × (x : Lane K) × (get_elem? lanes l ≡ some x) × (done l < length x.lines.items)
+
+  -- a lane has calls left, or none has made any
+  abbrev pub Unfinished : List (Lane K) → (ℕ → ℕ) → Type 0
+  Unfinished lanes done = SomeLeft lanes done ⊎ ((l : ℕ) → done l ≡ 0)
+
   -- each cell that a lane names is there, and is named once; each line has a slot
   pub record Fit (count : ℕ) (lane : Lane K) : Type 0 where
     pub cells : (s j : ℕ) → get_elem? lane.cells.items s ≡ some j → j < count
