@@ -19,7 +19,8 @@ use std::sync::Wait;
 use std::thread::Threads;
 
 /// Runs lanes side by side over counters, and flushes the counter with this index. It answers what a counter of one thread has after
-/// the earlier calls and all calls of the lanes on it, in one order in which each lane's calls stand as the lane has them.
+/// the earlier calls and all calls of the lanes on it, in one order in which each lane's calls stand as the lane has them. All passes are
+/// back at the end, also after a refusal.
 pub fn run_counters<R: Threads + Wait + Sync, H: LaneHook + Sync>(
     rt: &R,
     alloc: Global,
@@ -31,6 +32,7 @@ pub fn run_counters<R: Threads + Wait + Sync, H: LaneHook + Sync>(
     requires roots { Roots counter_root counters.old × AtRest counter_root counters.old }
     requires fit { AllFit (length counters.old) lanes.now }
     requires index { index < length counters.old }
+    ensures roots { Roots counter_root counters.new × AtRest counter_root counters.new }
     ensures flushed { IfOk result (λ answer. (c : DsdCounterSeries) → get_elem? counters.old index ≡ some c → CounterFlushed (all_calls_on index lanes.now) (counter_root c) answer.0 answer.1) }
 {
     match run_lanes(rt, alloc, hook, counters, lanes) {
@@ -40,7 +42,8 @@ pub fn run_counters<R: Threads + Wait + Sync, H: LaneHook + Sync>(
 }
 
 /// Runs lanes side by side over gauges, and flushes the gauge with this index. It answers what a gauge of one thread has after
-/// the earlier calls and all calls of the lanes on it, in one order in which each lane's calls stand as the lane has them.
+/// the earlier calls and all calls of the lanes on it, in one order in which each lane's calls stand as the lane has them. All passes are
+/// back at the end, also after a refusal.
 pub fn run_gauges<R: Threads + Wait + Sync, H: LaneHook + Sync>(
     rt: &R,
     alloc: Global,
@@ -52,6 +55,7 @@ pub fn run_gauges<R: Threads + Wait + Sync, H: LaneHook + Sync>(
     requires roots { Roots gauge_root gauges.old × AtRest gauge_root gauges.old }
     requires fit { AllFit (length gauges.old) lanes.now }
     requires index { index < length gauges.old }
+    ensures roots { Roots gauge_root gauges.new × AtRest gauge_root gauges.new }
     ensures flushed { IfOk result (λ answer. (c : DsdGaugeSeries) → get_elem? gauges.old index ≡ some c → GaugeFlushed (all_calls_on index lanes.now) (gauge_root c) answer.0 answer.1) }
 {
     match run_lanes(rt, alloc, hook, gauges, lanes) {
