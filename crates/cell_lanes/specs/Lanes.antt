@@ -79,6 +79,10 @@ Each {S} R cs ds = (j : ℕ) (c d : S) → get_elem? cs j ≡ some c → get_ele
 abbrev pub Grew : {S K M : Type 0} → (S → View M) → (K → List M → Type 0) → List (Lane K) → (ℕ → ℕ) → ℕ → S → S → Type 0
 Grew {M = M} root stands lanes done j c d = (lists : ℕ → List M) × ((l : ℕ) → StandAs stands (calls_on j lanes done l) (lists l)) × GrewInOrder lists (root c).seen (root d).seen
 
+-- lanes that stopped: each history grew by the first calls of each lane; a lane has calls left, or none has made any
+abbrev pub Stopped : {S K M : Type 0} → (S → View M) → (K → List M → Type 0) → List (Lane K) → List S → List S → Type 0
+Stopped root stands lanes cs ds = (done : ℕ → ℕ) × Unfinished lanes done × Each (Grew root stands lanes done) cs ds
+
 module _ {S M : Type 0} (root : S → View M) where
   -- each root is the root
   abbrev pub Roots : List S → Type 0

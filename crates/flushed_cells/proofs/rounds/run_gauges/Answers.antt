@@ -46,3 +46,6 @@ returns-in-Ok-clause-flushed g c = λ s e.
       made.5.0,
       made.5.1,
     )
+
+pub returns-in-Err-clause-stopped : goal.returns-in-Err-clause-stopped
+returns-in-Err-clause-stopped g c = let t = c.in-Err.ensures in (t.grew.0, t.grew.3, t.grew.2)

@@ -33,3 +33,6 @@ returns-in-Ok-clause-given g c = λ s e.
     let r = round_pushes queue_root c.args.lanes.now t.grew.0 c.args.index s d t.grew.1 (t.grew.2 c.args.index s d e at) in
     let f = found (queue_root d) (queue_root c.next.new.self) c.next.result c.next.ensures.call (t.roots.0 c.args.index d at) (t.roots.1 c.args.index d at).0 in
     (r.0, r.1, f.0, subst (λ (cs : List (QueueCall _)). Runs QueueStep [] cs f.0) r.2 f.1, f.2)
+
+pub returns-in-Err-clause-stopped : goal.returns-in-Err-clause-stopped
+returns-in-Err-clause-stopped g c = let t = c.in-Err.ensures in (t.grew.0, t.grew.3, t.grew.2)
