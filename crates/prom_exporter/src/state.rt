@@ -42,7 +42,8 @@ impl PrometheusState {
         alloc: Global,
         globals: IndexMap<String, String>,
     ) -> Result<PrometheusState, Memory>
-        ensures { IfOk result (λ exporter. exporter ≡ record { settings = settings_with (labels_of globals.entries); state = empty_state }) }
+        ensures made { IfOk result (λ exporter. exporter ≡ record { settings = settings_with (labels_of globals.entries); state = empty_state }) }
+        ensures no_memory { IsOk result }
     {
         Ok(PrometheusState {
             globals,
