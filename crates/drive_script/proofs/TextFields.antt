@@ -1,5 +1,5 @@
 -- Texts in quotes, and labels: what is read is their spelling, and each spelling is read.
-use Rattle.std.proofs.Common.{◌≡◌, ℕ, zero, suc, ◌+◌, ◌<◌, ◌≤◌, Bool, true, false, cond, ◌==◌, List, [], ◌∷◌, ◌++◌, length, Option, Some, None, refl, sym, ap, subst, ◌∙◌, append_assoc, arith, lit≤}
+use Rattle.std.proofs.Common.{◌≡◌, ℕ, zero, suc, ◌+◌, ◌≤◌, Bool, true, false, ◌==◌, List, [], ◌∷◌, ◌++◌, length, Option, Some, None, refl, sym, ap, subst, ◌∙◌, append_assoc, arith, lit≤}
 use Rattle.std.specs.Prelude.{codes, IsUtf8, All, flat_map, if◌then◌else◌, string_bytes, Result, Ok, Err, IfOk, IsOk, MatchOption}
 use Rattle.std.specs.declared.vec.Vec.{Vec}
 use Rattle.std.specs.declared.string.String.{String}
@@ -16,7 +16,7 @@ use Rattle.metrics_core.specs.Characters.{quote, backslash, newline}
 use Rattle.metrics_core.specs.Keys.{LabelText}
 use Rattle.prom_format.specs.Printed.{escaped_character, escaped_label_value}
 use Rattle.drive_script.specs.Words.{quoted, label_word, IsLabelUtf8}
-use Rattle.drive_script.specs.Reading.{◌>>=◌, Reader, both, seen, after, behind, escaped_by, escape_at, character_at, some_characters_at, characters_at, text_of, text_at, label_at, some_labels_at, labels_at}
+use Rattle.drive_script.specs.Reading.{◌>>=◌, both, seen, after, behind, escape_at, character_at, some_characters_at, characters_at, text_of, text_at, label_at, some_labels_at, labels_at}
 use Rattle.drive_script.proofs.Fields.{bind_some, behind_takes}
 use Rattle.drive_script.proofs.Readers.{IsReader, Ends, Anywhere, SpellsBoth, SpellsSeen, SpellsAfter, both_reads, seen_reads, after_reads}
 
