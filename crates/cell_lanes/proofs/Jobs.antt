@@ -147,6 +147,12 @@ module _ {L : Type 0} where
   done_past (y ∷ ys) zero h = absurd (omega arith)
   done_past (y ∷ ys) (suc l) h = done_past ys l (omega arith)
 
+  -- lanes of which none has made a call
+  pub done_none : (jobs : List (Job L)) → ((l : ℕ) (x : Job L) → get_elem? jobs l ≡ some x → x.done ≡ 0) → (l : ℕ) → done_of jobs l ≡ 0
+  done_none [] none l = refl
+  done_none (y ∷ ys) none zero = none 0 y refl
+  done_none (y ∷ ys) none (suc l) = done_none ys (λ k. none (suc k)) l
+
   cell_at : (xs : List (Slot L)) (s j : ℕ) → get_elem? (cells_of xs) s ≡ some j → (y : Slot L) × (get_elem? xs s ≡ some y) × (y.cell ≡ j)
   cell_at [] s j e = absurd (some-ne-none j (sym e))
   cell_at (x ∷ xs) zero j e = (x, refl, some-injective x.cell j e)

@@ -3,3 +3,4 @@ pub mod Lending
 pub mod Running
 pub mod Returning
 pub mod Jobs
+pub mod Resting

@@ -7,6 +7,7 @@ use Rattle.legal_history.specs.declared.history.Held.{Held}
 use Rattle.legal_history.specs.declared.history.View.{View}
 use Rattle.legal_history.specs.History.{Distinct, held, keep, Settled}
 use Rattle.legal_history.specs.Order.{times, GrewInOrder}
+use Rattle.legal_history.specs.Places.{Ascend}
 use Rattle.legal_history.specs.News.{helds}
 use Rattle.cell_lanes.specs.declared.lane.Line.{Line}
 use Rattle.cell_lanes.specs.declared.lane.Lane.{Lane}
@@ -41,6 +42,14 @@ module _ {K : Type 0} where
   abbrev pub AllDone : List (Lane K) → (ℕ → ℕ) → Type 0
   AllDone lanes done = (l : ℕ) (x : Lane K) → get_elem? lanes l ≡ some x → done l ≡ length x.lines.items
 
+  -- a lane has calls left that it has not made
+  abbrev pub SomeLeft : List (Lane K) → (ℕ → ℕ) → Type 0
+  SomeLeft lanes done = (l : ℕ) × (x : Lane K) × (get_elem? lanes l ≡ some x) × (done l < length x.lines.items)
+
+  -- a lane has calls left, or none has made any
+  abbrev pub Unfinished : List (Lane K) → (ℕ → ℕ) → Type 0
+  Unfinished lanes done = SomeLeft lanes done ⊎ ((l : ℕ) → done l ≡ 0)
+
   -- each cell that a lane names is there, and is named once; each line has a slot
   pub record Fit (count : ℕ) (lane : Lane K) : Type 0 where
     pub cells : (s j : ℕ) → get_elem? lane.cells.items s ≡ some j → j < count
@@ -54,6 +63,14 @@ module _ {K : Type 0} where
   abbrev pub AllFit : ℕ → List (Lane K) → Type 0
   AllFit count lanes = (l : ℕ) (x : Lane K) → get_elem? lanes l ≡ some x → Fit count x
 
+  -- the cells that a lane names ascend and are there; each line has a slot
+  pub record InOrder (count : ℕ) (lane : Lane K) : Type 0 where
+    pub cells : Ascend 0 count lane.cells.items
+    pub lines : LineFit (length lane.cells.items) lane.lines.items
+
+  abbrev pub AllInOrder : ℕ → List (Lane K) → Type 0
+  AllInOrder count lanes = (l : ℕ) (x : Lane K) → get_elem? lanes l ≡ some x → InOrder count x
+
 -- a relation of each one before and after
 abbrev pub Each : {S : Type 0} → (ℕ → S → S → Type 0) → List S → List S → Type 0
 Each {S} R cs ds = (j : ℕ) (c d : S) → get_elem? cs j ≡ some c → get_elem? ds j ≡ some d → R j c d
@@ -61,6 +78,10 @@ Each {S} R cs ds = (j : ℕ) (c d : S) → get_elem? cs j ≡ some c → get_ele
 -- the history grew by what the lanes asked for on cell j, in one order in which each lane's calls stand as it made them
 abbrev pub Grew : {S K M : Type 0} → (S → View M) → (K → List M → Type 0) → List (Lane K) → (ℕ → ℕ) → ℕ → S → S → Type 0
 Grew {M = M} root stands lanes done j c d = (lists : ℕ → List M) × ((l : ℕ) → StandAs stands (calls_on j lanes done l) (lists l)) × GrewInOrder lists (root c).seen (root d).seen
+
+-- lanes that stopped: each history grew by the first calls of each lane; a lane has calls left, or none has made any
+abbrev pub Stopped : {S K M : Type 0} → (S → View M) → (K → List M → Type 0) → List (Lane K) → List S → List S → Type 0
+Stopped root stands lanes cs ds = (done : ℕ → ℕ) × Unfinished lanes done × Each (Grew root stands lanes done) cs ds
 
 module _ {S M : Type 0} (root : S → View M) where
   -- each root is the root

@@ -1,15 +1,17 @@
 //! Whether lanes name what is there, each once.
-ghost use Rattle.std.specs.Prelude.{◌≡◌, ◌<◌, ℕ, true};
+ghost use Rattle.std.specs.Prelude.{◌≡◌, ◌↔◌, ◌<◌, ℕ, IsTrue, true};
 ghost use mathlib.Core.Option.{some};
 ghost use lib.ListN.{get_elem?};
 ghost use Rattle.legal_history.specs.History.{Distinct};
-ghost use Rattle.cell_lanes.specs.Lanes.{Fit, AllFit, LineFit};
+ghost use Rattle.legal_history.specs.Places.{Ascend};
+ghost use Rattle.cell_lanes.specs.Lanes.{Fit, AllFit, LineFit, InOrder, AllInOrder};
 
 use crate::lane::{Lane, Line};
 
 /// Whether the indices ascend, and are below `count`.
 fn ascend_below(cells: &[usize], count: usize) -> bool
-    ensures { result ≡ true → Distinct cells.now × ((s j : ℕ) → get_elem? cells.now s ≡ some j → j < count) }
+    ensures ascend { IsTrue result ↔ Ascend 0 count cells.now }
+    ensures once { result ≡ true → Distinct cells.now × ((s j : ℕ) → get_elem? cells.now s ≡ some j → j < count) }
 {
     let mut next = 0;
     for cell in cells {
@@ -23,7 +25,7 @@ fn ascend_below(cells: &[usize], count: usize) -> bool
 
 /// Whether each line's slot is below `count`.
 fn slots_below<K>(lines: &[Line<K>], count: usize) -> bool
-    ensures { result ≡ true → LineFit count lines.now }
+    ensures { IsTrue result ↔ LineFit count lines.now }
 {
     for line in lines {
         if line.slot >= count {
@@ -35,15 +37,17 @@ fn slots_below<K>(lines: &[Line<K>], count: usize) -> bool
 
 /// Whether the lane names its things in ascending order, all of them below `count`, and has a slot for each line.
 pub fn lane_fits<K>(lane: &Lane<K>, count: usize) -> bool
-    ensures { result ≡ true → Fit count lane.now }
+    ensures in_order { IsTrue result ↔ InOrder count lane.now }
+    ensures fit { result ≡ true → Fit count lane.now }
 {
     ascend_below(lane.cells.as_slice(), count)
         && slots_below(lane.lines.as_slice(), lane.cells.len())
 }
 
-/// Whether each lane fits so.
+/// Whether each lane names its things so.
 pub fn lanes_fit<K>(lanes: &[Lane<K>], count: usize) -> bool
-    ensures { result ≡ true → AllFit count lanes.now }
+    ensures in_order { IsTrue result ↔ AllInOrder count lanes.now }
+    ensures fit { result ≡ true → AllFit count lanes.now }
 {
     for lane in lanes {
         if !lane_fits(lane, count) {

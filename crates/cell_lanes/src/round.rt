@@ -1,12 +1,12 @@
 //! Rounds of lanes that run side by side.
-ghost use Rattle.std.specs.Prelude.{◌≡◌, ◌<◌, ◌≤◌, ℕ, [], take, length, vec_len, vec_capacity, OnOk};
+ghost use Rattle.std.specs.Prelude.{◌≡◌, ◌<◌, ◌≤◌, ℕ, [], take, length, vec_len, vec_capacity, OnOk, OnErr};
 ghost use mathlib.Core.Option.{some};
 ghost use lib.ListN.{get_elem?};
 ghost use Rattle.legal_history.specs.Order.{times};
 ghost use Rattle.cell_lanes.specs.declared.lane.Line.{Line};
 ghost use Rattle.cell_lanes.specs.declared.lane.Lane.{Lane};
 ghost use Rattle.cell_lanes.specs.declared.lane.Job.{Job};
-ghost use Rattle.cell_lanes.specs.Lanes.{Each, Roots, Stays, Owns, Home, AtRest, Lends, Takes, Same, Grew, AllFit, AllDone, SlotsFit, SlotsKept, Fresh, SlotsMade, LineFit, LinesTaken, AllTaken, LaneReady, LaneRan, cells_of, given, JobsFit, JobsFresh, JobsRan, lent_on, all_given, done_of};
+ghost use Rattle.cell_lanes.specs.Lanes.{Each, Roots, Stays, Owns, Home, AtRest, Lends, Takes, Same, Grew, AllFit, AllDone, SomeLeft, Unfinished, SlotsFit, SlotsKept, Fresh, SlotsMade, LineFit, LinesTaken, AllTaken, LaneReady, LaneRan, cells_of, given, JobsFit, JobsFresh, JobsRan, lent_on, all_given, done_of};
 
 use crate::hook::LaneHook;
 use crate::lane::{Job, Lane, Line, Slot};
@@ -146,8 +146,10 @@ fn run_all<R: Threads + Wait + Sync, H: LaneHook + Sync, S: Lender>(
 
 /// Whether each lane has made all its calls. The refusal that one of them had was want of memory.
 fn all_done<K, L>(lanes: &[Lane<K>], jobs: &[Job<L>]) -> Result<(), Memory>
-    requires { length jobs.now ≡ length lanes.now }
-    ensures { OnOk result (AllDone lanes.now (done_of jobs.now)) }
+    requires each { length jobs.now ≡ length lanes.now }
+    requires done { (l : ℕ) (a : Lane K) (x : Job L) → get_elem? lanes.now l ≡ some a → get_elem? jobs.now l ≡ some x → x.done ≤ length a.lines.items }
+    ensures ok { OnOk result (AllDone lanes.now (done_of jobs.now)) }
+    ensures refused { OnErr result (SomeLeft lanes.now (done_of jobs.now)) }
 {
     for l in 0..lanes.len() {
         if jobs[l].done != lanes[l].lines.len() {
@@ -175,6 +177,7 @@ fn lend_and_run<R: Threads + Wait + Sync, H: LaneHook + Sync, S: Lender>(
     ensures few { length jobs.new.items ≤ length lanes.now }
     ensures ran { JobsRan S.knows S.stands_as lanes.now jobs.new.items }
     ensures ok { OnOk result (AllDone lanes.now (done_of jobs.new.items)) }
+    ensures refused { OnErr result (Unfinished lanes.now (done_of jobs.new.items)) }
 {
     match lend_all(alloc, shared, lanes, jobs) {
         Ok(()) => {}
@@ -225,7 +228,7 @@ fn settle_all<R: Wait, S: Lender>(rt: &R, shared: &mut [S])
 /// All passes are back at the end.
 ///
 /// A lane that is refused memory makes no further call, and the answer is then `Memory`, once all lanes have returned.
-/// Where a pass can't be lent, no lane runs.
+/// Where a pass can't be lent, no lane runs. So after `Memory` a lane has calls left, or none has made any.
 pub fn run_lanes<R: Threads + Wait + Sync, H: LaneHook + Sync, S: Lender>(
     rt: &R,
     alloc: Global,
@@ -238,7 +241,7 @@ pub fn run_lanes<R: Threads + Wait + Sync, H: LaneHook + Sync, S: Lender>(
     requires taken { AllTaken S.fixed S.takes shared.old lanes.now }
     ensures roots { Roots S.root shared.new × AtRest S.root shared.new }
     ensures stays { Each (λ j. Stays S.fixed) shared.old shared.new }
-    ensures grew { (done : ℕ → ℕ) × OnOk result (AllDone lanes.now done) × Each (Grew S.root S.stands_as lanes.now done) shared.old shared.new }
+    ensures grew { (done : ℕ → ℕ) × OnOk result (AllDone lanes.now done) × Each (Grew S.root S.stands_as lanes.now done) shared.old shared.new × OnErr result (Unfinished lanes.now done) }
 {
     let mut jobs = match Vec::with_capacity(alloc, lanes.len()) {
         Ok(jobs) => jobs,

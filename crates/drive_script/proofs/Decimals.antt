@@ -1,8 +1,7 @@
 -- Numbers and values: what is read is their spelling, and each spelling is read.
-use Rattle.std.proofs.Common.{◌≡◌, ℕ, zero, suc, ◌+◌, ◌-◌, ◌*◌, ◌^◌, ◌<◌, ◌≤◌, Bool, true, false, cond, ◌&&◌, leb, List, [], ◌∷◌, ◌++◌, length, take, drop, Option, Some, None, refl, sym, ap, subst, ◌∙◌, append_assoc, arith, lit<, lit≤}
-use Rattle.std.specs.Prelude.{codes, decimal, bytes_eq, ℤ, pos}
+use Rattle.std.proofs.Common.{◌≡◌, ℕ, zero, suc, ◌+◌, ◌-◌, ◌*◌, ◌^◌, ◌<◌, ◌≤◌, Bool, true, false, ◌&&◌, leb, List, [], ◌∷◌, ◌++◌, length, take, drop, Option, Some, None, refl, sym, ap, subst, ◌∙◌, append_assoc, arith, lit<, lit≤}
+use Rattle.std.specs.Prelude.{codes, decimal, ℤ}
 use Rattle.std.specs.Str.Parse.{AllDigits, digits_value}
-use Rattle.std.specs.Char.{is_ascii_digit}
 use Rattle.std.proofs.lemmas.Bool.{and_parts, leb-true, le-leb}
 use Rattle.std.proofs.lemmas.Bool.Decides.{nat_tests}
 use Rattle.std.specs.Prelude.{Result, Ok, Err}
@@ -12,12 +11,12 @@ use Rattle.std.proofs.Math.Nat.{pow-suc, mul-lt-mul_of_pos_right}
 use Rattle.std.proofs.lemmas.Fmt.{decimal_is_IsNumeral, decimal_nonempty}
 use Rattle.std.proofs.lemmas.Int.Digits.{digits_value-lt}
 use Rattle.std.proofs.lemmas.Nat.{pow-add}
-use Rattle.std.proofs.lemmas.List.{append-nil, take_at, drop_at, take-append-drop, length-take}
+use Rattle.std.proofs.lemmas.List.{take_at, drop_at, take-append-drop}
 use Rattle.std.proofs.lemmas.Option.{cond_some, same_Some}
 use Rattle.std.proofs.lemmas.Str.Parse.{digit_from_value, parse_digits, digits_value_short}
 use Rattle.metrics_core.specs.Numbers.{one}
 use Rattle.drive_script.specs.Words.{IsDec, sign, signed, point_and, billionths, greatest}
-use Rattle.drive_script.specs.Reading.{◌>>=◌, Reader, both, behind, digit_count, number_at, fraction_of, fraction_behind, fraction_at, value_of, signed_at, sign_behind, fixed_at}
+use Rattle.drive_script.specs.Reading.{◌>>=◌, both, behind, digit_count, number_at, fraction_of, fraction_behind, fraction_at, value_of, signed_at, sign_behind, fixed_at}
 use Rattle.drive_script.proofs.Fields.{bind_some, behind_takes, behind_again, number_takes, number_again, digits_front, digit_count-append, own}
 use Rattle.drive_script.proofs.Readers.{IsReader, Ends, SpellsBoth, both_reads}
 

@@ -1,6 +1,6 @@
 -- A line is read as what it says, and so it says at most one thing.
-use Rattle.std.proofs.Common.{◌≡◌, ℕ, ◌+◌, ◌-◌, ◌^◌, ◌<◌, ◌≤◌, ◌==◌, List, [], ◌∷◌, ◌++◌, map, Option, Some, None, refl, sym, ap, subst, ◌∙◌, append_assoc, arith, inl, inr, ◌⊎◌, lit<}
-use Rattle.std.specs.Prelude.{codes, decimal, All, flat_map, ℤ, if◌then◌else◌}
+use Rattle.std.proofs.Common.{◌≡◌, ℕ, ◌+◌, ◌-◌, ◌^◌, ◌<◌, ◌==◌, List, [], ◌∷◌, ◌++◌, map, Option, Some, None, refl, sym, ap, subst, ◌∙◌, append_assoc, arith, inl, inr, lit<}
+use Rattle.std.specs.Prelude.{codes, decimal, ℤ, if◌then◌else◌}
 use Rattle.std.proofs.lemmas.Bool.Decides.{nat_tests}
 use Rattle.std.proofs.lemmas.Fmt.{decimal_digit}
 use Rattle.std.proofs.lemmas.List.{append-nil}
@@ -9,15 +9,14 @@ use Rattle.metrics_core.specs.Keys.{LabelText, KeyText}
 use Rattle.metrics_core.specs.Kinds.{kind_text}
 use Rattle.metrics_core.specs.declared.kinds.MetricKind.{MetricKind}
 use Rattle.metrics_core.specs.declared.kinds.MetricKind.TheVariants as kinds
-use Rattle.drive_script.specs.Words.{spaced, quoted, label_word, IsDec, IsLabelUtf8, IsKeyUtf8}
-use Rattle.drive_script.specs.Script.{SetupLine, Register, Describe, Act, Inc, Abs, Add, Sub, Set, Rec, RecN, CallLine, ScriptLine, Global, Round, Setup, CallOf, IsLine, IsRegistered, AreActWords}
-use Rattle.drive_script.specs.Reading.{◌>>=◌, ◌or◌, Reader, both, seen, after, behind, standing, whole, number_at, fixed_at, text_at, labels_at, verb_at, registered_kind_at, argument_at, global_at, round_at, Registered, register_at, CallParts, call_parts_at, call_of_parts, call_at}
+use Rattle.drive_script.specs.Words.{spaced, quoted, label_word, IsDec}
+use Rattle.drive_script.specs.Script.{Register, Describe, Act, Inc, Abs, Add, Sub, Set, Rec, RecN, CallLine, ScriptLine, Global, Round, Setup, CallOf, IsLine, IsRegistered, AreActWords}
+use Rattle.drive_script.specs.Reading.{◌or◌, both, after, behind, standing, number_at, fixed_at, text_at, labels_at, verb_at, registered_kind_at, argument_at, global_at, round_at, Registered, register_at, CallParts, call_parts_at, call_of_parts, call_at}
 use Rattle.drive_script.specs.declared.lines.Verb.{Verb}
 use Rattle.drive_script.specs.declared.lines.Verb.TheVariants as verbs
-use Rattle.drive_script.proofs.Fields.{behind_again}
 use Rattle.drive_script.proofs.Readers.{IsReader, Ends, Anywhere, stops_less, SpellsBoth, both_reads, SpellsSeen, seen_reads, SpellsAfter, after_reads, standing_takes, or_some, whole_takes, whole_again}
 use Rattle.drive_script.proofs.Decimals.{NoDigit, SpellsNumber, number_reads, fixed_reads}
-use Rattle.drive_script.proofs.TextFields.{SpellsText, text_reads, SpellsTexts, label_spelled, label_spells, label_seen_reads, spaced_labels, SpellsLabels, labels_read}
+use Rattle.drive_script.proofs.TextFields.{SpellsText, text_reads, label_spelled, label_spells, label_seen_reads, spaced_labels, SpellsLabels, labels_read}
 
 -- ---- global lines
 

@@ -1,6 +1,6 @@
 -- The lines of a valid script and one more: they are a valid script just where that line is the script's next.
 use Rattle.std.proofs.Common.{◌≡◌, ℕ, zero, suc, ◌+◌, ◌-◌, ◌<◌, ◌≤◌, ◌⊎◌, List, [], ◌∷◌, ◌++◌, map, length, get_or, take, refl, sym, ap, subst, ◌∙◌, arith, inl, inr, lit≤}
-use Rattle.std.specs.Prelude.{All, AllPairs, IfSome, Option, Some, None, flat_map, filter_map, sum_by}
+use Rattle.std.specs.Prelude.{All, AllPairs, IfSome, flat_map, filter_map, sum_by}
 use Rattle.std.specs.List.{AllZip, AllByRecursion}
 use Rattle.std.specs.List.Sorted.{IsNonDecreasingBy}
 use Rattle.std.proofs.lemmas.List.{append-nil, append_assoc, map-append, map_push, length-append, length_push, same_from_push, get_or_push, take_at, take_all, take_more, nil_from_length}

@@ -1,5 +1,5 @@
 -- The table of heads, with one more register line.
-use Rattle.std.proofs.Common.{◌≡◌, ◌≢◌, ℕ, zero, suc, ◌+◌, ◌<◌, Bool, true, false, cond, List, [], ◌∷◌, ◌++◌, length, map, get_or, Option, Some, None, refl, sym, ap, subst, ◌∙◌, append_assoc, arith}
+use Rattle.std.proofs.Common.{◌≡◌, ℕ, zero, suc, ◌<◌, Bool, true, false, cond, List, [], ◌∷◌, ◌++◌, length, map, get_or, Option, Some, None, refl, sym, ap, subst, ◌∙◌, arith}
 use Rattle.std.specs.Prelude.{All, MatchBool, fold, codes, bytes_eq, slice_get, string_bytes}
 use Rattle.std.specs.Map.{lookup}
 use Rattle.std.specs.String.{string_eq}
@@ -9,7 +9,7 @@ use Rattle.std.proofs.lemmas.Bool.{false≢true}
 use Rattle.std.proofs.lemmas.List.{append-nil, map_push}
 use Rattle.std.proofs.lemmas.List.Sums.{fold_push}
 use Rattle.std.proofs.lemmas.List.Elements.{All-nil, All-cons, All-head, All-tail, All-push, All-get_or, All-from_get_or}
-use Rattle.std.proofs.lemmas.Option.{same_Some, slice_get_within, slice_get_read}
+use Rattle.std.proofs.lemmas.Option.{same_Some}
 use Rattle.std.proofs.lemmas.Slice.Eq.{bytes_eq-Decides}
 use Rattle.std.proofs.lemmas.List.{append_cancel_left}
 use Rattle.metrics_core.specs.declared.kinds.MetricKind.{MetricKind}
@@ -17,11 +17,11 @@ use Rattle.metrics_core.specs.declared.kinds.MetricKind.TheVariants as kinds
 use Rattle.metrics_core.specs.Kinds.{kind_text}
 use Rattle.metrics_core.specs.Keys.{LabelText, KeyText, SameKey, key_eq, label_set, put_label}
 use Rattle.metrics_core.specs.KeyLaws.{key_eq_is}
-use Rattle.prom_format.specs.Names.{IsMetricName, IsLabelName, sanitized_metric_name, sanitized_label_name}
+use Rattle.prom_format.specs.Names.{IsLabelName, sanitized_metric_name}
 use Rattle.prom_format.specs.Lines.{head_text, shown_label}
 use Rattle.prom_format.proofs.NameLaws.{sanitized_metric_name-is_name, sanitized_label_name-is_name}
 use Rattle.prom_format.proofs.PagesReadOnce.{row_head_told}
-use Rattle.drive_script.specs.Valid.{Registration, Head, head_of, PrintApart}
+use Rattle.drive_script.specs.Valid.{Registration, head_of, PrintApart}
 use Rattle.drive_script.specs.Heads.{text_of_head, keys_by_head, key_at, AreHeadsOf}
 
 some_is_none : (key : KeyText) → ◌≡◌ {A = Option KeyText} (Some key) None → ⊥

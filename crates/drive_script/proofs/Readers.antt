@@ -27,15 +27,17 @@ abbrev pub SpellsBoth : {A B : Type 0} → (A → List ℕ → Type 0) → (A �
 SpellsBoth S T ab front = (x y : List ℕ) × S ab.0 x × T ab.0 ab.1 y × (front ≡ x ++ y)
 
 module _ {A B : Type 0} (first : Reader A) (second : A → Reader B) (S : A → List ℕ → Type 0) (T : A → B → List ℕ → Type 0) (Stop Last : List ℕ → Type 0) where
+  -- one front and another behind it
+  both_front : (bytes : List ℕ) (a : A) (b : B) (middle rest : List ℕ) → (front : List ℕ) × S a front × (bytes ≡ front ++ middle) → (front : List ℕ) × T a b front × (middle ≡ front ++ rest) → (front : List ℕ) × SpellsBoth S T (a, b) front × (bytes ≡ front ++ rest)
+  both_front bytes a b middle rest h k = (h.0 ++ k.0, (h.0, k.0, h.1, k.1, refl), h.2 ∙ ap (λ l. h.0 ++ l) k.2 ∙ sym (append_assoc h.0 k.0 rest))
+
   both_takes : IsReader first S Stop → ((a : A) → IsReader (second a) (T a) Last) → (bytes : List ℕ) (ab : A × B) (rest : List ℕ) → both first second bytes ≡ Some (ab, rest) → (front : List ℕ) × SpellsBoth S T ab front × (bytes ≡ front ++ rest)
   both_takes f s bytes ab rest e =
       let a = bind_some (first bytes) (λ x. second x.0 x.1 >>= λ y. Some ((x.0, y.0), y.1)) (ab, rest) e in
       let b = bind_some (second a.0.0 a.0.1) (λ y. Some ((a.0.0, y.0), y.1)) (ab, rest) a.2 in
-      let x = f.takes bytes a.0.0 a.0.1 a.1 in
-      let y = (s a.0.0).takes a.0.1 b.0.0 b.0.1 b.1 in
       let same : ((a.0.0, b.0.0), b.0.1) ≡ (ab, rest) = same_Some ((a.0.0, b.0.0), b.0.1) (ab, rest) b.2 in
-      subst (λ (r : (A × B) × List ℕ). (front : List ℕ) × SpellsBoth S T r.0 front × (bytes ≡ front ++ r.1)) same
-      (x.0 ++ y.0, (x.0, y.0, x.1, y.1, refl), x.2 ∙ ap (λ l. x.0 ++ l) y.2 ∙ sym (append_assoc x.0 y.0 b.0.1))
+      subst (λ (r : (A × B) × List ℕ). (front : List ℕ) × SpellsBoth S T r.0 front × (bytes ≡ front ++ r.1)) {x = ((a.0.0, b.0.0), b.0.1)} {y = (ab, rest)} same
+      (both_front bytes a.0.0 b.0.0 a.0.1 b.0.1 (f.takes bytes a.0.0 a.0.1 a.1) ((s a.0.0).takes a.0.1 b.0.0 b.0.1 b.1))
 
   both_again : IsReader first S Stop → ((a : A) → IsReader (second a) (T a) Last) → ((a : A) (b : B) (y rest : List ℕ) → T a b y → Last rest → Stop (y ++ rest)) → (ab : A × B) (front rest : List ℕ) → SpellsBoth S T ab front → Last rest → both first second (front ++ rest) ≡ Some (ab, rest)
   both_again f s stops ab front rest h stop =

@@ -1,5 +1,5 @@
 -- Bytes, and the scripts that they are.
-use Rattle.std.proofs.Common.{ℕ, zero, suc, ◌<◌, ◌≤◌, [], ◌∷◌, get_or, refl, arith, lit<, lit≤}
+use Rattle.std.proofs.Common.{ℕ, ◌<◌, [], ◌∷◌, refl, arith, lit<, lit≤}
 use Rattle.std.specs.Prelude.{codes}
 use Rattle.std.specs.Fmt.{digits}
 use Rattle.std.specs.Char.{encode_utf8}

@@ -1,7 +1,7 @@
 -- One step of the progress: the last round with one more line.
 use Rattle.std.proofs.Common.{◌≡◌, ℕ, suc, ◌+◌, ◌-◌, ◌<◌, ◌≤◌, Bool, true, false, List, [], ◌∷◌, ◌++◌, map, length, get_or, set, take, Option, Some, None, refl, sym, ap, ◌∙◌, arith}
 use Rattle.std.specs.Global.{Vec}
-use Rattle.std.specs.Prelude.{slice_get, option_map, Result, Ok, Err, All, IfOk, OnOk, MatchBool}
+use Rattle.std.specs.Prelude.{slice_get, option_map, Result, Ok, Err, All, IfOk, MatchBool}
 use Rattle.std.specs.List.Sorted.{IsNonDecreasingBy}
 use Rattle.std.proofs.lemmas.List.Elements.{All-get_or, All-from_get_or}
 use Rattle.std.proofs.Math.ListN.{get_or-map}

@@ -1,5 +1,5 @@
 -- Texts in quotes, and labels: what is read is their spelling, and each spelling is read.
-use Rattle.std.proofs.Common.{◌≡◌, ℕ, zero, suc, ◌+◌, ◌<◌, ◌≤◌, Bool, true, false, cond, ◌==◌, List, [], ◌∷◌, ◌++◌, length, Option, Some, None, refl, sym, ap, subst, ◌∙◌, append_assoc, arith, lit≤}
+use Rattle.std.proofs.Common.{◌≡◌, ℕ, zero, suc, ◌+◌, ◌≤◌, Bool, true, false, ◌==◌, List, [], ◌∷◌, ◌++◌, length, Option, Some, None, refl, sym, ap, subst, ◌∙◌, append_assoc, arith, lit≤}
 use Rattle.std.specs.Prelude.{codes, IsUtf8, All, flat_map, if◌then◌else◌, string_bytes, Result, Ok, Err, IfOk, IsOk, MatchOption}
 use Rattle.std.specs.declared.vec.Vec.{Vec}
 use Rattle.std.specs.declared.string.String.{String}
@@ -16,7 +16,7 @@ use Rattle.metrics_core.specs.Characters.{quote, backslash, newline}
 use Rattle.metrics_core.specs.Keys.{LabelText}
 use Rattle.prom_format.specs.Printed.{escaped_character, escaped_label_value}
 use Rattle.drive_script.specs.Words.{quoted, label_word, IsLabelUtf8}
-use Rattle.drive_script.specs.Reading.{◌>>=◌, Reader, both, seen, after, behind, escaped_by, escape_at, character_at, some_characters_at, characters_at, text_of, text_at, label_at, some_labels_at, labels_at}
+use Rattle.drive_script.specs.Reading.{◌>>=◌, both, seen, after, behind, escape_at, character_at, some_characters_at, characters_at, text_of, text_at, label_at, some_labels_at, labels_at}
 use Rattle.drive_script.proofs.Fields.{bind_some, behind_takes}
 use Rattle.drive_script.proofs.Readers.{IsReader, Ends, Anywhere, SpellsBoth, SpellsSeen, SpellsAfter, both_reads, seen_reads, after_reads}
 
@@ -214,6 +214,13 @@ no_labels_taken labels rest e =
     let same = some_pair_parts [] labels [] rest e in
     ([], (subst (All IsLabelUtf8) same.0 (All-nil IsLabelUtf8), ap spaced_labels same.0), same.1)
 
+-- one label before others
+label_before : (bytes : List ℕ) (label : LabelText) (labels : List LabelText) (middle rest : List ℕ) → (front : List ℕ) × SpellsAfter (codes " ") SpellsLabel label front × (bytes ≡ front ++ middle) → (front : List ℕ) × SpellsLabels labels front × (middle ≡ front ++ rest) → (front : List ℕ) × SpellsLabels (label ∷ labels) front × (bytes ≡ front ++ rest)
+label_before bytes label labels middle rest first others =
+    let (word, spelled, behind_space) = first.1 in
+    let front_is : first.0 ≡ codes " " ++ label_word label = behind_space ∙ ap (λ l. codes " " ++ l) spelled.1 in
+    (first.0 ++ others.0, (All-cons IsLabelUtf8 label labels spelled.0 others.1.0, (λ j. front_is j ++ others.1.1 j)), first.2 ∙ ap (λ l. first.0 ++ l) others.2 ∙ sym (append_assoc first.0 others.0 rest))
+
 labels_take : (most : ℕ) (bytes : List ℕ) (labels : List LabelText) (rest : List ℕ) → some_labels_at most bytes ≡ Some (labels, rest) → (front : List ℕ) × SpellsLabels labels front × (bytes ≡ front ++ rest)
 labels_take zero [] labels rest e = no_labels_taken labels rest e
 labels_take (suc most) [] labels rest e = no_labels_taken labels rest e
@@ -222,12 +229,8 @@ labels_take (suc most) (b ∷ bytes) labels rest e =
     let m = bind_some (after (codes " ") label_at (b ∷ bytes)) (λ label. some_labels_at most label.1 >>= λ others. Some (label.0 ∷ others.0, others.1)) (labels, rest) e in
     let k = bind_some (some_labels_at most m.0.1) (λ others. Some (m.0.0 ∷ others.0, others.1)) (labels, rest) m.2 in
     let same : ◌≡◌ {A = List LabelText × List ℕ} (m.0.0 ∷ k.0.0, k.0.1) (labels, rest) = same_Some (m.0.0 ∷ k.0.0, k.0.1) (labels, rest) k.2 in
-    let first = spaced_label_reads.takes (b ∷ bytes) m.0.0 m.0.1 m.1 in
-    let others = labels_take most m.0.1 k.0.0 k.0.1 k.1 in
-    let (word, spelled, behind_space) = first.1 in
-    let front_is : first.0 ≡ codes " " ++ label_word m.0.0 = behind_space ∙ ap (λ l. codes " " ++ l) spelled.1 in
-    subst (λ (p : List LabelText × List ℕ). (front : List ℕ) × SpellsLabels p.0 front × (b ∷ bytes ≡ front ++ p.1)) same
-    (first.0 ++ others.0, (All-cons IsLabelUtf8 m.0.0 k.0.0 spelled.0 others.1.0, (λ j. front_is j ++ others.1.1 j)), first.2 ∙ ap (λ l. first.0 ++ l) others.2 ∙ sym (append_assoc first.0 others.0 k.0.1))
+    subst (λ (p : List LabelText × List ℕ). (front : List ℕ) × SpellsLabels p.0 front × (b ∷ bytes ≡ front ++ p.1)) {x = (m.0.0 ∷ k.0.0, k.0.1)} {y = (labels, rest)} same
+    (label_before (b ∷ bytes) m.0.0 k.0.0 m.0.1 k.0.1 (spaced_label_reads.takes (b ∷ bytes) m.0.0 m.0.1 m.1) (labels_take most m.0.1 k.0.0 k.0.1 k.1))
 
 labels_again : (most : ℕ) (labels : List LabelText) → All IsLabelUtf8 labels → length (spaced_labels labels) ≤ most → some_labels_at most (spaced_labels labels) ≡ Some (labels, [])
 labels_again zero [] utf8 few = refl

@@ -6,7 +6,7 @@ use Rattle.std.specs.declared.alloc.Global.{Global}
 use Rattle.metrics_core.specs.Kinds.{kind_text}
 use Rattle.metrics_core.specs.Keys.{LabelText, KeyText, SameKey}
 use Rattle.prom_format.specs.Lines.{head_text}
-use Rattle.drive_script.specs.Valid.{Registration, Head, head_of}
+use Rattle.drive_script.specs.Valid.{Registration, head_of}
 
 -- the text of what is registered: its kind, and what its rows begin with
 abbrev pub text_of_head : List LabelText → Registration → List ℕ

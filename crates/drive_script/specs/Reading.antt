@@ -5,8 +5,8 @@ use Rattle.std.specs.Char.{is_ascii_digit}
 use Rattle.std.specs.List.{starts_with, position_or_len}
 use Rattle.std.specs.Str.{is_utf8}
 use Rattle.std.specs.Str.Parse.{digits_value}
-use Rattle.metrics_core.specs.Characters.{quote, backslash, newline, full_stop}
-use Rattle.metrics_core.specs.Keys.{LabelText, KeyText}
+use Rattle.metrics_core.specs.Characters.{quote, backslash, newline}
+use Rattle.metrics_core.specs.Keys.{LabelText}
 use Rattle.metrics_core.specs.Numbers.{one}
 use Rattle.metrics_core.specs.declared.kinds.MetricKind.{MetricKind}
 use Rattle.metrics_core.specs.declared.kinds.MetricKind.TheVariants as kinds

@@ -1,5 +1,5 @@
 -- The script grammar (this project's format): which lines are a script.
-use Rattle.std.specs.Prelude.{◌≡◌, ℕ, ◌^◌, ◌<◌, ◌≤◌, ◌==◌, Bool, false, List, [], ◌∷◌, ◌++◌, map, length, ℤ, Option, None, codes, decimal, flat_map, IsUtf8}
+use Rattle.std.specs.Prelude.{◌≡◌, ℕ, ◌^◌, ◌<◌, ◌==◌, Bool, false, List, [], ◌∷◌, ◌++◌, map, ℤ, Option, None, codes, decimal, flat_map}
 use Rattle.std.specs.List.{AllZip, slice_split}
 use Rattle.metrics_core.specs.declared.kinds.MetricKind.{MetricKind}
 use Rattle.metrics_core.specs.declared.kinds.MetricKind.TheVariants as kinds

@@ -1,11 +1,11 @@
 //! Rounds of lanes over counters and over gauges.
-ghost use Rattle.std.specs.Prelude.{◌≡◌, ◌<◌, length, IfOk};
+ghost use Rattle.std.specs.Prelude.{◌≡◌, ◌<◌, length, IfOk, OnErr};
 ghost use mathlib.Core.Option.{some};
 ghost use lib.ListN.{get_elem?};
-ghost use Rattle.cell_lanes.specs.Lanes.{Roots, AtRest, AllFit, all_calls_on};
+ghost use Rattle.cell_lanes.specs.Lanes.{Roots, AtRest, AllFit, Stopped, all_calls_on};
 ghost use Rattle.flushed_cells.specs.declared.counter_series.DsdCounterSeries.{DsdCounterSeries};
 ghost use Rattle.flushed_cells.specs.declared.gauge_series.DsdGaugeSeries.{DsdGaugeSeries};
-ghost use Rattle.flushed_cells.specs.Series.{counter_root, gauge_root};
+ghost use Rattle.flushed_cells.specs.Series.{counter_root, gauge_root, StandsAsCounter, StandsAsGauge};
 ghost use Rattle.flushed_cells.specs.Rounds.{CounterFlushed, GaugeFlushed};
 
 use crate::counter_calls::CounterChange;
@@ -19,7 +19,8 @@ use std::sync::Wait;
 use std::thread::Threads;
 
 /// Runs lanes side by side over counters, and flushes the counter with this index. It answers what a counter of one thread has after
-/// the earlier calls and all calls of the lanes on it, in one order in which each lane's calls stand as the lane has them.
+/// the earlier calls and all calls of the lanes on it, in one order in which each lane's calls stand as the lane has them. All passes are
+/// back at the end, also after a refusal; then a lane has calls left, or none has made any.
 pub fn run_counters<R: Threads + Wait + Sync, H: LaneHook + Sync>(
     rt: &R,
     alloc: Global,
@@ -31,6 +32,8 @@ pub fn run_counters<R: Threads + Wait + Sync, H: LaneHook + Sync>(
     requires roots { Roots counter_root counters.old × AtRest counter_root counters.old }
     requires fit { AllFit (length counters.old) lanes.now }
     requires index { index < length counters.old }
+    ensures roots { Roots counter_root counters.new × AtRest counter_root counters.new }
+    ensures stopped { OnErr result (Stopped counter_root StandsAsCounter lanes.now counters.old counters.new) }
     ensures flushed { IfOk result (λ answer. (c : DsdCounterSeries) → get_elem? counters.old index ≡ some c → CounterFlushed (all_calls_on index lanes.now) (counter_root c) answer.0 answer.1) }
 {
     match run_lanes(rt, alloc, hook, counters, lanes) {
@@ -40,7 +43,8 @@ pub fn run_counters<R: Threads + Wait + Sync, H: LaneHook + Sync>(
 }
 
 /// Runs lanes side by side over gauges, and flushes the gauge with this index. It answers what a gauge of one thread has after
-/// the earlier calls and all calls of the lanes on it, in one order in which each lane's calls stand as the lane has them.
+/// the earlier calls and all calls of the lanes on it, in one order in which each lane's calls stand as the lane has them. All passes are
+/// back at the end, also after a refusal; then a lane has calls left, or none has made any.
 pub fn run_gauges<R: Threads + Wait + Sync, H: LaneHook + Sync>(
     rt: &R,
     alloc: Global,
@@ -52,6 +56,8 @@ pub fn run_gauges<R: Threads + Wait + Sync, H: LaneHook + Sync>(
     requires roots { Roots gauge_root gauges.old × AtRest gauge_root gauges.old }
     requires fit { AllFit (length gauges.old) lanes.now }
     requires index { index < length gauges.old }
+    ensures roots { Roots gauge_root gauges.new × AtRest gauge_root gauges.new }
+    ensures stopped { OnErr result (Stopped gauge_root StandsAsGauge lanes.now gauges.old gauges.new) }
     ensures flushed { IfOk result (λ answer. (c : DsdGaugeSeries) → get_elem? gauges.old index ≡ some c → GaugeFlushed (all_calls_on index lanes.now) (gauge_root c) answer.0 answer.1) }
 {
     match run_lanes(rt, alloc, hook, gauges, lanes) {

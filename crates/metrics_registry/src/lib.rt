@@ -19,4 +19,6 @@ pub use recency::{MetricKindMask, Recency};
 pub use registry::Registry;
 
 #[cfg(test)]
+mod series_tests;
+#[cfg(test)]
 mod tests;

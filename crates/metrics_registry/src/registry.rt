@@ -1,6 +1,6 @@
 //! The live series of one state, by kind, and how many were ever made.
 
-ghost use Rattle.std.specs.Prelude.{◌≡◌, ◌+◌, ◌-◌, ◌^◌, ◌<◌, [], ◌∷◌, ◌++◌, length, slice_get, option_map, Some, None, OnOk, IfOk, OnErr, IfErr};
+ghost use Rattle.std.specs.Prelude.{◌≡◌, ◌+◌, ◌-◌, ◌^◌, ◌<◌, [], ◌∷◌, ◌++◌, length, slice_get, option_map, Some, None, IsOk, OnOk, IfOk, OnErr, IfErr};
 ghost use Rattle.std.specs.Option.{option_copied, option_copied_mut};
 ghost use Rattle.std.specs.Borrow.{sem};
 ghost use Rattle.metrics_core.specs.declared.kinds.MetricKind.TheVariants.{Counter, Gauge, Histogram};
@@ -46,6 +46,7 @@ impl<C: Drop, G: Drop, H: Drop> Registry<C, G, H> {
     /// No series. It takes no memory until the first is added.
     pub fn new(alloc: Global) -> Result<Registry<C, G, H>, Memory>
         ensures empty { IfOk result (λ registry. registry ≡ record { counters = []; gauges = []; histograms = []; made = 0 }) }
+        ensures no_memory { IsOk result }
     {
         Ok(Registry {
             counter_keys: IndexSet::new(alloc),

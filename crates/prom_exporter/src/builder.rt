@@ -1,6 +1,6 @@
 //! The settings that an exporter is built with.
 
-ghost use Rattle.std.specs.Prelude.{◌≡◌, string_bytes, IfOk, IfErr};
+ghost use Rattle.std.specs.Prelude.{◌≡◌, string_bytes, IsOk, IfOk, IfErr};
 ghost use Rattle.metrics_core.specs.Keys.{put_label};
 ghost use Rattle.prom_exporter.specs.Exporter.{default_settings, no_cells};
 
@@ -32,6 +32,7 @@ impl PrometheusBuilder {
     /// buckets, no idle timeout, no global labels, names as they are.
     pub fn new(alloc: Global) -> Result<PrometheusBuilder, Memory>
         ensures defaults { IfOk result (λ builder. builder ≡ default_settings) }
+        ensures no_memory { IsOk result }
     {
         Ok(PrometheusBuilder {
             globals: IndexMap::new(alloc),
@@ -57,7 +58,7 @@ impl PrometheusBuilder {
     /// An exporter with these settings and no series.
     pub fn build_state(self, alloc: Global) -> Result<PrometheusState, BuildError>
         ensures built { IfOk result (λ exporter. exporter ≡ record { settings = self; series = no_cells }) }
-        ensures refused { IfErr result (λ error. error ≡ BuildError.Memory) }
+        ensures no_memory { IsOk result }
     {
         let PrometheusBuilder { globals } = self;
         Ok(PrometheusState::new(alloc, globals)?)

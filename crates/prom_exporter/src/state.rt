@@ -49,7 +49,8 @@ impl PrometheusState {
         alloc: Global,
         globals: IndexMap<String, String>,
     ) -> Result<PrometheusState, Memory>
-        ensures { IfOk result (λ exporter. exporter ≡ record { settings = settings_with (labels_of globals.entries); series = no_cells }) }
+        ensures made { IfOk result (λ exporter. exporter ≡ record { settings = settings_with (labels_of globals.entries); series = no_cells }) }
+        ensures no_memory { IsOk result }
     {
         Ok(PrometheusState {
             globals,

@@ -4,8 +4,9 @@ use Rattle.std.specs.Prelude.{MatchOption}
 use Rattle.std.proofs.lemmas.List.{append-nil}
 use Rattle.legal_history.specs.declared.history.View.{View}
 use Rattle.legal_history.specs.declared.history.Entry.{Entry as EntryOf}
-use Rattle.legal_history.specs.History.{calls}
+use Rattle.legal_history.specs.History.{calls, Settled}
 use Rattle.legal_history.specs.Object.{Runs, Made, Told}
+use Rattle.cell_lanes.proofs.Resting.{rests_after}
 use Rattle.sample_queue.specs.declared.calls.Entry.{Entry}
 use Rattle.sample_queue.specs.declared.calls.QueueCall.{QueueCall}
 use Rattle.sample_queue.specs.declared.calls.QueueCall.TheVariants.{Push, Pop}
@@ -39,3 +40,8 @@ module _ {T : Type 0} where
   pub found : (v w : View (QueueCall T)) (r : Option (Entry T)) → MatchOption r ((w ≡ v) × Told QueueStep [] v []) (λ e. Made QueueStep [] (Pop e) v w) → v.number ≡ 0 → v.out ≡ 0 → (items : List (Entry T)) × Runs QueueStep [] (calls v.seen) items × (r ≡ front items)
   found v w None m root none = let t = m.1 in ([], subst (λ (l : List (EntryOf (QueueCall T))). Runs QueueStep [] (calls l) []) (t.1.whole root none).0 t.2, refl)
   found v w (Some e) m root none = (m.1, subst (λ (l : List (EntryOf (QueueCall T))). Runs QueueStep [] (calls l) m.1) (m.3.whole root none).0 m.4, ap front (sym m.5))
+
+  -- with no other pass out, a pop leaves the root at rest
+  pub rests : (v w : View (QueueCall T)) (r : Option (Entry T)) → MatchOption r ((w ≡ v) × Told QueueStep [] v []) (λ e. Made QueueStep [] (Pop e) v w) → v.number ≡ 0 → (v.out ≡ 0) × Settled v → (w.number ≡ 0) × (w.out ≡ 0) × Settled w
+  rests v w None m root rest = subst (λ (u : View (QueueCall T)). (u.number ≡ 0) × (u.out ≡ 0) × Settled u) (sym m.0) (root, rest.0, rest.1)
+  rests v w (Some e) m root rest = rests_after v w m.0 (Pop e ∷ []) m.3 m.6 root rest.0

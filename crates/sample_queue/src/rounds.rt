@@ -1,10 +1,10 @@
 //! Rounds of lanes over queues.
-ghost use Rattle.std.specs.Prelude.{◌≡◌, ◌<◌, length, IfOk};
+ghost use Rattle.std.specs.Prelude.{◌≡◌, ◌<◌, length, IfOk, OnErr};
 ghost use mathlib.Core.Option.{some};
 ghost use lib.ListN.{get_elem?};
-ghost use Rattle.cell_lanes.specs.Lanes.{Roots, AtRest, AllFit, all_calls_on};
+ghost use Rattle.cell_lanes.specs.Lanes.{Roots, AtRest, AllFit, Stopped, all_calls_on};
 ghost use Rattle.sample_queue.specs.declared.series.QueueSeries.{QueueSeries};
-ghost use Rattle.sample_queue.specs.Series.{queue_root};
+ghost use Rattle.sample_queue.specs.Series.{queue_root, IsPush};
 ghost use Rattle.sample_queue.specs.Rounds.{GivenOut};
 
 use crate::calls::Entry;
@@ -16,7 +16,8 @@ use std::sync::Wait;
 use std::thread::Threads;
 
 /// Runs lanes side by side over queues, and takes the front entry of the queue with this index. It is the front of what was
-/// there before, followed by the samples of all lanes for it, in one order in which each lane's stand as the lane has them.
+/// there before, followed by the samples of all lanes for it, in one order in which each lane's stand as the lane has them. All
+/// passes are back at the end, also after a refusal; then a lane has calls left, or none has made any.
 pub fn run_queues<R: Threads + Wait + Sync, H: LaneHook + Sync, T: Copy + Drop + Send + Sync>(
     rt: &R,
     alloc: Global,
@@ -28,6 +29,8 @@ pub fn run_queues<R: Threads + Wait + Sync, H: LaneHook + Sync, T: Copy + Drop +
     requires roots { Roots queue_root queues.old × AtRest queue_root queues.old }
     requires fit { AllFit (length queues.old) lanes.now }
     requires index { index < length queues.old }
+    ensures roots { Roots queue_root queues.new × AtRest queue_root queues.new }
+    ensures stopped { OnErr result (Stopped queue_root IsPush lanes.now queues.old queues.new) }
     ensures given { IfOk result (λ front. (q : QueueSeries T) → get_elem? queues.old index ≡ some q → GivenOut (all_calls_on index lanes.now) (queue_root q) front) }
 {
     match run_lanes(rt, alloc, hook, queues, lanes) {

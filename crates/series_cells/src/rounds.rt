@@ -1,11 +1,11 @@
 //! Rounds of lanes over counters and over gauges.
-ghost use Rattle.std.specs.Prelude.{◌≡◌, ◌<◌, length, IfOk};
+ghost use Rattle.std.specs.Prelude.{◌≡◌, ◌<◌, length, IfOk, OnErr};
 ghost use mathlib.Core.Option.{some};
 ghost use lib.ListN.{get_elem?};
-ghost use Rattle.cell_lanes.specs.Lanes.{Roots, AtRest, AllFit, all_calls_on};
+ghost use Rattle.cell_lanes.specs.Lanes.{Roots, AtRest, AllFit, Stopped, all_calls_on};
 ghost use Rattle.series_cells.specs.declared.counter_series.CounterSeries.{CounterSeries};
 ghost use Rattle.series_cells.specs.declared.gauge_series.GaugeSeries.{GaugeSeries};
-ghost use Rattle.series_cells.specs.Series.{counter_root, gauge_root, PlayedByCounter, PlayedByGauge};
+ghost use Rattle.series_cells.specs.Series.{counter_root, gauge_root, StandsAsCounter, StandsAsGauge, PlayedByCounter, PlayedByGauge};
 
 use crate::calls::{CounterCall, GaugeCall};
 use crate::counter_series::CounterSeries;
@@ -18,7 +18,7 @@ use std::thread::Threads;
 
 /// Runs lanes side by side over counters, and reads the counter with this index. Its value is then that after the earlier calls
 /// and all calls of the lanes on it, in one order in which each lane's calls stand as the lane has them. All passes are back at
-/// the end, also after a refusal.
+/// the end, also after a refusal; then a lane has calls left, or none has made any.
 pub fn run_counters<R: Threads + Wait + Sync, H: LaneHook + Sync>(
     rt: &R,
     alloc: Global,
@@ -31,6 +31,7 @@ pub fn run_counters<R: Threads + Wait + Sync, H: LaneHook + Sync>(
     requires fit { AllFit (length counters.old) lanes.now }
     requires index { index < length counters.old }
     ensures roots { Roots counter_root counters.new × AtRest counter_root counters.new }
+    ensures stopped { OnErr result (Stopped counter_root StandsAsCounter lanes.now counters.old counters.new) }
     ensures value { IfOk result (λ n. (c : CounterSeries) → get_elem? counters.old index ≡ some c → PlayedByCounter (all_calls_on index lanes.now) (counter_root c) n) }
 {
     match run_lanes(rt, alloc, hook, counters, lanes) {
@@ -41,7 +42,7 @@ pub fn run_counters<R: Threads + Wait + Sync, H: LaneHook + Sync>(
 
 /// Runs lanes side by side over gauges, and reads the gauge with this index. Its value is then that after the earlier calls
 /// and all calls of the lanes on it, in one order in which each lane's calls stand as the lane has them. All passes are back at
-/// the end, also after a refusal.
+/// the end, also after a refusal; then a lane has calls left, or none has made any.
 pub fn run_gauges<R: Threads + Wait + Sync, H: LaneHook + Sync>(
     rt: &R,
     alloc: Global,
@@ -54,6 +55,7 @@ pub fn run_gauges<R: Threads + Wait + Sync, H: LaneHook + Sync>(
     requires fit { AllFit (length gauges.old) lanes.now }
     requires index { index < length gauges.old }
     ensures roots { Roots gauge_root gauges.new × AtRest gauge_root gauges.new }
+    ensures stopped { OnErr result (Stopped gauge_root StandsAsGauge lanes.now gauges.old gauges.new) }
     ensures value { IfOk result (λ n. (c : GaugeSeries) → get_elem? gauges.old index ≡ some c → PlayedByGauge (all_calls_on index lanes.now) (gauge_root c) n.0) }
 {
     match run_lanes(rt, alloc, hook, gauges, lanes) {

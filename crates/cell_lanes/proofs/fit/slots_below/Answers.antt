@@ -1,12 +1,18 @@
-use Rattle.std.proofs.Common.{◌≡◌, ◌<◌, take, [], ◌∷◌, ◌++◌, sym, ap, ◌∙◌, subst, ⊎_elim}
+use Rattle.std.proofs.Common.{◌≡◌, ◌<◌, true, false, take, [], ◌∷◌, ◌++◌, sym, ap, ◌∙◌, subst, ⊎_elim, arith, refl}
 use Rattle.std.proofs.lemmas.List.{take_more}
 use mathlib.Core.Option.{some}
 use lib.ListN.{get_elem?}
-use Rattle.atomic_table.proofs.Lists.{at_snoc}
+use Rattle.atomic_table.proofs.Lists.{at_index, at_snoc}
 use Rattle.cell_lanes.specs.declared.lane.Line.{Line}
 use Rattle.cell_lanes.specs.Lanes.{LineFit}
 use Rattle.cell_lanes.proofs.Lists.{take_whole}
 use Rattle.cell_lanes.proofs.fit.slots_below.Goals as goal
+
+pub returns-then-line-count : goal.returns-then-line-count
+returns-then-line-count g c =
+    let y = c.line-item.result in
+    let h = c.if-line-count.true in
+    ((λ (e : false ≡ true). absurd (cc)), λ all. absurd (let b : y.slot < c.args.count = all c.loop-line.line-index y (at_index c.args.lines.now c.loop-line.line-index y c.loop-line-test.true c.line-item.is) in omega arith))
 
 pub loop-line-preserved : goal.loop-line-preserved
 loop-line-preserved g c =
@@ -17,4 +23,4 @@ loop-line-preserved g c =
     (at_snoc (take c.loop-line.line-index c.args.lines.now) y x k (subst (λ l. get_elem? l k ≡ some x) more e))
 
 pub returns : goal.returns
-returns g c = λ _. subst (LineFit c.args.count) (take_whole c.args.lines.now c.loop-line.line-index c.loop-line-test.false) c.loop-line.invariant
+returns g c = ((λ _. subst (LineFit c.args.count) (take_whole c.args.lines.now c.loop-line.line-index c.loop-line-test.false) c.loop-line.invariant), λ _. refl)

@@ -1,13 +1,36 @@
-use Rattle.std.proofs.Common.{◌≡◌, ◌≤◌, length, drop, sym, ap, ◌∙◌, subst, arith}
+use Rattle.std.proofs.Common.{inl, inr, ◌≡◌, ◌≤◌, length, drop, sym, ap, ◌∙◌, subst, arith}
+use Rattle.std.proofs.lemmas.Result.{on_err_weaker}
 use mathlib.Core.Option.{some}
 use lib.ListN.{get_elem?}
-use Rattle.cell_lanes.specs.Lanes.{Stays, Owns, Lends, JobsFit, JobsRan, lent_on}
-use Rattle.cell_lanes.proofs.Lists.{front_of}
+use Rattle.cell_lanes.specs.Lanes.{Stays, Owns, Lends, JobsFit, JobsRan, SomeLeft, Unfinished, done_of, lent_on}
+use Rattle.legal_history.proofs.Steps.{some_below}
+use Rattle.cell_lanes.proofs.Lists.{below_some, front_of}
+use Rattle.cell_lanes.proofs.Jobs.{done_none}
 use Rattle.cell_lanes.proofs.Running.{jobs_fresh, ready, ran_lent, ran_jobs, ran_fit}
 use Rattle.cell_lanes.proofs.round.lend_and_run.Goals as goal
 
 pub returns-in-Err-clause-ran : goal.returns-in-Err-clause-ran
 returns-in-Err-clause-ran g c = jobs_fresh g.S.Lender.knows g.S.Lender.stands_as c.args.lanes.now c.lend_all.new.jobs.items c.lend_all.ensures.fresh.0
+
+pub returns-in-Err-clause-refused : goal.returns-in-Err-clause-refused
+returns-in-Err-clause-refused g c = inr
+    (done_none c.lend_all.new.jobs.items
+    (λ l x e. let a = below_some c.args.lanes.now l (let b = some_below c.lend_all.new.jobs.items l x e in omega (arith, c.lend_all.ensures.fresh.1)) in (c.lend_all.ensures.fresh.0 l a.0 x a.1 e).2))
+
+pub all_done-requires-clause-done : goal.all_done-requires-clause-done
+all_done-requires-clause-done g c l a x e f =
+    let m = c.as_mut_slice.ensures in
+    let jobs = c.lend_all.new.jobs.items in
+    let news = c.run_all.new.jobs in
+    let len : length news ≡ length jobs = c.run_all.auto.jobs ∙ ap length m.value in
+    let front = front_of news (drop (length news) jobs) c.lend_all.new.jobs.len (c.run_all.auto.jobs ∙ m.len) in
+    let at : get_elem? news l ≡ some x = subst (λ xs. get_elem? xs l ≡ some x) (c.as_slice.ensures.value ∙ front) f in
+    let old = below_some jobs l (let b = some_below news l x at in omega arith) in
+    (c.run_all.ensures.ran l a old.0 x e (subst (λ xs. get_elem? xs l ≡ some old.0) (sym m.value) old.1) at).2
+
+pub returns-clause-refused : goal.returns-clause-refused
+returns-clause-refused g c =
+    on_err_weaker c.all_done.result (λ (left : SomeLeft c.args.lanes.now (done_of c.as_slice.result.now)). subst (λ xs. Unfinished c.args.lanes.now (done_of xs)) c.as_slice.ensures.value (inl left)) c.all_done.ensures.refused
 
 pub run_all-requires-clause-ready : goal.run_all-requires-clause-ready
 run_all-requires-clause-ready g c κs within = λ l a x e f.

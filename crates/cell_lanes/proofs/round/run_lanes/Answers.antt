@@ -1,4 +1,4 @@
-use Rattle.std.proofs.Common.{ℕ, length, ◌∙◌}
+use Rattle.std.proofs.Common.{ℕ, inr, length, refl, ◌∙◌}
 use Rattle.cell_lanes.specs.Lanes.{Stays, Lends, Takes, Same, Grew, lent_on, all_given, done_of}
 use Rattle.cell_lanes.proofs.Lists.{each_same, each_then}
 use Rattle.cell_lanes.proofs.Lending.{stays_none, stays_then, roots_lent}
@@ -8,7 +8,7 @@ use Rattle.cell_lanes.proofs.round.run_lanes.Goals as goal
 
 pub returns-in-Err-clause-grew : goal.returns-in-Err-clause-grew
 returns-in-Err-clause-grew g c =
-    ((λ (l : ℕ). 0), tt, each_same (Grew g.S.Lender.root g.S.Lender.stands_as c.args.lanes.now (λ _. 0)) c.args.shared.now (grew_none g.S.Lender.root g.S.Lender.stands_as c.args.lanes.now))
+    ((λ (l : ℕ). 0), tt, each_same (Grew g.S.Lender.root g.S.Lender.stands_as c.args.lanes.now (λ _. 0)) c.args.shared.now (grew_none g.S.Lender.root g.S.Lender.stands_as c.args.lanes.now), inr (λ l. refl))
 
 pub take_all-requires-clause-roots : goal.take_all-requires-clause-roots
 take_all-requires-clause-roots g c κs within =
@@ -50,4 +50,5 @@ returns-clause-grew g c =
       o.ensures.ok,
       all_grew g.S.Lender.knows g.S.Lender.root (Stays g.S.Lender.fixed) o.new.jobs.items c.args.shared.now o.new.shared c.take_all.new.shared c.requires.roots.1 o.auto.shared c.take_all.auto.shared o.ensures.lends c.take_all.ensures.takes
           g.S.Lender.stands_as (length c.args.shared.now) c.args.lanes.now c.requires.fit o.ensures.few o.ensures.ran c.settle_all.new.shared c.settle_all.auto.shared c.settle_all.ensures.same c.settle_all.ensures.rest,
+      o.ensures.refused,
     )

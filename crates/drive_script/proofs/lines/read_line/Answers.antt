@@ -1,4 +1,4 @@
-use Rattle.std.proofs.Common.{◌≡◌, Some, None, sym, rules, ◌∙◌}
+use Rattle.std.proofs.Common.{◌≡◌, Some, None, sym, rules}
 use Rattle.drive_script.specs.Reading.{call_at, round_at, register_at, global_at}
 use Rattle.drive_script.specs.Texts.{call_line_of, label_of}
 use Rattle.drive_script.proofs.Forms.{call_takes, round_takes, register_takes, global_takes, no_reading}

@@ -1,5 +1,5 @@
-use Rattle.std.proofs.Common.{◌≡◌, Some, sym, ap, rules, ◌∙◌, string_bytes}
-use Rattle.drive_script.specs.Reading.{registered_kind_at, text_at, labels_at, Registered}
+use Rattle.std.proofs.Common.{◌≡◌, Some, sym, rules, string_bytes}
+use Rattle.drive_script.specs.Reading.{registered_kind_at, text_at, labels_at}
 use Rattle.drive_script.proofs.Loops.{registered_read}
 use Rattle.drive_script.proofs.lines.register_line.Goals as goal
 

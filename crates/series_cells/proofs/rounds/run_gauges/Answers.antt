@@ -33,3 +33,6 @@ returns-in-Ok-clause-value g c =
     λ s e.
     let r = round_calls gauge_root gauge_entry c.args.lanes.now t.grew.0 c.args.index s d t.grew.1 (t.grew.2 c.args.index s d e at) in
     (r.0, r.1, reads.2 ∙ (ap (λ l. gauge_value (calls_of (calls l))) same ∙ ap (λ cs. gauge_value (calls_of cs)) r.2))
+
+pub returns-in-Err-clause-stopped : goal.returns-in-Err-clause-stopped
+returns-in-Err-clause-stopped g c = let t = c.in-Err.ensures in (t.grew.0, t.grew.3, t.grew.2)

@@ -1,4 +1,4 @@
-use Rattle.std.proofs.Common.{◌-◌, ◌<◌, length, get_or, take, drop, subst, sym, ap, arith}
+use Rattle.std.proofs.Common.{◌-◌, length, get_or, take, drop, subst, sym, ap, arith}
 use Rattle.drive_script.proofs.Loops.{CharactersLeft, split_first, characters_begin, quote_ends, bad_character, no_quote_left, character_shorter, next_character}
 use Rattle.std.proofs.lemmas.List.{nil_from_length}
 use Rattle.drive_script.proofs.cursor.Cursor.characters.Goals as goal

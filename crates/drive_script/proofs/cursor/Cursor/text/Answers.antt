@@ -1,4 +1,4 @@
-use Rattle.std.proofs.Common.{◌≡◌, Some, rules, sym}
+use Rattle.std.proofs.Common.{◌≡◌, Some, rules}
 use Rattle.std.specs.Prelude.{codes}
 use Rattle.drive_script.specs.Reading.{behind, after, characters_at}
 use Rattle.drive_script.proofs.TextFields.{text_given}

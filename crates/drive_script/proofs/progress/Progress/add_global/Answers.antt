@@ -1,6 +1,5 @@
-use Rattle.std.proofs.Common.{◌≡◌, [], ◌∷◌, ◌++◌, length, map, sym, ap, ◌∙◌, arith, rules}
-use Rattle.std.specs.Prelude.{vec_len, flat_map, fold}
-use Rattle.std.proofs.lemmas.Bool.{eqb-true}
+use Rattle.std.proofs.Common.{◌≡◌, [], ◌∷◌, ◌++◌, map, sym, ap, ◌∙◌, rules}
+use Rattle.std.specs.Prelude.{flat_map, fold}
 use Rattle.std.proofs.lemmas.List.{map_push, nil_from_length}
 use Rattle.metrics_core.specs.Keys.{put_label}
 use Rattle.prom_format.specs.LabelSets.{labels_of, label_of_entry}

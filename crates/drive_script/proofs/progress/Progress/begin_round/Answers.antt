@@ -1,4 +1,4 @@
-use Rattle.std.proofs.Common.{◌≡◌, ◌-◌, ◌<◌, ◌≤◌, [], ◌∷◌, ◌++◌, length, map, sym, ap, subst, ◌∙◌, arith, refl, rules}
+use Rattle.std.proofs.Common.{◌≡◌, ◌≤◌, List, [], map, sym, ap, subst, ◌∙◌, rules}
 use Rattle.std.specs.Prelude.{All, vec_len}
 use Rattle.std.specs.List.Sorted.{IsNonDecreasingBy}
 use Rattle.std.proofs.lemmas.List.{nil_from_length}
@@ -32,7 +32,7 @@ returns-2 c =
     record {
       next = λ known sorted.
           let begins : BeginsRound (script_so_far old) c.args.moment (script_with (settings_of old.settings) c.push.new.self.items) =
-          subst (λ rs. BeginsRound (script_so_far old) c.args.moment (script_with (settings_of old.settings) rs)) (sym c.in_ok-push.ensures.items)
+          subst (λ rs. BeginsRound (script_so_far old) c.args.moment (script_with (settings_of old.settings) rs)) (sym {A = List Round} c.in_ok-push.ensures.items)
           (round_begun (settings_of old.settings) old.rounds.items round c.new.ensures.items c.new-2.ensures.items (not_before c sorted)) in
           let same = round_registered (script_so_far old) (script_with (settings_of old.settings) c.push.new.self.items) c.args.moment begins in (
             begins,

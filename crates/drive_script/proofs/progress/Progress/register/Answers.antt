@@ -3,9 +3,8 @@ use Rattle.std.specs.Prelude.{All, vec_len}
 use Rattle.std.proofs.lemmas.Bool.{eqb-true}
 use Rattle.std.proofs.lemmas.List.{nil_from_length, length-map, map_push}
 use Rattle.prom_format.specs.LabelSets.{labels_of}
-use Rattle.drive_script.specs.Script.{global_labels}
 use Rattle.drive_script.specs.Heads.{keys_by_head, AreHeadsOf}
-use Rattle.drive_script.specs.Texts.{settings_of, script_so_far, IsKnown}
+use Rattle.drive_script.specs.Texts.{settings_of, script_so_far}
 use Rattle.drive_script.specs.Valid.{Registration, registered, PrintApart}
 use Rattle.drive_script.proofs.Steps.{script_with, register_added, register_full, calls_stand, key_registered, kinds_of}
 use Rattle.drive_script.proofs.progress.Progress.register.Goals as goal
