@@ -170,12 +170,13 @@ impl Player {
         let Some(id) = self.handles.get(line.handle as usize).copied() else {
             return;
         };
+        let exporter = &mut self.exporter;
         match line.act {
-            Act::Inc(value) => self.exporter.call_counter(id, CounterCall::Increment(value)),
-            Act::Abs(value) => self.exporter.call_counter(id, CounterCall::Absolute(value)),
-            Act::Add(value) => self.exporter.call_gauge(id, GaugeCall::Increment(value)),
-            Act::Sub(value) => self.exporter.call_gauge(id, GaugeCall::Decrement(value)),
-            Act::Set(value) => self.exporter.call_gauge(id, GaugeCall::Set(value)),
+            Act::Inc(value) => exporter.call_counter(id, CounterCall::Increment(value)),
+            Act::Abs(value) => exporter.call_counter(id, CounterCall::Absolute(value)),
+            Act::Add(value) => exporter.call_gauge(id, GaugeCall::Increment(value)),
+            Act::Sub(value) => exporter.call_gauge(id, GaugeCall::Decrement(value)),
+            Act::Set(value) => exporter.call_gauge(id, GaugeCall::Set(value)),
         };
     }
 
