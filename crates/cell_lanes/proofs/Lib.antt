@@ -4,3 +4,4 @@ pub mod Running
 pub mod Returning
 pub mod Jobs
 pub mod Resting
+pub mod Rows

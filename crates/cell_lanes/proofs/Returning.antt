@@ -7,12 +7,13 @@ use lib.ListN.{get_elem?}
 use Rattle.atomic_table.proofs.Lists.{at_longer, at_last}
 use Rattle.legal_history.specs.declared.history.Held.{Held}
 use Rattle.legal_history.specs.declared.history.View.{View}
-use Rattle.legal_history.specs.History.{held, keep, taker}
+use Rattle.legal_history.specs.History.{held, keep, longer}
 use Rattle.legal_history.specs.News.{helds}
 use Rattle.legal_history.proofs.Fronts.{prefix_self, prefix_trans}
 use Rattle.legal_history.proofs.Steps.{longer_first}
 use Rattle.cell_lanes.specs.declared.lane.Slot.{Slot}
 use Rattle.cell_lanes.specs.declared.lane.Job.{Job}
+use Rattle.cell_lanes.specs.Things.{TookBack}
 use Rattle.cell_lanes.specs.Lanes.{Each, Roots, Takes, Same, SlotsFit, JobsFit, slot_news, given, all_given}
 use Rattle.cell_lanes.proofs.Lists.{each_set, each_then, each_to}
 
@@ -54,14 +55,14 @@ module _ {S M : Type 0} (root : S → View M) (stays : S → S → Type 0) (stay
     out = let x = a.out in let y = b.out in omega (arith, length-append xs ys);
   }
 
-  takes_one : {L : Type 0} (knows : L → View M) (l : ℕ) (x : Slot L) (c d : S) → root d ≡ taker (root c) (knows x.lent) → stays c d → Takes root stays (came knows l x ∷ []) c d
-  takes_one knows l x c d is kept = record {
+  takes_one : {L : Type 0} (knows : L → View M) (l : ℕ) (x : Slot L) (c d : S) → TookBack (root c) (knows x.lent) (root d) → stays c d → Takes root stays (came knows l x ∷ []) c d
+  takes_one knows l x c d took kept = record {
     kept = kept;
-    number = ap (λ (v : View M). v.number) is;
-    mine = ap (λ (v : View M). v.mine) is;
-    joined = ap (λ (v : View M). v.joined) is;
-    seen = subst (λ s. IsPrefix (root c).seen s) (sym (ap (λ (v : View M). v.seen) is)) (longer_first (root c).seen (knows x.lent).seen);
-    out = ap (λ (v : View M). v.out) is;
+    number = took.number;
+    mine = took.mine;
+    joined = took.joined;
+    seen = prefix_trans (root c).seen (longer (root c).seen (knows x.lent).seen) (root d).seen (longer_first (root c).seen (knows x.lent).seen) took.seen;
+    out = took.out;
   }
 
   pub taking_none : (all : ℕ → List (ℕ × Held M)) (j : ℕ) (c : S) → Taking root stays all all j c c
@@ -74,9 +75,9 @@ module _ {S M : Type 0} (root : S → View M) (stays : S → S → Type 0) (stay
       subst (λ n. Takes root stays n c d) (sym (append-nil h.0) ∙ (ap (λ l. h.0 ++ l) (sym (none j)) ∙ h.2)) h.1
 
   -- the pass of one slot is given back
-  pub takes_more : {L : Type 0} (knows : L → View M) (l : ℕ) (all : ℕ → List (ℕ × Held M)) (cs ds : List S) (rest : List (Slot L)) (x : Slot L) (q r : S) → get_elem? ds x.cell ≡ some q → root r ≡ taker (root q) (knows x.lent) → stays q r
+  pub takes_more : {L : Type 0} (knows : L → View M) (l : ℕ) (all : ℕ → List (ℕ × Held M)) (cs ds : List S) (rest : List (Slot L)) (x : Slot L) (q r : S) → get_elem? ds x.cell ≡ some q → TookBack (root q) (knows x.lent) (root r) → stays q r
       → Each (Taking root stays (λ j. given knows j l (rest ++ x ∷ [])) all) cs ds → Each (Taking root stays (λ j. given knows j l rest) all) cs (set ds x.cell r)
-  takes_more knows l all cs ds rest x q r at is kept = each_set
+  takes_more knows l all cs ds rest x q r at took kept = each_set
       (Taking root stays (λ j. given knows j l (rest ++ x ∷ [])) all) (Taking root stays (λ j. given knows j l rest) all) cs ds x.cell q r at
       (λ j c d ne h.
       let none : slot_news knows j l x ≡ [] = ap (λ b. keep b (came knows l x) []) (ne_eqb x.cell j (λ e. ne (sym e))) in
@@ -84,7 +85,7 @@ module _ {S M : Type 0} (root : S → View M) (stays : S → S → Type 0) (stay
       (λ c h.
       let one : slot_news knows x.cell l x ≡ came knows l x ∷ [] = ap (λ b. keep b (came knows l x) []) (eq-eqb x.cell x.cell refl) in (
         h.0 ++ came knows l x ∷ [],
-        takes_both h.0 (came knows l x ∷ []) c q r h.1 (takes_one knows l x q r is kept),
+        takes_both h.0 (came knows l x ∷ []) c q r h.1 (takes_one knows l x q r took kept),
         append_assoc h.0 (came knows l x ∷ []) (given knows x.cell l rest) ∙ (ap (λ g. h.0 ++ g) (sym (given_last knows x.cell l rest x ∙ ap (λ n. n ++ given knows x.cell l rest) one)) ∙ h.2),
       ))
 

@@ -6,11 +6,12 @@ ghost use Rattle.legal_history.specs.Order.{times};
 ghost use Rattle.cell_lanes.specs.declared.lane.Line.{Line};
 ghost use Rattle.cell_lanes.specs.declared.lane.Lane.{Lane};
 ghost use Rattle.cell_lanes.specs.declared.lane.Job.{Job};
+ghost use Rattle.cell_lanes.specs.Things.{root_of, fixed_of};
 ghost use Rattle.cell_lanes.specs.Lanes.{Each, Roots, Stays, Owns, Home, AtRest, Lends, Takes, Same, Grew, AllFit, AllDone, SomeLeft, Unfinished, SlotsFit, SlotsKept, Fresh, SlotsMade, LineFit, LinesTaken, AllTaken, LaneReady, LaneRan, cells_of, given, JobsFit, JobsFresh, JobsRan, lent_on, all_given, done_of};
 
 use crate::hook::LaneHook;
 use crate::lane::{Job, Lane, Line, Slot};
-use crate::lender::Lender;
+use crate::lenders::Lenders;
 use metrics_core::Memory;
 use std::alloc::Global;
 use std::sync::Wait;
@@ -21,22 +22,23 @@ use std::thread::Threads;
 const MAX_LANES: usize = 8;
 
 /// Lends a pass of each thing that a lane names, until one is refused.
-fn lend_lane<S: Lender>(
+fn lend_lane<S: Lenders>(
     alloc: Global,
-    shared: &mut [S],
+    shared: &mut S,
     named: &[usize],
     slots: &mut Vec<Slot<S::Lent>>,
 ) -> Result<(), Memory>
-    requires roots { Roots S.root shared.old }
-    requires named { (s j : ℕ) → get_elem? named.now s ≡ some j → j < length shared.old }
+    requires roots { Roots root_of (S.things shared.old) }
+    requires named { (s j : ℕ) → get_elem? named.now s ≡ some j → j < length (S.things shared.old) }
     requires room { (slots.old.items ≡ []) × (vec_len slots.old ≡ 0) × (length named.now ≤ vec_capacity slots.old) }
-    ensures lends { Each (λ j. Lends S.root (Stays S.fixed) (times j (cells_of slots.new.items))) shared.old shared.new }
+    ensures many { length (S.things shared.new) ≡ length (S.things shared.old) }
+    ensures lends { Each (λ j. Lends root_of (Stays fixed_of) (times j (cells_of slots.new.items))) (S.things shared.old) (S.things shared.new) }
     ensures some_cells { cells_of slots.new.items ≡ take (length slots.new.items) named.now }
-    ensures slots { SlotsFit (Owns S.fixed S.owns) shared.new slots.new.items × Fresh S.knows slots.new.items }
+    ensures slots { SlotsFit (Owns fixed_of S.owns) (S.things shared.new) slots.new.items × Fresh S.knows slots.new.items }
     ensures ok { OnOk result (cells_of slots.new.items ≡ named.now) }
 {
     for cell in named {
-        match shared[*cell].lend(alloc) {
+        match shared.lend(alloc, *cell) {
             Ok(lent) => slots.push_reserved(Slot { cell: *cell, lent }),
             Err(refused) => return Err(refused),
         }
@@ -45,17 +47,18 @@ fn lend_lane<S: Lender>(
 }
 
 /// Lends all lanes their passes, until one is refused.
-fn lend_all<S: Lender>(
+fn lend_all<S: Lenders>(
     alloc: Global,
-    shared: &mut [S],
+    shared: &mut S,
     lanes: &[Lane<S::Call>],
     jobs: &mut Vec<Job<S::Lent>>,
 ) -> Result<(), Memory>
-    requires roots { Roots S.root shared.old }
-    requires fit { AllFit (length shared.old) lanes.now }
+    requires roots { Roots root_of (S.things shared.old) }
+    requires fit { AllFit (length (S.things shared.old)) lanes.now }
     requires room { (jobs.old.items ≡ []) × (vec_len jobs.old ≡ 0) × (length lanes.now ≤ vec_capacity jobs.old) }
-    ensures lends { Each (λ j. Lends S.root (Stays S.fixed) (lent_on j jobs.new.items)) shared.old shared.new }
-    ensures fit { JobsFit (Owns S.fixed S.owns) shared.new jobs.new.items }
+    ensures many { length (S.things shared.new) ≡ length (S.things shared.old) }
+    ensures lends { Each (λ j. Lends root_of (Stays fixed_of) (lent_on j jobs.new.items)) (S.things shared.old) (S.things shared.new) }
+    ensures fit { JobsFit (Owns fixed_of S.owns) (S.things shared.new) jobs.new.items }
     ensures fresh { JobsFresh S.knows lanes.now jobs.new.items × (length jobs.new.items ≤ length lanes.now) }
     ensures ok { OnOk result ((length jobs.new.items ≡ length lanes.now) × ((l : ℕ) (a : Lane S.Call) (x : Job S.Lent) → get_elem? lanes.now l ≡ some a → get_elem? jobs.new.items l ≡ some x → cells_of x.slots.items ≡ a.cells.items)) }
 {
@@ -72,7 +75,7 @@ fn lend_all<S: Lender>(
 }
 
 /// Makes the calls of a lane, until one is refused, and answers how many it has made.
-fn run_slots<R: Wait, H: LaneHook, S: Lender>(
+fn run_slots<R: Wait, H: LaneHook, S: Lenders>(
     rt: &R,
     alloc: Global,
     hook: &H,
@@ -103,7 +106,7 @@ fn run_slots<R: Wait, H: LaneHook, S: Lender>(
 }
 
 /// Makes the calls of the lane with this number.
-fn run_job<R: Wait, H: LaneHook, S: Lender>(
+fn run_job<R: Wait, H: LaneHook, S: Lenders>(
     rt: &R,
     alloc: Global,
     hook: &H,
@@ -122,7 +125,7 @@ fn run_job<R: Wait, H: LaneHook, S: Lender>(
 }
 
 /// Runs all lanes side by side, each with the passes of its job.
-fn run_all<R: Threads + Wait + Sync, H: LaneHook + Sync, S: Lender>(
+fn run_all<R: Threads + Wait + Sync, H: LaneHook + Sync, S: Lenders>(
     rt: &R,
     alloc: Global,
     hook: &H,
@@ -160,20 +163,21 @@ fn all_done<K, L>(lanes: &[Lane<K>], jobs: &[Job<L>]) -> Result<(), Memory>
 }
 
 /// Lends all lanes their passes, and runs them. Where lending was refused, no lane runs.
-fn lend_and_run<R: Threads + Wait + Sync, H: LaneHook + Sync, S: Lender>(
+fn lend_and_run<R: Threads + Wait + Sync, H: LaneHook + Sync, S: Lenders>(
     rt: &R,
     alloc: Global,
     hook: &H,
-    shared: &mut [S],
+    shared: &mut S,
     lanes: &[Lane<S::Call>],
     jobs: &mut Vec<Job<S::Lent>>,
 ) -> Result<(), Memory>
-    requires roots { Roots S.root shared.old }
-    requires fit { AllFit (length shared.old) lanes.now }
-    requires taken { AllTaken S.fixed S.takes shared.old lanes.now }
+    requires roots { Roots root_of (S.things shared.old) }
+    requires fit { AllFit (length (S.things shared.old)) lanes.now }
+    requires taken { AllTaken fixed_of S.takes (S.things shared.old) lanes.now }
     requires room { (jobs.old.items ≡ []) × (vec_len jobs.old ≡ 0) × (length lanes.now ≤ vec_capacity jobs.old) }
-    ensures lends { Each (λ j. Lends S.root (Stays S.fixed) (lent_on j jobs.new.items)) shared.old shared.new }
-    ensures fit { JobsFit (Owns S.fixed S.owns) shared.new jobs.new.items }
+    ensures many { length (S.things shared.new) ≡ length (S.things shared.old) }
+    ensures lends { Each (λ j. Lends root_of (Stays fixed_of) (lent_on j jobs.new.items)) (S.things shared.old) (S.things shared.new) }
+    ensures fit { JobsFit (Owns fixed_of S.owns) (S.things shared.new) jobs.new.items }
     ensures few { length jobs.new.items ≤ length lanes.now }
     ensures ran { JobsRan S.knows S.stands_as lanes.now jobs.new.items }
     ensures ok { OnOk result (AllDone lanes.now (done_of jobs.new.items)) }
@@ -188,38 +192,28 @@ fn lend_and_run<R: Threads + Wait + Sync, H: LaneHook + Sync, S: Lender>(
 }
 
 /// Takes back the passes of the lane with this number.
-fn take_lane<S: Lender>(shared: &mut [S], lane: usize, mut slots: Vec<Slot<S::Lent>>)
-    requires roots { Roots S.root shared.old }
-    requires slots { SlotsFit (Owns S.fixed S.owns) shared.old slots.items }
-    ensures takes { Each (λ j. Takes S.root (Stays S.fixed) (given S.knows j lane slots.items)) shared.old shared.new }
+fn take_lane<S: Lenders>(shared: &mut S, lane: usize, mut slots: Vec<Slot<S::Lent>>)
+    requires roots { Roots root_of (S.things shared.old) }
+    requires slots { SlotsFit (Owns fixed_of S.owns) (S.things shared.old) slots.items }
+    ensures many { length (S.things shared.new) ≡ length (S.things shared.old) }
+    ensures takes { Each (λ j. Takes root_of (Stays fixed_of) (given S.knows j lane slots.items)) (S.things shared.old) (S.things shared.new) }
 {
     while let Some(slot) = slots.pop() {
         let Slot { cell, lent } = slot;
-        shared[cell].take_back(lent);
+        shared.take_back(cell, lent);
     }
 }
 
 /// Takes back the passes of all lanes.
-fn take_all<S: Lender>(shared: &mut [S], mut jobs: Vec<Job<S::Lent>>)
-    requires roots { Roots S.root shared.old }
-    requires fit { JobsFit (Owns S.fixed S.owns) shared.old jobs.items }
-    ensures takes { Each (λ j. Takes S.root (Stays S.fixed) (all_given S.knows j 0 jobs.items)) shared.old shared.new }
+fn take_all<S: Lenders>(shared: &mut S, mut jobs: Vec<Job<S::Lent>>)
+    requires roots { Roots root_of (S.things shared.old) }
+    requires fit { JobsFit (Owns fixed_of S.owns) (S.things shared.old) jobs.items }
+    ensures many { length (S.things shared.new) ≡ length (S.things shared.old) }
+    ensures takes { Each (λ j. Takes root_of (Stays fixed_of) (all_given S.knows j 0 jobs.items)) (S.things shared.old) (S.things shared.new) }
 {
     while let Some(job) = jobs.pop() {
         let Job { slots, done: _ } = job;
         take_lane(shared, jobs.len(), slots);
-    }
-}
-
-/// Settles each one.
-fn settle_all<R: Wait, S: Lender>(rt: &R, shared: &mut [S])
-    requires roots { Roots S.root shared.old }
-    requires home { Home S.root shared.old }
-    ensures same { Each (λ j. Same S.root (Stays S.fixed)) shared.old shared.new }
-    ensures rest { AtRest S.root shared.new }
-{
-    for j in 0..shared.len() {
-        shared[j].settle(rt);
     }
 }
 
@@ -229,19 +223,20 @@ fn settle_all<R: Wait, S: Lender>(rt: &R, shared: &mut [S])
 ///
 /// A lane that is refused memory makes no further call, and the answer is then `Memory`, once all lanes have returned.
 /// Where a pass can't be lent, no lane runs. So after `Memory` a lane has calls left, or none has made any.
-pub fn run_lanes<R: Threads + Wait + Sync, H: LaneHook + Sync, S: Lender>(
+pub fn run_lanes<R: Threads + Wait + Sync, H: LaneHook + Sync, S: Lenders>(
     rt: &R,
     alloc: Global,
     hook: &H,
-    shared: &mut [S],
+    shared: &mut S,
     lanes: &[Lane<S::Call>],
 ) -> Result<(), Memory>
-    requires roots { Roots S.root shared.old × AtRest S.root shared.old }
-    requires fit { AllFit (length shared.old) lanes.now }
-    requires taken { AllTaken S.fixed S.takes shared.old lanes.now }
-    ensures roots { Roots S.root shared.new × AtRest S.root shared.new }
-    ensures stays { Each (λ j. Stays S.fixed) shared.old shared.new }
-    ensures grew { (done : ℕ → ℕ) × OnOk result (AllDone lanes.now done) × Each (Grew S.root S.stands_as lanes.now done) shared.old shared.new × OnErr result (Unfinished lanes.now done) }
+    requires roots { Roots root_of (S.things shared.old) × AtRest root_of (S.things shared.old) }
+    requires fit { AllFit (length (S.things shared.old)) lanes.now }
+    requires taken { AllTaken fixed_of S.takes (S.things shared.old) lanes.now }
+    ensures many { length (S.things shared.new) ≡ length (S.things shared.old) }
+    ensures roots { Roots root_of (S.things shared.new) × AtRest root_of (S.things shared.new) }
+    ensures stays { Each (λ j. Stays fixed_of) (S.things shared.old) (S.things shared.new) }
+    ensures grew { (done : ℕ → ℕ) × OnOk result (AllDone lanes.now done) × Each (Grew root_of S.stands_as lanes.now done) (S.things shared.old) (S.things shared.new) × OnErr result (Unfinished lanes.now done) }
 {
     let mut jobs = match Vec::with_capacity(alloc, lanes.len()) {
         Ok(jobs) => jobs,
@@ -249,6 +244,6 @@ pub fn run_lanes<R: Threads + Wait + Sync, H: LaneHook + Sync, S: Lender>(
     };
     let outcome = lend_and_run::<R, H, S>(rt, alloc, hook, shared, lanes, &mut jobs);
     take_all(shared, jobs);
-    settle_all(rt, shared);
+    shared.settle(rt);
     outcome
 }

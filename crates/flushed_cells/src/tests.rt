@@ -181,7 +181,7 @@ fn two_lanes<K: Copy + Drop>(
 
 #[test]
 fn lanes_count_side_by_side(rt: HostRuntime) -> Result<(), Fail> {
-    let mut counters = [DsdCounterSeries::new(rt.alloc())?];
+    let mut counters = Vec::from_array(rt.alloc(), [DsdCounterSeries::new(rt.alloc())?])?;
     let lanes = two_lanes(rt.alloc(), [CounterChange::Increment(3); 2], 1000)?;
     assert!(rt; lanes_fit(lanes.as_slice(), 1));
     let answer = run_counters(&rt, rt.alloc(), &NoHook, &mut counters, lanes.as_slice(), 0)?;
@@ -191,7 +191,7 @@ fn lanes_count_side_by_side(rt: HostRuntime) -> Result<(), Fail> {
 
 #[test]
 fn lanes_move_a_gauge_side_by_side(rt: HostRuntime) -> Result<(), Fail> {
-    let mut gauges = [DsdGaugeSeries::new(rt.alloc())?];
+    let mut gauges = Vec::from_array(rt.alloc(), [DsdGaugeSeries::new(rt.alloc())?])?;
     let add = GaugeChange::Update(GaugeValue::Increment(Fixed(3)));
     let take = GaugeChange::Update(GaugeValue::Decrement(Fixed(5)));
     let lanes = two_lanes(rt.alloc(), [add, take], 1000)?;

@@ -22,16 +22,16 @@ pub fn run_queues<R: Threads + Wait + Sync, H: LaneHook + Sync, T: Copy + Drop +
     rt: &R,
     alloc: Global,
     hook: &H,
-    queues: &mut [QueueSeries<T>],
+    queues: &mut Vec<QueueSeries<T>>,
     lanes: &[Lane<Sample<T>>],
     index: usize,
 ) -> Result<Option<Entry<T>>, Memory>
-    requires roots { Roots queue_root queues.old × AtRest queue_root queues.old }
-    requires fit { AllFit (length queues.old) lanes.now }
-    requires index { index < length queues.old }
-    ensures roots { Roots queue_root queues.new × AtRest queue_root queues.new }
-    ensures stopped { OnErr result (Stopped queue_root IsPush lanes.now queues.old queues.new) }
-    ensures given { IfOk result (λ front. (q : QueueSeries T) → get_elem? queues.old index ≡ some q → GivenOut (all_calls_on index lanes.now) (queue_root q) front) }
+    requires roots { Roots queue_root queues.old.items × AtRest queue_root queues.old.items }
+    requires fit { AllFit (length queues.old.items) lanes.now }
+    requires index { index < length queues.old.items }
+    ensures roots { Roots queue_root queues.new.items × AtRest queue_root queues.new.items }
+    ensures stopped { OnErr result (Stopped queue_root IsPush lanes.now queues.old.items queues.new.items) }
+    ensures given { IfOk result (λ front. (q : QueueSeries T) → get_elem? queues.old.items index ≡ some q → GivenOut (all_calls_on index lanes.now) (queue_root q) front) }
 {
     match run_lanes(rt, alloc, hook, queues, lanes) {
         Ok(()) => Ok(queues[index].next(rt)),

@@ -149,7 +149,7 @@ fn no_item_is_lost_or_repeated(rt: HostRuntime) -> Result<(), Fail> {
 #[test]
 fn lanes_push_side_by_side(rt: HostRuntime) -> Result<(), Fail> {
     let alloc = rt.alloc();
-    let mut queues = [QueueSeries::new(alloc)?];
+    let mut queues = Vec::from_array(alloc, [QueueSeries::new(alloc)?])?;
     let mut lanes = Vec::new(alloc);
     for item in [5u8, 7] {
         let mut lines = Vec::new(alloc);

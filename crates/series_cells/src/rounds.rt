@@ -23,16 +23,16 @@ pub fn run_counters<R: Threads + Wait + Sync, H: LaneHook + Sync>(
     rt: &R,
     alloc: Global,
     hook: &H,
-    counters: &mut [CounterSeries],
+    counters: &mut Vec<CounterSeries>,
     lanes: &[Lane<CounterCall>],
     index: usize,
 ) -> Result<u64, Memory>
-    requires roots { Roots counter_root counters.old × AtRest counter_root counters.old }
-    requires fit { AllFit (length counters.old) lanes.now }
-    requires index { index < length counters.old }
-    ensures roots { Roots counter_root counters.new × AtRest counter_root counters.new }
-    ensures stopped { OnErr result (Stopped counter_root StandsAsCounter lanes.now counters.old counters.new) }
-    ensures value { IfOk result (λ n. (c : CounterSeries) → get_elem? counters.old index ≡ some c → PlayedByCounter (all_calls_on index lanes.now) (counter_root c) n) }
+    requires roots { Roots counter_root counters.old.items × AtRest counter_root counters.old.items }
+    requires fit { AllFit (length counters.old.items) lanes.now }
+    requires index { index < length counters.old.items }
+    ensures roots { Roots counter_root counters.new.items × AtRest counter_root counters.new.items }
+    ensures stopped { OnErr result (Stopped counter_root StandsAsCounter lanes.now counters.old.items counters.new.items) }
+    ensures value { IfOk result (λ n. (c : CounterSeries) → get_elem? counters.old.items index ≡ some c → PlayedByCounter (all_calls_on index lanes.now) (counter_root c) n) }
 {
     match run_lanes(rt, alloc, hook, counters, lanes) {
         Ok(()) => Ok(counters[index].value()),
@@ -47,16 +47,16 @@ pub fn run_gauges<R: Threads + Wait + Sync, H: LaneHook + Sync>(
     rt: &R,
     alloc: Global,
     hook: &H,
-    gauges: &mut [GaugeSeries],
+    gauges: &mut Vec<GaugeSeries>,
     lanes: &[Lane<GaugeCall>],
     index: usize,
 ) -> Result<Fixed, Memory>
-    requires roots { Roots gauge_root gauges.old × AtRest gauge_root gauges.old }
-    requires fit { AllFit (length gauges.old) lanes.now }
-    requires index { index < length gauges.old }
-    ensures roots { Roots gauge_root gauges.new × AtRest gauge_root gauges.new }
-    ensures stopped { OnErr result (Stopped gauge_root StandsAsGauge lanes.now gauges.old gauges.new) }
-    ensures value { IfOk result (λ n. (c : GaugeSeries) → get_elem? gauges.old index ≡ some c → PlayedByGauge (all_calls_on index lanes.now) (gauge_root c) n.0) }
+    requires roots { Roots gauge_root gauges.old.items × AtRest gauge_root gauges.old.items }
+    requires fit { AllFit (length gauges.old.items) lanes.now }
+    requires index { index < length gauges.old.items }
+    ensures roots { Roots gauge_root gauges.new.items × AtRest gauge_root gauges.new.items }
+    ensures stopped { OnErr result (Stopped gauge_root StandsAsGauge lanes.now gauges.old.items gauges.new.items) }
+    ensures value { IfOk result (λ n. (c : GaugeSeries) → get_elem? gauges.old.items index ≡ some c → PlayedByGauge (all_calls_on index lanes.now) (gauge_root c) n.0) }
 {
     match run_lanes(rt, alloc, hook, gauges, lanes) {
         Ok(()) => Ok(gauges[index].value()),

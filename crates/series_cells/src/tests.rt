@@ -68,7 +68,7 @@ fn two_lanes<K: Copy + Drop>(
 
 #[test]
 fn two_threads_count_to_two_thousand(rt: HostRuntime) -> Result<(), Fail> {
-    let mut counters = [CounterSeries::new(rt.alloc())?];
+    let mut counters = Vec::from_array(rt.alloc(), [CounterSeries::new(rt.alloc())?])?;
     let lanes = two_lanes(
         rt.alloc(),
         [CounterCall::Increment(1), CounterCall::Increment(1)],
@@ -82,7 +82,7 @@ fn two_threads_count_to_two_thousand(rt: HostRuntime) -> Result<(), Fail> {
 
 #[test]
 fn two_threads_move_a_gauge(rt: HostRuntime) -> Result<(), Fail> {
-    let mut gauges = [GaugeSeries::new(rt.alloc())?];
+    let mut gauges = Vec::from_array(rt.alloc(), [GaugeSeries::new(rt.alloc())?])?;
     let lanes = two_lanes(
         rt.alloc(),
         [

@@ -4,13 +4,14 @@ use mathlib.Core.Option.{some}
 use lib.ListN.{get_elem?}
 use Rattle.cell_lanes.specs.Lanes.{Stays, Owns, Lends, JobsFit, JobsRan, SomeLeft, Unfinished, done_of, lent_on}
 use Rattle.legal_history.proofs.Steps.{some_below}
+use Rattle.cell_lanes.specs.Things.{root_of, fixed_of}
 use Rattle.cell_lanes.proofs.Lists.{below_some, front_of}
 use Rattle.cell_lanes.proofs.Jobs.{done_none}
 use Rattle.cell_lanes.proofs.Running.{jobs_fresh, ready, ran_lent, ran_jobs, ran_fit}
 use Rattle.cell_lanes.proofs.round.lend_and_run.Goals as goal
 
 pub returns-in-Err-clause-ran : goal.returns-in-Err-clause-ran
-returns-in-Err-clause-ran g c = jobs_fresh g.S.Lender.knows g.S.Lender.stands_as c.args.lanes.now c.lend_all.new.jobs.items c.lend_all.ensures.fresh.0
+returns-in-Err-clause-ran g c = jobs_fresh g.S.Lenders.knows g.S.Lenders.stands_as c.args.lanes.now c.lend_all.new.jobs.items c.lend_all.ensures.fresh.0
 
 pub returns-in-Err-clause-refused : goal.returns-in-Err-clause-refused
 returns-in-Err-clause-refused g c = inr
@@ -35,7 +36,7 @@ returns-clause-refused g c =
 pub run_all-requires-clause-ready : goal.run_all-requires-clause-ready
 run_all-requires-clause-ready g c κs within = λ l a x e f.
     let at = subst (λ xs. get_elem? xs l ≡ some x) c.as_mut_slice.ensures.value f in
-    ready g.S.Lender.root g.S.Lender.fixed g.S.Lender.knows g.S.Lender.owns g.S.Lender.takes (λ j. lent_on j c.lend_all.new.jobs.items) c.args.shared.now c.lend_all.new.shared c.args.lanes.now l a x e c.lend_all.auto.shared c.lend_all.ensures.lends
+    ready root_of fixed_of g.S.Lenders.knows g.S.Lenders.owns g.S.Lenders.takes (λ j. lent_on j c.lend_all.new.jobs.items) (g.S.Lenders.things c.args.shared.now) (g.S.Lenders.things c.lend_all.new.shared) c.args.lanes.now l a x e c.lend_all.ensures.many c.lend_all.ensures.lends
     (c.requires.fit l a e) c.requires.taken (c.lend_all.ensures.fresh.0 l a x e at).1 (c.in-Ok.ensures.ok.1 l a x e at) (c.lend_all.ensures.fit l x at)
 
 pub returns-clause-lends : goal.returns-clause-lends
@@ -45,8 +46,8 @@ returns-clause-lends g c =
     let news = c.run_all.new.jobs in
     let len : length news ≡ length jobs = c.run_all.auto.jobs ∙ ap length m.value in
     let front = front_of news (drop (length news) jobs) c.lend_all.new.jobs.len (c.run_all.auto.jobs ∙ m.len) in
-    λ j a b e f. subst (λ n. Lends g.S.Lender.root (Stays g.S.Lender.fixed) n a b)
-    (sym (ap (lent_on j) front ∙ ran_lent g.S.Lender.knows g.S.Lender.stands_as g.S.Lender.owns c.args.lanes.now jobs news len c.in-Ok.ensures.ok.0 c.in-Ok.ensures.ok.1
+    λ j a b e f. subst (λ n. Lends root_of (Stays fixed_of) n a b)
+    (sym (ap (lent_on j) front ∙ ran_lent g.S.Lenders.knows g.S.Lenders.stands_as g.S.Lenders.owns c.args.lanes.now jobs news len c.in-Ok.ensures.ok.0 c.in-Ok.ensures.ok.1
     (λ l x y z p q r. c.run_all.ensures.ran l x y z p (subst (λ xs. get_elem? xs l ≡ some y) (sym m.value) q) r) j))
     (c.lend_all.ensures.lends j a b e f)
 
@@ -57,9 +58,9 @@ returns-clause-fit g c =
     let news = c.run_all.new.jobs in
     let len : length news ≡ length jobs = c.run_all.auto.jobs ∙ ap length m.value in
     let front = front_of news (drop (length news) jobs) c.lend_all.new.jobs.len (c.run_all.auto.jobs ∙ m.len) in
-    subst (JobsFit (Owns g.S.Lender.fixed g.S.Lender.owns) c.lend_all.new.shared) (sym front)
-    (ran_fit g.S.Lender.fixed g.S.Lender.knows g.S.Lender.stands_as g.S.Lender.owns c.args.lanes.now jobs news len c.in-Ok.ensures.ok.0
-    (λ l x y z p q r. c.run_all.ensures.ran l x y z p (subst (λ xs. get_elem? xs l ≡ some y) (sym m.value) q) r) c.lend_all.new.shared c.lend_all.ensures.fit)
+    subst (JobsFit (Owns fixed_of g.S.Lenders.owns) (g.S.Lenders.things c.lend_all.new.shared)) (sym front)
+    (ran_fit fixed_of g.S.Lenders.knows g.S.Lenders.stands_as g.S.Lenders.owns c.args.lanes.now jobs news len c.in-Ok.ensures.ok.0
+    (λ l x y z p q r. c.run_all.ensures.ran l x y z p (subst (λ xs. get_elem? xs l ≡ some y) (sym m.value) q) r) (g.S.Lenders.things c.lend_all.new.shared) c.lend_all.ensures.fit)
 
 pub returns-clause-few : goal.returns-clause-few
 returns-clause-few g c =
@@ -77,6 +78,6 @@ returns-clause-ran g c =
     let news = c.run_all.new.jobs in
     let len : length news ≡ length jobs = c.run_all.auto.jobs ∙ ap length m.value in
     let front = front_of news (drop (length news) jobs) c.lend_all.new.jobs.len (c.run_all.auto.jobs ∙ m.len) in
-    subst (JobsRan g.S.Lender.knows g.S.Lender.stands_as c.args.lanes.now) (sym front)
-    (ran_jobs g.S.Lender.knows g.S.Lender.stands_as g.S.Lender.owns c.args.lanes.now jobs news len c.in-Ok.ensures.ok.0 c.in-Ok.ensures.ok.1
+    subst (JobsRan g.S.Lenders.knows g.S.Lenders.stands_as c.args.lanes.now) (sym front)
+    (ran_jobs g.S.Lenders.knows g.S.Lenders.stands_as g.S.Lenders.owns c.args.lanes.now jobs news len c.in-Ok.ensures.ok.0 c.in-Ok.ensures.ok.1
     (λ l x y z p q r. c.run_all.ensures.ran l x y z p (subst (λ xs. get_elem? xs l ≡ some y) (sym m.value) q) r))

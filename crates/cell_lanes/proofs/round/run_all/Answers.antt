@@ -18,6 +18,6 @@ returns g c = record {
       let k = (c.for_each_mut.ensures l y (some_below c.args.jobs.now l x f)).1 in
       let was = k.argument_is ∙ or_at c.args.jobs.now l y x f in
       let now = k.left ∙ or_at c.for_each_mut.new.s l y y h in
-      subst (λ (z : Job _). LaneRan g.S.Lender.knows g.S.Lender.stands_as g.S.Lender.owns a z y) was
-      (subst (λ (z : Job _). LaneRan g.S.Lender.knows g.S.Lender.stands_as g.S.Lender.owns a k.argument.now z) now (k.call a e));
+      subst (λ (z : Job _). LaneRan g.S.Lenders.knows g.S.Lenders.stands_as g.S.Lenders.owns a z y) was
+      (subst (λ (z : Job _). LaneRan g.S.Lenders.knows g.S.Lenders.stands_as g.S.Lenders.owns a k.argument.now z) now (k.call a e));
 }

@@ -1,54 +1,65 @@
-use Rattle.std.proofs.Common.{ℕ, inr, length, refl, ◌∙◌}
-use Rattle.cell_lanes.specs.Lanes.{Stays, Lends, Takes, Same, Grew, lent_on, all_given, done_of}
+use Rattle.std.proofs.Common.{ℕ, List, inr, length, refl, sym, subst, ◌∙◌, ap}
+use Rattle.cell_lanes.specs.Things.{Thing, root_of, fixed_of}
+use Rattle.cell_lanes.specs.Lanes.{Stays, Each, Lends, Takes, Same, Grew, Roots, Home, AtRest, lent_on, all_given, done_of}
 use Rattle.cell_lanes.proofs.Lists.{each_same, each_then}
 use Rattle.cell_lanes.proofs.Lending.{stays_none, stays_then, roots_lent}
-use Rattle.cell_lanes.proofs.Returning.{roots_taken, roots_same}
+use Rattle.cell_lanes.proofs.Returning.{roots_taken}
 use Rattle.cell_lanes.proofs.Jobs.{grew_none, all_home, all_grew}
+use Rattle.cell_lanes.proofs.round.run_lanes.Given.{Over}
 use Rattle.cell_lanes.proofs.round.run_lanes.Goals as goal
+use Rattle.cell_lanes.proofs.round.run_lanes.Goals.{After-settle}
 
 pub returns-in-Err-clause-grew : goal.returns-in-Err-clause-grew
 returns-in-Err-clause-grew g c =
-    ((λ (l : ℕ). 0), tt, each_same (Grew g.S.Lender.root g.S.Lender.stands_as c.args.lanes.now (λ _. 0)) c.args.shared.now (grew_none g.S.Lender.root g.S.Lender.stands_as c.args.lanes.now), inr (λ l. refl))
+    ((λ (l : ℕ). 0), tt, each_same (Grew root_of g.S.Lenders.stands_as c.args.lanes.now (λ _. 0)) (g.S.Lenders.things c.args.shared.now) (grew_none root_of g.S.Lenders.stands_as c.args.lanes.now), inr (λ l. refl))
 
 pub take_all-requires-clause-roots : goal.take_all-requires-clause-roots
 take_all-requires-clause-roots g c κs within =
     let o = c.lend_and_run-outcome in
-    roots_lent g.S.Lender.root (Stays g.S.Lender.fixed) (stays_none g.S.Lender.fixed) (stays_then g.S.Lender.fixed) (λ j. lent_on j o.new.jobs.items) c.args.shared.now o.new.shared o.auto.shared o.ensures.lends c.requires.roots.0
+    roots_lent root_of (Stays fixed_of) (stays_none fixed_of) (stays_then fixed_of) (λ j. lent_on j o.new.jobs.items) (g.S.Lenders.things c.args.shared.now) (g.S.Lenders.things o.new.shared) o.ensures.many o.ensures.lends c.requires.roots.0
 
-pub settle_all-requires-clause-roots : goal.settle_all-requires-clause-roots
-settle_all-requires-clause-roots g c κs within =
+pub settle-requires-clause-roots : goal.settle-requires-clause-roots
+settle-requires-clause-roots g c =
     let o = c.lend_and_run-outcome in
-    roots_taken g.S.Lender.root (Stays g.S.Lender.fixed) (λ j. all_given g.S.Lender.knows j 0 o.new.jobs.items) o.new.shared c.take_all.new.shared c.take_all.auto.shared c.take_all.ensures.takes
-    (roots_lent g.S.Lender.root (Stays g.S.Lender.fixed) (stays_none g.S.Lender.fixed) (stays_then g.S.Lender.fixed) (λ j. lent_on j o.new.jobs.items) c.args.shared.now o.new.shared o.auto.shared o.ensures.lends c.requires.roots.0)
+    roots_taken root_of (Stays fixed_of) (λ j. all_given g.S.Lenders.knows j 0 o.new.jobs.items) (g.S.Lenders.things o.new.shared) (g.S.Lenders.things c.take_all.new.shared) c.take_all.ensures.many c.take_all.ensures.takes
+    (roots_lent root_of (Stays fixed_of) (stays_none fixed_of) (stays_then fixed_of) (λ j. lent_on j o.new.jobs.items) (g.S.Lenders.things c.args.shared.now) (g.S.Lenders.things o.new.shared) o.ensures.many o.ensures.lends c.requires.roots.0)
 
-pub settle_all-requires-clause-home : goal.settle_all-requires-clause-home
-settle_all-requires-clause-home g c κs within =
+pub settle-requires-clause-home : goal.settle-requires-clause-home
+settle-requires-clause-home g c =
     let o = c.lend_and_run-outcome in
-    all_home g.S.Lender.knows g.S.Lender.root (Stays g.S.Lender.fixed) o.new.jobs.items c.args.shared.now o.new.shared c.take_all.new.shared c.requires.roots.1 o.auto.shared c.take_all.auto.shared o.ensures.lends c.take_all.ensures.takes
+    all_home g.S.Lenders.knows root_of (Stays fixed_of) o.new.jobs.items (g.S.Lenders.things c.args.shared.now) (g.S.Lenders.things o.new.shared) (g.S.Lenders.things c.take_all.new.shared) c.requires.roots.1 o.ensures.many c.take_all.ensures.many o.ensures.lends c.take_all.ensures.takes
+
+-- with all passes back each root is at rest
+rests : (g : Over) (c : After-settle g) → Roots root_of (g.S.Lenders.things c.take_all.new.shared) × AtRest root_of (g.S.Lenders.things c.take_all.new.shared)
+rests g c =
+    let o = c.lend_and_run-outcome in
+    let home = all_home g.S.Lenders.knows root_of (Stays fixed_of) o.new.jobs.items (g.S.Lenders.things c.args.shared.now) (g.S.Lenders.things o.new.shared) (g.S.Lenders.things c.take_all.new.shared) c.requires.roots.1 o.ensures.many c.take_all.ensures.many o.ensures.lends c.take_all.ensures.takes in (
+      roots_taken root_of (Stays fixed_of) (λ j. all_given g.S.Lenders.knows j 0 o.new.jobs.items) (g.S.Lenders.things o.new.shared) (g.S.Lenders.things c.take_all.new.shared) c.take_all.ensures.many c.take_all.ensures.takes
+          (roots_lent root_of (Stays fixed_of) (stays_none fixed_of) (stays_then fixed_of) (λ j. lent_on j o.new.jobs.items) (g.S.Lenders.things c.args.shared.now) (g.S.Lenders.things o.new.shared) o.ensures.many o.ensures.lends c.requires.roots.0),
+      (λ j t e. (home j t e, c.settle.ensures.settled j t e)),
+    )
+
+pub returns-clause-many : goal.returns-clause-many
+returns-clause-many g c = ap length c.settle.ensures.same ∙ c.take_all.ensures.many ∙ c.lend_and_run-outcome.ensures.many
 
 pub returns-clause-roots : goal.returns-clause-roots
-returns-clause-roots g c =
-    let o = c.lend_and_run-outcome in (
-      roots_same g.S.Lender.root (Stays g.S.Lender.fixed) c.take_all.new.shared c.settle_all.new.shared c.settle_all.auto.shared c.settle_all.ensures.same
-          (roots_taken g.S.Lender.root (Stays g.S.Lender.fixed) (λ j. all_given g.S.Lender.knows j 0 o.new.jobs.items) o.new.shared c.take_all.new.shared c.take_all.auto.shared c.take_all.ensures.takes
-          (roots_lent g.S.Lender.root (Stays g.S.Lender.fixed) (stays_none g.S.Lender.fixed) (stays_then g.S.Lender.fixed) (λ j. lent_on j o.new.jobs.items) c.args.shared.now o.new.shared o.auto.shared o.ensures.lends c.requires.roots.0)),
-      c.settle_all.ensures.rest,
-    )
+returns-clause-roots g c = subst (λ things. Roots root_of things × AtRest root_of things) (sym c.settle.ensures.same) (rests g c)
 
 pub returns-clause-stays : goal.returns-clause-stays
 returns-clause-stays g c =
     let o = c.lend_and_run-outcome in
-    each_then (λ j. Lends g.S.Lender.root (Stays g.S.Lender.fixed) (lent_on j o.new.jobs.items)) (λ j. Stays g.S.Lender.fixed) (λ j. Stays g.S.Lender.fixed) c.args.shared.now o.new.shared c.settle_all.new.shared o.auto.shared
-    (λ j x y z p q. q ∙ p.kept) o.ensures.lends
-    (each_then (λ j. Takes g.S.Lender.root (Stays g.S.Lender.fixed) (all_given g.S.Lender.knows j 0 o.new.jobs.items)) (λ j. Same g.S.Lender.root (Stays g.S.Lender.fixed)) (λ j. Stays g.S.Lender.fixed) o.new.shared c.take_all.new.shared c.settle_all.new.shared c.take_all.auto.shared
-    (λ j x y z p q. q.kept ∙ p.kept) c.take_all.ensures.takes c.settle_all.ensures.same)
+    subst (Each (λ j. Stays fixed_of) (g.S.Lenders.things c.args.shared.now)) (sym c.settle.ensures.same)
+    (each_then (λ j. Lends root_of (Stays fixed_of) (lent_on j o.new.jobs.items)) (λ j. Takes root_of (Stays fixed_of) (all_given g.S.Lenders.knows j 0 o.new.jobs.items)) (λ j. Stays fixed_of) (g.S.Lenders.things c.args.shared.now) (g.S.Lenders.things o.new.shared) (g.S.Lenders.things c.take_all.new.shared) o.ensures.many
+    (λ j x y z p q. q.kept ∙ p.kept) o.ensures.lends c.take_all.ensures.takes)
 
 pub returns-clause-grew : goal.returns-clause-grew
 returns-clause-grew g c =
-    let o = c.lend_and_run-outcome in (
+    let o = c.lend_and_run-outcome in
+    let things = g.S.Lenders.things c.take_all.new.shared in (
       done_of o.new.jobs.items,
       o.ensures.ok,
-      all_grew g.S.Lender.knows g.S.Lender.root (Stays g.S.Lender.fixed) o.new.jobs.items c.args.shared.now o.new.shared c.take_all.new.shared c.requires.roots.1 o.auto.shared c.take_all.auto.shared o.ensures.lends c.take_all.ensures.takes
-          g.S.Lender.stands_as (length c.args.shared.now) c.args.lanes.now c.requires.fit o.ensures.few o.ensures.ran c.settle_all.new.shared c.settle_all.auto.shared c.settle_all.ensures.same c.settle_all.ensures.rest,
+      subst (Each (Grew root_of g.S.Lenders.stands_as c.args.lanes.now (done_of o.new.jobs.items)) (g.S.Lenders.things c.args.shared.now)) (sym c.settle.ensures.same)
+          (all_grew g.S.Lenders.knows root_of (Stays fixed_of) o.new.jobs.items (g.S.Lenders.things c.args.shared.now) (g.S.Lenders.things o.new.shared) things c.requires.roots.1 o.ensures.many c.take_all.ensures.many o.ensures.lends c.take_all.ensures.takes
+          g.S.Lenders.stands_as (length (g.S.Lenders.things c.args.shared.now)) c.args.lanes.now c.requires.fit o.ensures.few o.ensures.ran things refl (each_same (λ j. Same root_of (Stays fixed_of)) things (λ j t. record { kept = refl; view = refl })) (rests g c).1),
       o.ensures.refused,
     )

@@ -42,7 +42,7 @@ returns-in-Err-clause-kept g c =
     let k : x.slot < length c.loop-call.slots = omega (arith, i.kept.0) in
     let y = slice_index_or c.loop-call.slots x.slot c.index-slots-index.result in
     let z : Slot _ = record { cell = y.cell; lent = c.make-outcome.new.lent } in
-    kept_set g.S.Lender.owns c.args.slots.now c.loop-call.slots x.slot y z (at_or c.loop-call.slots x.slot c.index-slots-index.result k) refl c.make-outcome.ensures.kept i.kept
+    kept_set g.S.Lenders.owns c.args.slots.now c.loop-call.slots x.slot y z (at_or c.loop-call.slots x.slot c.index-slots-index.result k) refl c.make-outcome.ensures.kept i.kept
 
 pub returns-in-Err-clause-made : goal.returns-in-Err-clause-made
 returns-in-Err-clause-made g c =
@@ -52,7 +52,7 @@ returns-in-Err-clause-made g c =
     let k : x.slot < length c.loop-call.slots = omega (arith, i.kept.0) in
     let y = slice_index_or c.loop-call.slots x.slot c.index-slots-index.result in
     let z : Slot _ = record { cell = y.cell; lent = c.make-outcome.new.lent } in
-    made_same g.S.Lender.knows g.S.Lender.stands_as (take c.loop-call.call c.args.lines.now) c.loop-call.slots x.slot y z (at_or c.loop-call.slots x.slot c.index-slots-index.result k) c.in-Err.ensures.refused i.made
+    made_same g.S.Lenders.knows g.S.Lenders.stands_as (take c.loop-call.call c.args.lines.now) c.loop-call.slots x.slot y z (at_or c.loop-call.slots x.slot c.index-slots-index.result k) c.in-Err.ensures.refused i.made
 
 pub loop-call-preserved : goal.loop-call-preserved
 loop-call-preserved g c =
@@ -65,12 +65,12 @@ loop-call-preserved g c =
     let z : Slot _ = record { cell = y.cell; lent = c.make-outcome.new.lent } in
     let more = take_more c.args.lines.now c.loop-call.call x c.loop-call-test.true ∙ ap (λ l. take c.loop-call.call c.args.lines.now ++ l ∷ []) (sym c.index-lines-call.is) in
     record {
-      kept = kept_set g.S.Lender.owns c.args.slots.now c.loop-call.slots x.slot y z at refl c.make-outcome.ensures.kept i.kept;
-      made = subst (λ l. SlotsMade g.S.Lender.knows g.S.Lender.stands_as l (set c.loop-call.slots x.slot z)) (sym more)
-          (made_more g.S.Lender.knows g.S.Lender.stands_as (take c.loop-call.call c.args.lines.now) c.loop-call.slots x y z at c.in-Ok.ensures.made i.made);
+      kept = kept_set g.S.Lenders.owns c.args.slots.now c.loop-call.slots x.slot y z at refl c.make-outcome.ensures.kept i.kept;
+      made = subst (λ l. SlotsMade g.S.Lenders.knows g.S.Lenders.stands_as l (set c.loop-call.slots x.slot z)) (sym more)
+          (made_more g.S.Lenders.knows g.S.Lenders.stands_as (take c.loop-call.call c.args.lines.now) c.loop-call.slots x y z at c.in-Ok.ensures.made i.made);
     }
 
 pub returns-clause-made : goal.returns-clause-made
 returns-clause-made g c =
-    subst (λ l. SlotsMade g.S.Lender.knows g.S.Lender.stands_as l c.loop-call.slots)
+    subst (λ l. SlotsMade g.S.Lenders.knows g.S.Lenders.stands_as l c.loop-call.slots)
     (take_whole c.args.lines.now c.loop-call.call c.loop-call-test.false ∙ sym (take_whole c.args.lines.now (length c.args.lines.now) (le_refl (length c.args.lines.now)))) c.loop-call.invariant.made

@@ -29,8 +29,8 @@ returns g c =
     let at = at_or c.captures.lanes.now c.args.l c.index-lanes-l.result c.requires.0 in
     let r = c.run_job.ensures in
     let new = c.run_job.new.job in
-    λ b e. subst (λ (x : Lane _). LaneRan g.S.Lender.knows g.S.Lender.stands_as g.S.Lender.owns x c.args.job.now new) (one_at c.captures.lanes.now c.args.l a b at e) (
+    λ b e. subst (λ (x : Lane _). LaneRan g.S.Lenders.knows g.S.Lenders.stands_as g.S.Lenders.owns x c.args.job.now new) (one_at c.captures.lanes.now c.args.l a b at e) (
       r.kept,
-      subst (λ l. SlotsMade g.S.Lender.knows g.S.Lender.stands_as (take new.done l) new.slots.items) c.as_slice.ensures.value r.made,
+      subst (λ l. SlotsMade g.S.Lenders.knows g.S.Lenders.stands_as (take new.done l) new.slots.items) c.as_slice.ensures.value r.made,
       subst (λ l. new.done ≤ length l) c.as_slice.ensures.value r.done,
     )

@@ -1,0 +1,42 @@
+use Rattle.std.proofs.Common.{◌≡◌, ◌<◌, ℕ, List, length, map, set, refl, sym, ap, ◌∙◌, subst, arith, ⊎_elim, ◌≢◌}
+use mathlib.Core.Option.{some}
+use lib.ListN.{get_elem?}
+use Rattle.atomic_table.proofs.Lists.{at_index, at_map, at_set}
+use Rattle.std.proofs.lemmas.Result.{IfOk-weaker, on_ok_weaker, on_err_weaker}
+use Rattle.std.proofs.lemmas.List.{map-set}
+use Rattle.legal_history.specs.declared.history.View.{View}
+use Rattle.legal_history.specs.History.{Settled, lender}
+use Rattle.cell_lanes.specs.Things.{Thing, TookBack}
+use Rattle.cell_lanes.proofs.Rows.{thing, things, below, thing_is, thing_at, set_same}
+use Rattle.cell_lanes.proofs.lenders.VecLenders.lend.Given.{Over}
+use Rattle.cell_lanes.proofs.lenders.VecLenders.lend.Goals as goal
+
+pub lend-requires : goal.lend-requires
+lend-requires g c =
+    let items = c.args.self.now.items in
+    let at = at_index items c.args.index c.index_mut.result.now (below g.S.Lender.root g.S.Lender.fixed items c.args.index c.requires.here) c.index_mut.ensures.value in
+    c.requires.root (thing g.S.Lender.root g.S.Lender.fixed c.index_mut.result.now) (at_map (thing g.S.Lender.root g.S.Lender.fixed) items c.args.index c.index_mut.result.now at)
+
+pub returns-clause-lent : goal.returns-clause-lent
+returns-clause-lent g c =
+    let items = c.args.self.now.items in
+    let q = c.index_mut.result.now in
+    let at = at_index items c.args.index q (below g.S.Lender.root g.S.Lender.fixed items c.args.index c.requires.here) c.index_mut.ensures.value in
+    IfOk-weaker c.lend.result _ _ (λ new lent t e. rw (← thing_is g.S.Lender.root g.S.Lender.fixed items c.args.index q t at e) lent) c.lend.ensures.lent
+
+pub returns-clause-out : goal.returns-clause-out
+returns-clause-out g c =
+    let items = c.args.self.now.items in
+    let q = c.index_mut.result.now in
+    let at = at_index items c.args.index q (below g.S.Lender.root g.S.Lender.fixed items c.args.index c.requires.here) c.index_mut.ensures.value in
+    on_ok_weaker c.lend.result (λ (root : g.S.Lender.root c.lend.new.self ≡ lender (g.S.Lender.root q)).
+    λ t e. rw (← thing_is g.S.Lender.root g.S.Lender.fixed items c.args.index q t at e)
+    (map-set (thing g.S.Lender.root g.S.Lender.fixed) items c.args.index c.lend.new.self
+    ∙ ap (set (things g.S.Lender.root g.S.Lender.fixed items) c.args.index) (λ j. record { root = root j; fixed = c.lend.ensures.fixed j }))) c.lend.ensures.root
+
+pub returns-clause-refused : goal.returns-clause-refused
+returns-clause-refused g c =
+    let items = c.args.self.now.items in
+    let q = c.index_mut.result.now in
+    let at = at_index items c.args.index q (below g.S.Lender.root g.S.Lender.fixed items c.args.index c.requires.here) c.index_mut.ensures.value in
+    on_err_weaker c.lend.result (λ same. set_same g.S.Lender.root g.S.Lender.fixed items c.args.index q c.lend.new.self at same c.lend.ensures.fixed) c.lend.ensures.refused

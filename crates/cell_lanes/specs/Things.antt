@@ -1,0 +1,24 @@
+-- A shared thing as a round of lanes sees it.
+use Rattle.std.specs.Prelude.{◌≡◌, ℕ, ◌-◌, List, [], ◌∷◌, ◌++◌}
+use mathlib.Core.List.{IsPrefix}
+use Rattle.legal_history.specs.declared.history.View.{View}
+use Rattle.legal_history.specs.History.{held, longer}
+
+-- what its root pass knows, and what else is kept with it and never changes
+pub record Thing (M F : Type 0) : Type 0 where
+  pub root : View M
+  pub fixed : F
+
+abbrev pub root_of : {M F : Type 0} → Thing M F → View M
+root_of t = t.root
+
+abbrev pub fixed_of : {M F : Type 0} → Thing M F → F
+fixed_of t = t.fixed
+
+-- the root took a pass back that knew so much, and has then seen what either had seen, and maybe more
+pub record TookBack {M : Type 0} (v known w : View M) : Type 0 where
+  pub number : w.number ≡ v.number
+  pub mine : w.mine ≡ v.mine
+  pub joined : w.joined ≡ v.joined ++ held known.number known.mine known.seen ∷ []
+  pub seen : IsPrefix (longer v.seen known.seen) w.seen
+  pub out : w.out ≡ v.out - 1
