@@ -115,16 +115,23 @@ impl<C: Drop, G: Drop, H: Drop> Registry<C, G, H> {
         }
     }
 
-    /// The place of a live counter.
-    fn place_of_counter(&self, id: SeriesId) -> Option<usize>
+    /// How many counters are live.
+    pub fn counter_count(&self) -> usize
+        ensures { result ≡ length self.now.counters }
+    {
+        self.counters.len()
+    }
+
+    /// The place of a live counter among them, from 0. It is `None` exactly where none with the id is live.
+    pub fn place_of_counter(&self, id: SeriesId) -> Option<usize>
         ensures place { IsPlace id self.now.counters result }
         ensures numbered { IsNumbered self.now }
     {
         self.counters.place(id)
     }
 
-    /// The cell of the counter at a place, to write.
-    fn counter_at(&mut self, place: usize) -> &mut C
+    /// The cell of the counter at a place, from 0, to write.
+    pub fn counter_at(&mut self, place: usize) -> &mut C
         requires { place < length self.old.counters }
         ensures* writes_back { sem 𝓛 (lends_counter_at C.row G.row H.row self.entry place result) }
         ensures value { option_map (λ series. series.cell) (slice_get self.old.counters place) ≡ Some result.now }
@@ -205,16 +212,23 @@ impl<C: Drop, G: Drop, H: Drop> Registry<C, G, H> {
         }
     }
 
-    /// The place of a live gauge.
-    fn place_of_gauge(&self, id: SeriesId) -> Option<usize>
+    /// How many gauges are live.
+    pub fn gauge_count(&self) -> usize
+        ensures { result ≡ length self.now.gauges }
+    {
+        self.gauges.len()
+    }
+
+    /// The place of a live gauge among them, from 0. It is `None` exactly where none with the id is live.
+    pub fn place_of_gauge(&self, id: SeriesId) -> Option<usize>
         ensures place { IsPlace id self.now.gauges result }
         ensures numbered { IsNumbered self.now }
     {
         self.gauges.place(id)
     }
 
-    /// The cell of the gauge at a place, to write.
-    fn gauge_at(&mut self, place: usize) -> &mut G
+    /// The cell of the gauge at a place, from 0, to write.
+    pub fn gauge_at(&mut self, place: usize) -> &mut G
         requires { place < length self.old.gauges }
         ensures* writes_back { sem 𝓛 (lends_gauge_at C.row G.row H.row self.entry place result) }
         ensures value { option_map (λ series. series.cell) (slice_get self.old.gauges place) ≡ Some result.now }
@@ -295,16 +309,23 @@ impl<C: Drop, G: Drop, H: Drop> Registry<C, G, H> {
         }
     }
 
-    /// The place of a live histogram.
-    fn place_of_histogram(&self, id: SeriesId) -> Option<usize>
+    /// How many histograms are live.
+    pub fn histogram_count(&self) -> usize
+        ensures { result ≡ length self.now.histograms }
+    {
+        self.histograms.len()
+    }
+
+    /// The place of a live histogram among them, from 0. It is `None` exactly where none with the id is live.
+    pub fn place_of_histogram(&self, id: SeriesId) -> Option<usize>
         ensures place { IsPlace id self.now.histograms result }
         ensures numbered { IsNumbered self.now }
     {
         self.histograms.place(id)
     }
 
-    /// The cell of the histogram at a place, to write.
-    fn histogram_at(&mut self, place: usize) -> &mut H
+    /// The cell of the histogram at a place, from 0, to write.
+    pub fn histogram_at(&mut self, place: usize) -> &mut H
         requires { place < length self.old.histograms }
         ensures* writes_back { sem 𝓛 (lends_histogram_at C.row G.row H.row self.entry place result) }
         ensures value { option_map (λ series. series.cell) (slice_get self.old.histograms place) ≡ Some result.now }

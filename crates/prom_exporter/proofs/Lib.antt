@@ -4,4 +4,5 @@ pub mod Progress
 pub mod States
 pub mod Seen
 pub mod Home
+pub mod LaneThings
 pub mod ValuePages

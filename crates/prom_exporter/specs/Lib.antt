@@ -6,4 +6,5 @@ pub mod Shared
 pub mod Values
 pub mod Exporter
 pub mod Lending
+pub mod LanePasses
 pub mod Vectors

@@ -5,13 +5,15 @@ ghost use Rattle.std.specs.Arc.{arc_value};
 ghost use Rattle.legal_history.specs.History.{child};
 ghost use Rattle.metrics_core.specs.Numbers.{page_number};
 ghost use Rattle.series_cells.specs.Pass.{view_of, IsCounterPass, IsGaugePass};
-ghost use Rattle.series_cells.specs.Series.{counter_entry, gauge_entry};
+ghost use Rattle.series_cells.specs.Series.{counter_entry, gauge_entry, counter_of, gauge_of, counter_known, gauge_known};
 ghost use Rattle.prom_exporter.specs.Shared.{unused, with_one_out, Looks, MakesCall, TakesBack};
 
+use cell_lanes::Lender;
 use metrics_core::{Fixed, Memory};
 use prom_format::{push_count, push_fixed};
 use series_cells::{
-    CellPass, CounterCall, CounterSeries, GaugeCall, GaugeSeries, PromCounter, PromGauge,
+    CellPass, CounterCall, CounterSeries, GaugeCall, GaugeSeries, LentCounter, LentGauge,
+    PromCounter, PromGauge,
 };
 use std::alloc::Global;
 use std::marker::Model;
@@ -97,6 +99,24 @@ impl CounterCell {
         self.series.take_pass(pass);
         self.value = self.series.value();
     }
+
+    /// Lends a new pass of the counter to a lane.
+    pub(crate) fn lend_to_lane(&mut self, alloc: Global) -> Result<LentCounter, Memory>
+        ensures lent { IfOk result (λ lent. (counter_of lent ≡ self.old.cell) × (counter_known lent ≡ child self.old.root)) }
+        ensures out { OnOk result (self.new ≡ with_one_out self.old) }
+        ensures refused { OnErr result (self.new ≡ self.old) }
+    {
+        self.series.lend(alloc)
+    }
+
+    /// Takes a lane's pass back, and reads the counter.
+    pub(crate) fn take_from_lane(&mut self, lent: LentCounter)
+        requires { counter_of lent ≡ self.old.cell }
+        ensures { TakesBack (counter_known lent) self.old self.new }
+    {
+        self.series.take_back(lent);
+        self.value = self.series.value();
+    }
 }
 
 impl Shown for CounterCell {
@@ -177,6 +197,24 @@ impl GaugeCell {
         ensures { TakesBack (view_of pass) self.old self.new }
     {
         self.series.take_pass(pass);
+        self.value = self.series.value();
+    }
+
+    /// Lends a new pass of the gauge to a lane.
+    pub(crate) fn lend_to_lane(&mut self, alloc: Global) -> Result<LentGauge, Memory>
+        ensures lent { IfOk result (λ lent. (gauge_of lent ≡ self.old.cell) × (gauge_known lent ≡ child self.old.root)) }
+        ensures out { OnOk result (self.new ≡ with_one_out self.old) }
+        ensures refused { OnErr result (self.new ≡ self.old) }
+    {
+        self.series.lend(alloc)
+    }
+
+    /// Takes a lane's pass back, and reads the gauge.
+    pub(crate) fn take_from_lane(&mut self, lent: LentGauge)
+        requires { gauge_of lent ≡ self.old.cell }
+        ensures { TakesBack (gauge_known lent) self.old self.new }
+    {
+        self.series.take_back(lent);
         self.value = self.series.value();
     }
 }

@@ -5,6 +5,7 @@ mod builder;
 mod cells;
 mod errors;
 mod families;
+mod lanes;
 mod laws;
 mod lent;
 mod pages;
@@ -12,6 +13,7 @@ mod state;
 
 pub use builder::PrometheusBuilder;
 pub use errors::BuildError;
+pub use lanes::{LanePass, SeriesCell};
 pub use laws::{basic_page, given_back_is_seen, looking_forgets_nothing, pages_are_read};
 pub use lent::Lent;
 pub use state::PrometheusState;

@@ -1,6 +1,6 @@
 //! The state of the exporter: its live series of each kind, in order of registration.
 
-ghost use Rattle.std.specs.Prelude.{◌≡◌, ◌-◌, ◌^◌, ◌<◌, ◌≤◌, ◌⊎◌, length, All, IsOk, IfOk, OnErr, OnOk, true, false};
+ghost use Rattle.std.specs.Prelude.{◌≡◌, ◌-◌, ◌^◌, ◌<◌, ◌≤◌, ◌⊎◌, length, set, All, IsOk, IfOk, OnErr, OnOk, true, false};
 ghost use Rattle.metrics_core.specs.declared.kinds.MetricKind.TheVariants.{Counter, Gauge};
 ghost use Rattle.metrics_core.specs.Outside.{Rose, GrewBy, GrewByFront};
 ghost use Rattle.prom_format.specs.LabelSets.{labels_of};
@@ -10,11 +10,19 @@ ghost use Rattle.series_cells.specs.Series.{counter_entry, gauge_entry};
 ghost use Rattle.prom_exporter.specs.State.{register, number_given, call_on, page_step};
 ghost use Rattle.prom_exporter.specs.Shared.{MakesCall, TakesBack, Looks};
 ghost use Rattle.prom_exporter.specs.Exporter.{Exporter, settings_with, state_of, no_cells, AllHome, AddsCounter, AddsGauge, ChangesCounter, ChangesGauge, LooksOn, page_body};
+ghost use mathlib.Core.Option.{some};
+ghost use lib.ListN.{get_elem?};
+ghost use Rattle.legal_history.specs.History.{lender, child};
+ghost use Rattle.cell_lanes.specs.Things.{Thing, TookBack};
+ghost use Rattle.series_cells.specs.declared.calls.ValueCall.{ValueCall};
+ghost use Rattle.prom_exporter.specs.declared.lanes.SeriesCell.{SeriesCell};
+ghost use Rattle.prom_exporter.specs.LanePasses.{things_of, pass_known, IsPassOf};
 ghost use Rattle.prom_exporter.specs.Lending.{LendsCounter, LendsGauge, LentCounter, LentGauge, HasNoCounter, HasNoGauge};
 
 use crate::BuildError;
 use crate::cells::{CounterCell, GaugeCell};
 use crate::families::families;
+use crate::lanes::LanePass;
 use crate::lent::Lent;
 use crate::pages::write_families;
 use indexmap::IndexMap;
@@ -216,8 +224,47 @@ impl PrometheusState {
         }
     }
 
+    /// Lends a new pass of the series with this index, counters first and gauges behind them, to a lane.
+    pub(crate) fn lend_to_lane(&mut self, alloc: Global, index: usize) -> Result<LanePass, Memory>
+        requires here { index < length (things_of self.old) }
+        ensures lent { IfOk result (λ lent. (t : Thing ValueCall SeriesCell) → get_elem? (things_of self.old) index ≡ some t → IsPassOf t.fixed lent × (pass_known lent ≡ child t.root)) }
+        ensures out { OnOk result ((t : Thing ValueCall SeriesCell) → get_elem? (things_of self.old) index ≡ some t → things_of self.new ≡ set (things_of self.old) index (record t { root = lender t.root })) }
+        ensures refused { OnErr result (things_of self.new ≡ things_of self.old) }
+    {
+        let counters = self.series.counter_count();
+        if index < counters {
+            let counter = self.series.counter_at(index).lend_to_lane(alloc)?;
+            Ok(LanePass::Counter(counter))
+        } else {
+            let gauge = self.series.gauge_at(index - counters).lend_to_lane(alloc)?;
+            Ok(LanePass::Gauge(gauge))
+        }
+    }
+
+    /// Takes a lane's pass of the series with this index back, and reads the series.
+    pub(crate) fn take_from_lane(&mut self, index: usize, lent: LanePass)
+        requires here { index < length (things_of self.old) }
+        requires lent { (t : Thing ValueCall SeriesCell) → get_elem? (things_of self.old) index ≡ some t → IsPassOf t.fixed lent }
+        ensures taken { (t : Thing ValueCall SeriesCell) → get_elem? (things_of self.old) index ≡ some t
+            → (u : Thing ValueCall SeriesCell) × TookBack t.root (pass_known lent) u.root × (u.fixed ≡ t.fixed) × (things_of self.new ≡ set (things_of self.old) index u) }
+    {
+        let counters = self.series.counter_count();
+        match lent {
+            LanePass::Counter(counter) => {
+                if index < counters {
+                    self.series.counter_at(index).take_from_lane(counter);
+                }
+            }
+            LanePass::Gauge(gauge) => {
+                if index >= counters {
+                    self.series.gauge_at(index - counters).take_from_lane(gauge);
+                }
+            }
+        }
+    }
+
     /// Reads every cell, each once.
-    fn read(&mut self)
+    pub(crate) fn read(&mut self)
         ensures { LooksOn self.old self.new }
     {
         self.series.retain_counters(

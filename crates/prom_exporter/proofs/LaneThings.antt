@@ -1,0 +1,175 @@
+-- The exporter's series by their indices: counters, then gauges.
+use Rattle.std.proofs.Common.{◌≡◌, ℕ, zero, suc, ◌+◌, ◌-◌, ◌<◌, ◌≤◌, List, [], ◌∷◌, ◌++◌, length, map, set, Option, Some, None, refl, sym, ap, subst, ◌∙◌, ◌⊎◌, inl, inr, ⊎_elim, arith}
+use Rattle.std.specs.Prelude.{option_map, slice_get, All}
+use Rattle.std.specs.List.{AllZip}
+use Rattle.std.proofs.lemmas.List.Elements.{All-nil, All-cons, All-head, All-tail}
+use Rattle.legal_history.specs.History.{Settled}
+use Rattle.cell_lanes.specs.Lanes.{Roots, Home}
+use Rattle.std.proofs.lemmas.Option.{same_Some}
+use Rattle.std.proofs.lemmas.List.{length-map}
+use mathlib.Core.Option.{some, some-ne-none, some-injective}
+use lib.ListN.{get_elem?}
+use Rattle.atomic_table.proofs.Lists.{at_longer}
+use Rattle.legal_history.proofs.Steps.{one_at}
+use Rattle.legal_history.specs.declared.history.View.{View}
+use Rattle.cell_lanes.specs.Things.{Thing, TookBack, root_of}
+use Rattle.metrics_registry.specs.Live.{LiveSeries}
+use Rattle.metrics_registry.specs.Places.{with_cell_at}
+use Rattle.series_cells.specs.declared.calls.ValueCall.{ValueCall}
+use Rattle.series_cells.specs.declared.counter.PromCounter.{PromCounter}
+use Rattle.series_cells.specs.declared.gauge.PromGauge.{PromGauge}
+use Rattle.prom_exporter.specs.declared.lanes.SeriesCell.{SeriesCell}
+use Rattle.prom_exporter.specs.declared.lanes.SeriesCell.TheVariants as cells
+use Rattle.prom_exporter.specs.Shared.{Shared, IsHome, TakesBack}
+use Rattle.prom_exporter.specs.Exporter.{Cells, Exporter, AllHome, LooksOn, SeriesLooks}
+use Rattle.prom_exporter.specs.LanePasses.{counter_thing, gauge_thing, things_of}
+
+-- ---- two lists, one behind the other
+
+module _ {A : Type 0} where
+  at_back : (xs ys : List A) (i : ℕ) (a : A) → length xs ≤ i → get_elem? ys (i - length xs) ≡ some a → get_elem? (xs ++ ys) i ≡ some a
+  at_back [] ys i a h e = subst (λ n. get_elem? ys n ≡ some a) (omega arith) e
+  at_back (x ∷ xs) ys zero a h e = absurd (omega (arith, h))
+  at_back (x ∷ xs) ys (suc i) a h e = at_back xs ys i a (omega (arith, h)) (subst (λ n. get_elem? ys n ≡ some a) (omega arith) e)
+
+  set_front : (xs ys : List A) (i : ℕ) (a : A) → i < length xs → set (xs ++ ys) i a ≡ set xs i a ++ ys
+  set_front [] ys i a h = absurd (omega (arith, h))
+  set_front (x ∷ xs) ys zero a h = refl
+  set_front (x ∷ xs) ys (suc i) a h = ap (λ l. x ∷ l) (set_front xs ys i a (omega (arith, h)))
+
+  set_back : (xs ys : List A) (i : ℕ) (a : A) → length xs ≤ i → set (xs ++ ys) i a ≡ xs ++ set ys (i - length xs) a
+  set_back [] ys i a h = ap (λ n. set ys n a) (omega arith)
+  set_back (x ∷ xs) ys zero a h = absurd (omega (arith, h))
+  set_back (x ∷ xs) ys (suc i) a h = ap (λ l. x ∷ l) (set_back xs ys i a (omega (arith, h)) ∙ ap (λ n. xs ++ set ys n a) (omega arith))
+
+  at_behind : (xs ys : List A) (k : ℕ) (a : A) → get_elem? ys k ≡ some a → get_elem? (xs ++ ys) (length xs + k) ≡ some a
+  at_behind [] ys k a e = subst (λ n. get_elem? ys n ≡ some a) (omega arith) e
+  at_behind (x ∷ xs) ys k a e = let more : suc (length xs + k) ≡ length (x ∷ xs) + k = omega arith in subst (λ n. get_elem? (x ∷ (xs ++ ys)) n ≡ some a) more (at_behind xs ys k a e)
+
+  front_or_back : (xs ys : List A) (j : ℕ) (a : A) → get_elem? (xs ++ ys) j ≡ some a → (get_elem? xs j ≡ some a) ⊎ ((k : ℕ) × (get_elem? ys k ≡ some a))
+  front_or_back [] ys j a e = inr (j, e)
+  front_or_back (x ∷ xs) ys zero a e = inl e
+  front_or_back (x ∷ xs) ys (suc j) a e = front_or_back xs ys j a e
+
+  some_at : (xs : List A) (i : ℕ) → i < length xs → (a : A) × (get_elem? xs i ≡ some a)
+  some_at [] i h = absurd (omega (arith, h))
+  some_at (x ∷ xs) zero h = (x, refl)
+  some_at (x ∷ xs) (suc i) h = some_at xs i (omega (arith, h))
+
+-- ---- the series of one kind
+
+module _ {F : Type 0} (kind : F → SeriesCell) where
+  abbrev of_cell : Shared F → Thing ValueCall SeriesCell
+  of_cell cell = record { root = cell.root; fixed = kind cell.cell }
+
+  abbrev thing : LiveSeries (Shared F) → Thing ValueCall SeriesCell
+  thing series = of_cell series.cell
+
+  here : (es : List (LiveSeries (Shared F))) (i : ℕ) (cell : Shared F) → option_map (λ (s : LiveSeries (Shared F)). s.cell) (slice_get es i) ≡ Some cell → get_elem? (map thing es) i ≡ some (of_cell cell)
+  here [] i cell e = absurd cc
+  here (x ∷ es) zero cell e = ap (λ c. some (of_cell c)) (same_Some x.cell cell e)
+  here (x ∷ es) (suc i) cell e = here es i cell e
+
+  put : (es : List (LiveSeries (Shared F))) (i : ℕ) (cell : Shared F) → map thing (with_cell_at es i cell) ≡ set (map thing es) i (of_cell cell)
+  put [] i cell = refl
+  put (x ∷ es) zero cell = refl
+  put (x ∷ es) (suc i) cell = ap (λ l. thing x ∷ l) (put es i cell)
+
+  same : (es : List (LiveSeries (Shared F))) (i : ℕ) (cell : Shared F) → option_map (λ (s : LiveSeries (Shared F)). s.cell) (slice_get es i) ≡ Some cell → with_cell_at es i cell ≡ es
+  same [] i cell e = refl
+  same (x ∷ es) zero cell e = (λ j. record x { cell = sym (same_Some x.cell cell e) j } ∷ es)
+  same (x ∷ es) (suc i) cell e = ap (λ l. x ∷ l) (same es i cell e)
+
+-- ---- the series of an exporter
+
+abbrev pub things_in : Cells → List (Thing ValueCall SeriesCell)
+things_in series = map counter_thing series.counters ++ map gauge_thing series.gauges
+
+abbrev pub of_counter : Shared PromCounter → Thing ValueCall SeriesCell
+of_counter = of_cell cells.Counter
+
+abbrev pub of_gauge : Shared PromGauge → Thing ValueCall SeriesCell
+of_gauge = of_cell cells.Gauge
+
+pub counter_here : (series : Cells) (i : ℕ) (cell : Shared PromCounter) → option_map (λ (s : LiveSeries (Shared PromCounter)). s.cell) (slice_get series.counters i) ≡ Some cell → get_elem? (things_in series) i ≡ some (of_counter cell)
+counter_here series i cell e = at_longer (map counter_thing series.counters) (map gauge_thing series.gauges) i (of_counter cell) (here cells.Counter series.counters i cell e)
+
+pub counter_put : (series : Cells) (i : ℕ) (cell : Shared PromCounter) → i < length series.counters → things_in (record series { counters = with_cell_at series.counters i cell }) ≡ set (things_in series) i (of_counter cell)
+counter_put series i cell h =
+    ap (λ l. l ++ map gauge_thing series.gauges) (put cells.Counter series.counters i cell)
+    ∙ sym (set_front (map counter_thing series.counters) (map gauge_thing series.gauges) i (of_counter cell) (subst (λ n. i < n) (sym (length-map series.counters counter_thing)) h))
+
+pub counter_same : (series : Cells) (i : ℕ) (cell : Shared PromCounter) → option_map (λ (s : LiveSeries (Shared PromCounter)). s.cell) (slice_get series.counters i) ≡ Some cell → things_in (record series { counters = with_cell_at series.counters i cell }) ≡ things_in series
+counter_same series i cell e = ap (λ l. map counter_thing l ++ map gauge_thing series.gauges) (same cells.Counter series.counters i cell e)
+
+pub gauge_here : (series : Cells) (i : ℕ) (cell : Shared PromGauge) → length series.counters ≤ i → option_map (λ (s : LiveSeries (Shared PromGauge)). s.cell) (slice_get series.gauges (i - length series.counters)) ≡ Some cell → get_elem? (things_in series) i ≡ some (of_gauge cell)
+gauge_here series i cell h e =
+    let n = length-map series.counters counter_thing in
+    at_back (map counter_thing series.counters) (map gauge_thing series.gauges) i (of_gauge cell) (omega (arith, n, h))
+    (subst (λ m. get_elem? (map gauge_thing series.gauges) (i - m) ≡ some (of_gauge cell)) (sym n) (here cells.Gauge series.gauges (i - length series.counters) cell e))
+
+pub gauge_put : (series : Cells) (i : ℕ) (cell : Shared PromGauge) → length series.counters ≤ i → things_in (record series { gauges = with_cell_at series.gauges (i - length series.counters) cell }) ≡ set (things_in series) i (of_gauge cell)
+gauge_put series i cell h =
+    let n = length-map series.counters counter_thing in
+    ap (λ l. map counter_thing series.counters ++ l) (put cells.Gauge series.gauges (i - length series.counters) cell ∙ ap (λ m. set (map gauge_thing series.gauges) (i - m) (of_gauge cell)) (sym n))
+    ∙ sym (set_back (map counter_thing series.counters) (map gauge_thing series.gauges) i (of_gauge cell) (omega (arith, n, h)))
+
+pub gauge_same : (series : Cells) (i : ℕ) (cell : Shared PromGauge) → option_map (λ (s : LiveSeries (Shared PromGauge)). s.cell) (slice_get series.gauges i) ≡ Some cell → things_in (record series { gauges = with_cell_at series.gauges i cell }) ≡ things_in series
+gauge_same series i cell e = ap (λ l. map counter_thing series.counters ++ map gauge_thing l) (same cells.Gauge series.gauges i cell e)
+
+-- each index has its thing
+pub is_one : (series : Cells) (i : ℕ) (s t : Thing ValueCall SeriesCell) → get_elem? (things_in series) i ≡ some s → get_elem? (things_in series) i ≡ some t → s ≡ t
+is_one series i s t e f = one_at (things_in series) i s t e f
+
+-- a counter stands where an index is below the number of counters, and a gauge elsewhere
+pub counter_found : (series : Cells) (i : ℕ) → i < length series.counters → (cell : Shared PromCounter) × (get_elem? (things_in series) i ≡ some (of_counter cell))
+counter_found series i h =
+    let found = some_at series.counters i h in
+    (found.0.cell, at_longer (map counter_thing series.counters) (map gauge_thing series.gauges) i (of_counter found.0.cell) (Rattle.atomic_table.proofs.Lists.at_map counter_thing series.counters i found.0 found.1))
+
+pub gauge_found : (series : Cells) (i : ℕ) → length series.counters ≤ i → i < length (things_in series) → (cell : Shared PromGauge) × (get_elem? (things_in series) i ≡ some (of_gauge cell))
+gauge_found series i h below =
+    let n = length-map series.counters counter_thing in
+    let m = length-map series.gauges gauge_thing in
+    let found = some_at series.gauges (i - length series.counters) (omega (arith, h, below, n, m, Rattle.std.proofs.Common.length-append (map counter_thing series.counters) (map gauge_thing series.gauges))) in (
+      found.0.cell,
+      at_back (map counter_thing series.counters) (map gauge_thing series.gauges) i (of_gauge found.0.cell) (omega (arith, n, h))
+          (subst (λ k. get_elem? (map gauge_thing series.gauges) (i - k) ≡ some (of_gauge found.0.cell)) (sym n) (Rattle.atomic_table.proofs.Lists.at_map gauge_thing series.gauges (i - length series.counters) found.0 found.1)),
+    )
+
+-- ---- giving back
+
+pub took_back : {F : Type 0} (s t : Shared F) (known : View ValueCall) → TakesBack known s t → TookBack s.root known t.root × (t.cell ≡ s.cell)
+took_back s t known takes = (
+  subst (λ (x : Shared _). TookBack s.root known x.root) (sym takes.2) (record { number = refl; mine = refl; joined = refl; seen = takes.1.begins; out = refl }),
+  ap (λ (x : Shared _). x.cell) takes.2,
+)
+
+-- ---- all at home
+
+module _ {F : Type 0} (kind : F → SeriesCell) where
+  list_home : (es : List (LiveSeries (Shared F))) → ((j : ℕ) (t : Thing ValueCall SeriesCell) → get_elem? (map (thing kind) es) j ≡ some t → t.root.number ≡ 0) → ((j : ℕ) (t : Thing ValueCall SeriesCell) → get_elem? (map (thing kind) es) j ≡ some t → t.root.out ≡ 0) → All (λ (s : LiveSeries (Shared F)). IsHome s.cell) es
+  list_home [] roots home = All-nil _
+  list_home (e ∷ es) roots home =
+      All-cons (λ (s : LiveSeries (Shared F)). IsHome s.cell) e es (roots 0 (thing kind e) refl, home 0 (thing kind e) refl)
+      (list_home es (λ j t a. roots (suc j) t a) (λ j t a. home (suc j) t a))
+
+  list_settled : (es fs : List (LiveSeries (Shared F))) → All (λ (s : LiveSeries (Shared F)). IsHome s.cell) es → AllZip SeriesLooks es fs → (j : ℕ) (t : Thing ValueCall SeriesCell) → get_elem? (map (thing kind) es) j ≡ some t → Settled t.root
+  list_settled [] fs home looks j t e = absurd (some-ne-none t (sym e))
+  list_settled (x ∷ es) [] home looks j t e = absurd looks
+  list_settled (x ∷ es) (f ∷ fs) home looks zero t e =
+      let h = All-head (λ (s : LiveSeries (Shared F)). IsHome s.cell) x es home in
+      subst (λ (y : Thing ValueCall SeriesCell). Settled y.root) (some-injective (thing kind x) t e) (looks.0.2.1.whole h.0 h.1).1
+  list_settled (x ∷ es) (f ∷ fs) home looks (suc j) t e = list_settled es fs (All-tail (λ (s : LiveSeries (Shared F)). IsHome s.cell) x es home) looks.1 j t e
+
+pub all_home : (exporter : Exporter) → Roots root_of (things_of exporter) → Home root_of (things_of exporter) → AllHome exporter
+all_home exporter roots home = (
+  list_home cells.Counter exporter.series.counters (λ j t e. roots j t (at_longer (map counter_thing exporter.series.counters) _ j t e)) (λ j t e. home j t (at_longer (map counter_thing exporter.series.counters) _ j t e)),
+  list_home cells.Gauge exporter.series.gauges (λ j t e. roots _ t (at_behind (map counter_thing exporter.series.counters) _ j t e)) (λ j t e. home _ t (at_behind (map counter_thing exporter.series.counters) _ j t e)),
+)
+
+pub all_settled : (old new : Exporter) → AllHome old → LooksOn old new → (j : ℕ) (t : Thing ValueCall SeriesCell) → get_elem? (things_of old) j ≡ some t → Settled t.root
+all_settled old new home looks j t e =
+    ⊎_elim (λ (front : get_elem? (map counter_thing old.series.counters) j ≡ some t). list_settled cells.Counter old.series.counters new.series.counters home.0 looks.counters j t front)
+    (λ (back : (k : ℕ) × (get_elem? (map gauge_thing old.series.gauges) k ≡ some t)). list_settled cells.Gauge old.series.gauges new.series.gauges home.1 looks.gauges back.0 t back.1)
+    (front_or_back (map counter_thing old.series.counters) (map gauge_thing old.series.gauges) j t e)

@@ -1,0 +1,63 @@
+-- The exporter's series as lanes see them: counters, then gauges, in order of registration.
+use Rattle.std.specs.Prelude.{◌≡◌, List, [], ◌∷◌, ◌++◌, map, ⊤}
+use Rattle.legal_history.specs.declared.history.View.{View}
+use Rattle.cell_lanes.specs.Things.{Thing}
+use Rattle.metrics_core.specs.declared.calls.SeriesCall.{SeriesCall}
+use Rattle.metrics_core.specs.declared.calls.SeriesCall.TheVariants as calls
+use Rattle.metrics_registry.specs.Live.{LiveSeries}
+use Rattle.series_cells.specs.declared.calls.ValueCall.{ValueCall}
+use Rattle.series_cells.specs.declared.calls.ValueCall.TheVariants as values
+use Rattle.series_cells.specs.declared.counter.PromCounter.{PromCounter}
+use Rattle.series_cells.specs.declared.gauge.PromGauge.{PromGauge}
+use Rattle.series_cells.specs.Series.{counter_of, gauge_of, counter_known, gauge_known}
+use Rattle.prom_exporter.specs.declared.lanes.LanePass.{LanePass}
+use Rattle.prom_exporter.specs.declared.lanes.LanePass.TheVariants as passes
+use Rattle.prom_exporter.specs.declared.lanes.SeriesCell.{SeriesCell}
+use Rattle.prom_exporter.specs.declared.lanes.SeriesCell.TheVariants as cells
+use Rattle.prom_exporter.specs.Shared.{Shared}
+use Rattle.prom_exporter.specs.Exporter.{Exporter}
+
+abbrev pub counter_thing : LiveSeries (Shared PromCounter) → Thing ValueCall SeriesCell
+counter_thing series = record { root = series.cell.root; fixed = cells.Counter series.cell.cell }
+
+abbrev pub gauge_thing : LiveSeries (Shared PromGauge) → Thing ValueCall SeriesCell
+gauge_thing series = record { root = series.cell.root; fixed = cells.Gauge series.cell.cell }
+
+abbrev pub things_of : Exporter → List (Thing ValueCall SeriesCell)
+things_of exporter = map counter_thing exporter.series.counters ++ map gauge_thing exporter.series.gauges
+
+-- what a pass knows
+abbrev pub pass_known : LanePass → View ValueCall
+pass_known (passes.Counter lent) = counter_known lent
+pass_known (passes.Gauge lent) = gauge_known lent
+
+-- the pass is one of this cell
+abbrev pub IsPassOf : SeriesCell → LanePass → Type 0
+IsPassOf (cells.Counter cell) (passes.Counter lent) = counter_of lent ≡ cell
+IsPassOf (cells.Gauge cell) (passes.Gauge lent) = gauge_of lent ≡ cell
+IsPassOf (cells.Counter _) (passes.Gauge _) = ⊥
+IsPassOf (cells.Gauge _) (passes.Counter _) = ⊥
+
+-- the call is one on a cell of this kind
+abbrev pub TakesCall : SeriesCell → SeriesCall → Type 0
+TakesCall (cells.Counter _) (calls.Increment _) = ⊤
+TakesCall (cells.Counter _) (calls.Absolute _) = ⊤
+TakesCall (cells.Gauge _) (calls.Add _) = ⊤
+TakesCall (cells.Gauge _) (calls.Sub _) = ⊤
+TakesCall (cells.Gauge _) (calls.Set _) = ⊤
+TakesCall (cells.Counter _) (calls.Add _) = ⊥
+TakesCall (cells.Counter _) (calls.Sub _) = ⊥
+TakesCall (cells.Counter _) (calls.Set _) = ⊥
+TakesCall (cells.Gauge _) (calls.Increment _) = ⊥
+TakesCall (cells.Gauge _) (calls.Absolute _) = ⊥
+
+-- how a call stands in the history
+abbrev pub value_call : SeriesCall → ValueCall
+value_call (calls.Increment n) = values.Increment n
+value_call (calls.Absolute n) = values.Absolute n
+value_call (calls.Add v) = values.Add v
+value_call (calls.Sub v) = values.Subtract v
+value_call (calls.Set v) = values.Set v
+
+abbrev pub StandsAsValue : SeriesCall → List ValueCall → Type 0
+StandsAsValue call made = made ≡ value_call call ∷ []
