@@ -28,8 +28,14 @@ pub trait Lenders: Send {
     /// What tells one thing from another, and whatever else is kept with it and never changes.
     type Fixed;
 
+    /// What is kept beside the things.
+    type Frame;
+
     /// The things, in the order of their indices.
     ghost things: { Self → List (Thing Self.Entry Self.Fixed) };
+
+    /// All but what the root passes know. Lending, taking back and settling leave it as it is.
+    ghost frame: { Self → Self.Frame };
 
     /// What a lent pass knows.
     ghost knows: { Self.Lent → View Self.Entry };
@@ -49,7 +55,8 @@ pub trait Lenders: Send {
         requires root { (t : Thing Self.Entry Self.Fixed) → get_elem? (things self.old) index ≡ some t → t.root.number ≡ 0 }
         ensures lent { IfOk result (λ new. (t : Thing Self.Entry Self.Fixed) → get_elem? (things self.old) index ≡ some t → owns t.fixed new × (knows new ≡ child t.root)) }
         ensures out { OnOk result ((t : Thing Self.Entry Self.Fixed) → get_elem? (things self.old) index ≡ some t → things self.new ≡ set (things self.old) index (record t { root = lender t.root })) }
-        ensures refused { OnErr result (things self.new ≡ things self.old) };
+        ensures refused { OnErr result (things self.new ≡ things self.old) }
+        ensures frame { frame self.new ≡ frame self.old };
 
     /// Makes a call with a pass. A refused call changes nothing.
     fn make<R: Wait>(
@@ -69,14 +76,16 @@ pub trait Lenders: Send {
         requires root { (t : Thing Self.Entry Self.Fixed) → get_elem? (things self.old) index ≡ some t → t.root.number ≡ 0 }
         requires lent { (t : Thing Self.Entry Self.Fixed) → get_elem? (things self.old) index ≡ some t → owns t.fixed lent }
         ensures taken { (t : Thing Self.Entry Self.Fixed) → get_elem? (things self.old) index ≡ some t
-            → (u : Thing Self.Entry Self.Fixed) × TookBack t.root (knows lent) u.root × (u.fixed ≡ t.fixed) × (things self.new ≡ set (things self.old) index u) };
+            → (u : Thing Self.Entry Self.Fixed) × TookBack t.root (knows lent) u.root × (u.fixed ≡ t.fixed) × (things self.new ≡ set (things self.old) index u) }
+        ensures frame { frame self.new ≡ frame self.old };
 
     /// With no pass out, makes sure that each root knows whose each call is.
     fn settle<R: Wait>(&mut self, rt: &R)
         requires roots { Roots root_of (things self.old) }
         requires home { Home root_of (things self.old) }
         ensures same { things self.new ≡ things self.old }
-        ensures settled { (j : ℕ) (t : Thing Self.Entry Self.Fixed) → get_elem? (things self.old) j ≡ some t → Settled t.root };
+        ensures settled { (j : ℕ) (t : Thing Self.Entry Self.Fixed) → get_elem? (things self.old) j ≡ some t → Settled t.root }
+        ensures frame { frame self.new ≡ frame self.old };
 }
 
 impl<S: Lender> Lenders for Vec<S> {
@@ -91,7 +100,11 @@ impl<S: Lender> Lenders for Vec<S> {
 
     type Fixed = S::Fixed;
 
+    type Frame = ();
+
     ghost things = { λ all. map (λ s. record { root = S.root s; fixed = S.fixed s }) all.items };
+
+    ghost frame = { λ all. tt };
 
     ghost knows = { S.knows };
 

@@ -32,6 +32,7 @@ fn lend_lane<S: Lenders>(
     requires named { (s j : ℕ) → get_elem? named.now s ≡ some j → j < length (S.things shared.old) }
     requires room { (slots.old.items ≡ []) × (vec_len slots.old ≡ 0) × (length named.now ≤ vec_capacity slots.old) }
     ensures many { length (S.things shared.new) ≡ length (S.things shared.old) }
+    ensures frame { S.frame shared.new ≡ S.frame shared.old }
     ensures lends { Each (λ j. Lends root_of (Stays fixed_of) (times j (cells_of slots.new.items))) (S.things shared.old) (S.things shared.new) }
     ensures some_cells { cells_of slots.new.items ≡ take (length slots.new.items) named.now }
     ensures slots { SlotsFit (Owns fixed_of S.owns) (S.things shared.new) slots.new.items × Fresh S.knows slots.new.items }
@@ -57,6 +58,7 @@ fn lend_all<S: Lenders>(
     requires fit { AllFit (length (S.things shared.old)) lanes.now }
     requires room { (jobs.old.items ≡ []) × (vec_len jobs.old ≡ 0) × (length lanes.now ≤ vec_capacity jobs.old) }
     ensures many { length (S.things shared.new) ≡ length (S.things shared.old) }
+    ensures frame { S.frame shared.new ≡ S.frame shared.old }
     ensures lends { Each (λ j. Lends root_of (Stays fixed_of) (lent_on j jobs.new.items)) (S.things shared.old) (S.things shared.new) }
     ensures fit { JobsFit (Owns fixed_of S.owns) (S.things shared.new) jobs.new.items }
     ensures fresh { JobsFresh S.knows lanes.now jobs.new.items × (length jobs.new.items ≤ length lanes.now) }
@@ -176,6 +178,7 @@ fn lend_and_run<R: Threads + Wait + Sync, H: LaneHook + Sync, S: Lenders>(
     requires taken { AllTaken fixed_of S.takes (S.things shared.old) lanes.now }
     requires room { (jobs.old.items ≡ []) × (vec_len jobs.old ≡ 0) × (length lanes.now ≤ vec_capacity jobs.old) }
     ensures many { length (S.things shared.new) ≡ length (S.things shared.old) }
+    ensures frame { S.frame shared.new ≡ S.frame shared.old }
     ensures lends { Each (λ j. Lends root_of (Stays fixed_of) (lent_on j jobs.new.items)) (S.things shared.old) (S.things shared.new) }
     ensures fit { JobsFit (Owns fixed_of S.owns) (S.things shared.new) jobs.new.items }
     ensures few { length jobs.new.items ≤ length lanes.now }
@@ -196,6 +199,7 @@ fn take_lane<S: Lenders>(shared: &mut S, lane: usize, mut slots: Vec<Slot<S::Len
     requires roots { Roots root_of (S.things shared.old) }
     requires slots { SlotsFit (Owns fixed_of S.owns) (S.things shared.old) slots.items }
     ensures many { length (S.things shared.new) ≡ length (S.things shared.old) }
+    ensures frame { S.frame shared.new ≡ S.frame shared.old }
     ensures takes { Each (λ j. Takes root_of (Stays fixed_of) (given S.knows j lane slots.items)) (S.things shared.old) (S.things shared.new) }
 {
     while let Some(slot) = slots.pop() {
@@ -209,6 +213,7 @@ fn take_all<S: Lenders>(shared: &mut S, mut jobs: Vec<Job<S::Lent>>)
     requires roots { Roots root_of (S.things shared.old) }
     requires fit { JobsFit (Owns fixed_of S.owns) (S.things shared.old) jobs.items }
     ensures many { length (S.things shared.new) ≡ length (S.things shared.old) }
+    ensures frame { S.frame shared.new ≡ S.frame shared.old }
     ensures takes { Each (λ j. Takes root_of (Stays fixed_of) (all_given S.knows j 0 jobs.items)) (S.things shared.old) (S.things shared.new) }
 {
     while let Some(job) = jobs.pop() {
@@ -234,6 +239,7 @@ pub fn run_lanes<R: Threads + Wait + Sync, H: LaneHook + Sync, S: Lenders>(
     requires fit { AllFit (length (S.things shared.old)) lanes.now }
     requires taken { AllTaken fixed_of S.takes (S.things shared.old) lanes.now }
     ensures many { length (S.things shared.new) ≡ length (S.things shared.old) }
+    ensures frame { S.frame shared.new ≡ S.frame shared.old }
     ensures roots { Roots root_of (S.things shared.new) × AtRest root_of (S.things shared.new) }
     ensures stays { Each (λ j. Stays fixed_of) (S.things shared.old) (S.things shared.new) }
     ensures grew { (done : ℕ → ℕ) × OnOk result (AllDone lanes.now done) × Each (Grew root_of S.stands_as lanes.now done) (S.things shared.old) (S.things shared.new) × OnErr result (Unfinished lanes.now done) }

@@ -38,13 +38,6 @@ impl<T> Column<T> {
         }
     }
 
-    /// How many series there are.
-    pub(crate) fn len(&self) -> usize
-        ensures { result ≡ length self.now.items.items }
-    {
-        self.items.len()
-    }
-
     /// The id of the series with an equal key.
     pub(crate) fn find(&self, keys: &IndexSet<Key>, key: &Key) -> Option<SeriesId>
         requires { AreStored keys.now.keys self.now.items.items }

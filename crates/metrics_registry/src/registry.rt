@@ -115,11 +115,14 @@ impl<C: Drop, G: Drop, H: Drop> Registry<C, G, H> {
         }
     }
 
-    /// How many counters are live.
+    /// How many counters are live. The numbers of counters and of gauges together are below 2^64.
     pub fn counter_count(&self) -> usize
-        ensures { result ≡ length self.now.counters }
+        ensures count { result ≡ length self.now.counters }
+        ensures room { length self.now.counters + length self.now.gauges < 2 ^ 64 }
     {
-        self.counters.len()
+        // The clause on gauges needs their number.
+        let _gauges = self.gauge_keys.len();
+        self.counter_keys.len()
     }
 
     /// The place of a live counter among them, from 0. It is `None` exactly where none with the id is live.
@@ -212,13 +215,6 @@ impl<C: Drop, G: Drop, H: Drop> Registry<C, G, H> {
         }
     }
 
-    /// How many gauges are live.
-    pub fn gauge_count(&self) -> usize
-        ensures { result ≡ length self.now.gauges }
-    {
-        self.gauges.len()
-    }
-
     /// The place of a live gauge among them, from 0. It is `None` exactly where none with the id is live.
     pub fn place_of_gauge(&self, id: SeriesId) -> Option<usize>
         ensures place { IsPlace id self.now.gauges result }
@@ -307,13 +303,6 @@ impl<C: Drop, G: Drop, H: Drop> Registry<C, G, H> {
             Some(place) => Some(self.histogram_at(place)),
             None => None,
         }
-    }
-
-    /// How many histograms are live.
-    pub fn histogram_count(&self) -> usize
-        ensures { result ≡ length self.now.histograms }
-    {
-        self.histograms.len()
     }
 
     /// The place of a live histogram among them, from 0. It is `None` exactly where none with the id is live.

@@ -1,7 +1,8 @@
 -- The exporter's series by their indices: counters, then gauges.
-use Rattle.std.proofs.Common.{◌≡◌, ℕ, zero, suc, ◌+◌, ◌-◌, ◌<◌, ◌≤◌, List, [], ◌∷◌, ◌++◌, length, map, set, Option, Some, None, refl, sym, ap, subst, ◌∙◌, ◌⊎◌, inl, inr, ⊎_elim, arith}
-use Rattle.std.specs.Prelude.{option_map, slice_get, All}
-use Rattle.std.specs.List.{AllZip}
+use Rattle.std.proofs.Common.{◌≡◌, true, false, ℕ, zero, suc, ◌+◌, ◌-◌, ◌<◌, ◌≤◌, List, [], ◌∷◌, ◌++◌, length, map, set, Option, Some, None, refl, sym, ap, subst, ◌∙◌, ◌⊎◌, inl, inr, ⊎_elim, arith}
+use Rattle.std.specs.Prelude.{◌==◌, option_map, slice_get, All}
+use Rattle.std.specs.List.{AllZip, list_any}
+use Rattle.std.proofs.lemmas.Bool.{true≢false, and_parts, or_parts, eq-eqb, eqb-true}
 use Rattle.std.proofs.lemmas.List.Elements.{All-nil, All-cons, All-head, All-tail}
 use Rattle.legal_history.specs.History.{Settled}
 use Rattle.cell_lanes.specs.Lanes.{Roots, Home}
@@ -13,16 +14,21 @@ use Rattle.atomic_table.proofs.Lists.{at_longer}
 use Rattle.legal_history.proofs.Steps.{one_at}
 use Rattle.legal_history.specs.declared.history.View.{View}
 use Rattle.cell_lanes.specs.Things.{Thing, TookBack, root_of}
-use Rattle.metrics_registry.specs.Live.{LiveSeries}
+use Rattle.metrics_core.specs.declared.kinds.MetricKind.{MetricKind}
+use Rattle.metrics_core.specs.declared.kinds.MetricKind.TheVariants as kinds
+use Rattle.metrics_core.specs.declared.kinds.SeriesId.{SeriesId}
+use Rattle.metrics_core.specs.Kinds.{kind_eq}
+use Rattle.metrics_registry.specs.Live.{LiveSeries, id_eq, has_id}
 use Rattle.metrics_registry.specs.Places.{with_cell_at}
 use Rattle.series_cells.specs.declared.calls.ValueCall.{ValueCall}
 use Rattle.series_cells.specs.declared.counter.PromCounter.{PromCounter}
 use Rattle.series_cells.specs.declared.gauge.PromGauge.{PromGauge}
 use Rattle.prom_exporter.specs.declared.lanes.SeriesCell.{SeriesCell}
 use Rattle.prom_exporter.specs.declared.lanes.SeriesCell.TheVariants as cells
-use Rattle.prom_exporter.specs.Shared.{Shared, IsHome, TakesBack}
+use Rattle.prom_exporter.specs.Shared.{Shared, IsHome, TakesBack, unused}
 use Rattle.prom_exporter.specs.Exporter.{Cells, Exporter, AllHome, LooksOn, SeriesLooks}
-use Rattle.prom_exporter.specs.LanePasses.{counter_thing, gauge_thing, things_of}
+use Rattle.prom_exporter.proofs.Seen.{kind_eq-same}
+use Rattle.prom_exporter.specs.LanePasses.{counter_thing, gauge_thing, things_of, ids_of, unseen, frame_of}
 
 -- ---- two lists, one behind the other
 
@@ -173,3 +179,66 @@ all_settled old new home looks j t e =
     ⊎_elim (λ (front : get_elem? (map counter_thing old.series.counters) j ≡ some t). list_settled cells.Counter old.series.counters new.series.counters home.0 looks.counters j t front)
     (λ (back : (k : ℕ) × (get_elem? (map gauge_thing old.series.gauges) k ≡ some t)). list_settled cells.Gauge old.series.gauges new.series.gauges home.1 looks.gauges back.0 t back.1)
     (front_or_back (map counter_thing old.series.counters) (map gauge_thing old.series.gauges) j t e)
+
+-- ---- ids
+
+id_same : (a b : SeriesId) → id_eq a b ≡ true → a ≡ b
+id_same a b e =
+    let both = and_parts (kind_eq a.kind b.kind) (a.number == b.number) e in
+    (λ j. record { kind = kind_eq-same a.kind b.kind both.0 j; number = eqb-true a.number b.number both.1 j })
+
+kind_itself : (kind : MetricKind) → kind_eq kind kind ≡ true
+kind_itself kinds.Counter = refl
+kind_itself kinds.Gauge = refl
+kind_itself kinds.Histogram = refl
+
+id_itself : (id : SeriesId) → id_eq id id ≡ true
+id_itself id = rw (kind_itself id.kind, eq-eqb id.number id.number refl) refl
+
+module _ {X : Type 0} (id : SeriesId) where
+  abbrev its_id : LiveSeries X → SeriesId
+  its_id series = series.id
+
+  pub id_here : (es : List (LiveSeries X)) (i : ℕ) → option_map (has_id id) (slice_get es i) ≡ Some true → get_elem? (map its_id es) i ≡ some id
+  id_here [] i e = absurd cc
+  id_here (x ∷ es) zero e = ap some (id_same x.id id (same_Some (has_id id x) true e))
+  id_here (x ∷ es) (suc i) e = id_here es i e
+
+  pub id_within : (es : List (LiveSeries X)) (i : ℕ) → option_map (has_id id) (slice_get es i) ≡ Some true → i < length es
+  id_within [] i e = absurd cc
+  id_within (x ∷ es) zero e = omega arith
+  id_within (x ∷ es) (suc i) e = (let h = id_within es i e in omega (arith, h))
+
+  pub id_nowhere : (es : List (LiveSeries X)) → list_any (has_id id) es ≡ false → (i : ℕ) → get_elem? (map its_id es) i ≡ some id → ⊥
+  id_nowhere [] none i e = some-ne-none id (sym e)
+  id_nowhere (x ∷ es) none zero e = true≢false (sym (id_itself id) ∙ ap (λ a. id_eq a id) (sym (some-injective x.id id e)) ∙ (or_parts (has_id id x) (list_any (has_id id) es) none).0)
+  id_nowhere (x ∷ es) none (suc i) e = id_nowhere es (or_parts (has_id id x) (list_any (has_id id) es) none).1 i e
+
+pub index_front : (id : SeriesId) (exporter : Exporter) (i : ℕ) → option_map (has_id id) (slice_get exporter.series.counters i) ≡ Some true → get_elem? (ids_of exporter) i ≡ some id
+index_front id exporter i e = at_longer (map (its_id id) exporter.series.counters) (map (its_id id) exporter.series.gauges) i id (id_here id exporter.series.counters i e)
+
+pub index_behind : (id : SeriesId) (exporter : Exporter) (n i : ℕ) → n ≡ length exporter.series.counters → option_map (has_id id) (slice_get exporter.series.gauges i) ≡ Some true → get_elem? (ids_of exporter) (n + i) ≡ some id
+index_behind id exporter n i is e =
+    subst (λ m. get_elem? (ids_of exporter) (m + i) ≡ some id) (length-map exporter.series.counters (its_id id) ∙ sym is)
+    (at_behind (map (its_id id) exporter.series.counters) (map (its_id id) exporter.series.gauges) i id (id_here id exporter.series.gauges i e))
+
+pub no_index : (id : SeriesId) (exporter : Exporter) → list_any (has_id id) exporter.series.counters ≡ false → list_any (has_id id) exporter.series.gauges ≡ false → (i : ℕ) → get_elem? (ids_of exporter) i ≡ some id → ⊥
+no_index id exporter none others i e =
+    ⊎_elim (λ (front : get_elem? (map (its_id id) exporter.series.counters) i ≡ some id). id_nowhere id exporter.series.counters none i front)
+    (λ (back : (k : ℕ) × (get_elem? (map (its_id id) exporter.series.gauges) k ≡ some id)). id_nowhere id exporter.series.gauges others back.0 back.1)
+    (front_or_back (map (its_id id) exporter.series.counters) (map (its_id id) exporter.series.gauges) i id e)
+
+-- ---- what lanes leave as it is
+
+unseen_put : {F : Type 0} (es : List (LiveSeries (Shared F))) (i : ℕ) (cell new : Shared F) → option_map (λ (s : LiveSeries (Shared F)). s.cell) (slice_get es i) ≡ Some cell → new.cell ≡ cell.cell → map unseen (with_cell_at es i new) ≡ map unseen es
+unseen_put [] i cell new e stays = refl
+unseen_put (x ∷ es) zero cell new e stays = (λ j. record x { cell = unused ((stays ∙ ap (λ (c : Shared _). c.cell) (sym (same_Some x.cell cell e))) j) } ∷ map unseen es)
+unseen_put (x ∷ es) (suc i) cell new e stays = ap (λ l. unseen x ∷ l) (unseen_put es i cell new e stays)
+
+pub counter_frame : (exporter : Exporter) (i : ℕ) (cell new : Shared PromCounter) → option_map (λ (s : LiveSeries (Shared PromCounter)). s.cell) (slice_get exporter.series.counters i) ≡ Some cell → new.cell ≡ cell.cell
+    → frame_of (record exporter { series = record exporter.series { counters = with_cell_at exporter.series.counters i new } }) ≡ frame_of exporter
+counter_frame exporter i cell new e stays = ap (λ l. record exporter { series = record exporter.series { counters = l; gauges = map unseen exporter.series.gauges } }) (unseen_put exporter.series.counters i cell new e stays)
+
+pub gauge_frame : (exporter : Exporter) (i : ℕ) (cell new : Shared PromGauge) → option_map (λ (s : LiveSeries (Shared PromGauge)). s.cell) (slice_get exporter.series.gauges i) ≡ Some cell → new.cell ≡ cell.cell
+    → frame_of (record exporter { series = record exporter.series { gauges = with_cell_at exporter.series.gauges i new } }) ≡ frame_of exporter
+gauge_frame exporter i cell new e stays = ap (λ l. record exporter { series = record exporter.series { counters = map unseen exporter.series.counters; gauges = l } }) (unseen_put exporter.series.gauges i cell new e stays)

@@ -51,7 +51,7 @@ module _ {F : Type 0} where
   are_of-seen kind n [] h = tt
   are_of-seen kind n (e ∷ es) h = (h.0, h.1, are_of-seen kind n es h.2)
 
-kind_eq-same : (a b : MetricKind) → kind_eq a b ≡ true → a ≡ b
+pub kind_eq-same : (a b : MetricKind) → kind_eq a b ≡ true → a ≡ b
 kind_eq-same kinds.Counter kinds.Counter e = refl
 kind_eq-same kinds.Gauge kinds.Gauge e = refl
 kind_eq-same kinds.Histogram kinds.Histogram e = refl

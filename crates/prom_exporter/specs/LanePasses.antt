@@ -1,9 +1,12 @@
 -- The exporter's series as lanes see them: counters, then gauges, in order of registration.
-use Rattle.std.specs.Prelude.{◌≡◌, List, [], ◌∷◌, ◌++◌, map, ⊤}
+use Rattle.std.specs.Prelude.{◌≡◌, ℕ, List, [], ◌∷◌, ◌++◌, map, Option, Some, None, ⊤}
+use mathlib.Core.Option.{some}
+use lib.ListN.{get_elem?}
 use Rattle.legal_history.specs.declared.history.View.{View}
 use Rattle.cell_lanes.specs.Things.{Thing}
 use Rattle.metrics_core.specs.declared.calls.SeriesCall.{SeriesCall}
 use Rattle.metrics_core.specs.declared.calls.SeriesCall.TheVariants as calls
+use Rattle.metrics_core.specs.declared.kinds.SeriesId.{SeriesId}
 use Rattle.metrics_registry.specs.Live.{LiveSeries}
 use Rattle.series_cells.specs.declared.calls.ValueCall.{ValueCall}
 use Rattle.series_cells.specs.declared.calls.ValueCall.TheVariants as values
@@ -14,7 +17,7 @@ use Rattle.prom_exporter.specs.declared.lanes.LanePass.{LanePass}
 use Rattle.prom_exporter.specs.declared.lanes.LanePass.TheVariants as passes
 use Rattle.prom_exporter.specs.declared.lanes.SeriesCell.{SeriesCell}
 use Rattle.prom_exporter.specs.declared.lanes.SeriesCell.TheVariants as cells
-use Rattle.prom_exporter.specs.Shared.{Shared}
+use Rattle.prom_exporter.specs.Shared.{Shared, unused}
 use Rattle.prom_exporter.specs.Exporter.{Exporter}
 
 abbrev pub counter_thing : LiveSeries (Shared PromCounter) → Thing ValueCall SeriesCell
@@ -61,3 +64,22 @@ value_call (calls.Set v) = values.Set v
 
 abbrev pub StandsAsValue : SeriesCall → List ValueCall → Type 0
 StandsAsValue call made = made ≡ value_call call ∷ []
+
+-- ---- what lanes leave as it is
+
+-- a series, but for what the exporter knows of it
+abbrev pub unseen : {F : Type 0} → LiveSeries (Shared F) → LiveSeries (Shared F)
+unseen series = record series { cell = unused series.cell.cell }
+
+-- the exporter, but for that
+abbrev pub frame_of : Exporter → Exporter
+frame_of exporter = record exporter { series = record exporter.series { counters = map unseen exporter.series.counters; gauges = map unseen exporter.series.gauges } }
+
+-- the ids of the series in the order of their indices
+abbrev pub ids_of : Exporter → List SeriesId
+ids_of exporter = map (λ series. series.id) exporter.series.counters ++ map (λ series. series.id) exporter.series.gauges
+
+-- the series with the id has this index, or none has the id
+abbrev pub IsIndex : SeriesId → Exporter → Option ℕ → Type 0
+IsIndex id exporter (Some index) = get_elem? (ids_of exporter) index ≡ some id
+IsIndex id exporter None = (index : ℕ) → get_elem? (ids_of exporter) index ≡ some id → ⊥

@@ -56,7 +56,7 @@ impl LanePass {
 }
 
 impl Lenders for PrometheusState {
-    ghost use Rattle.prom_exporter.specs.LanePasses.{things_of, pass_known, IsPassOf, TakesCall, StandsAsValue};
+    ghost use Rattle.prom_exporter.specs.LanePasses.{things_of, frame_of, pass_known, IsPassOf, TakesCall, StandsAsValue};
 
     type Lent = LanePass;
 
@@ -66,7 +66,11 @@ impl Lenders for PrometheusState {
 
     type Fixed = SeriesCell;
 
+    type Frame = PrometheusState;
+
     ghost things = { things_of };
+
+    ghost frame = { frame_of };
 
     ghost knows = { pass_known };
 

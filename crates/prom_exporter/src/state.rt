@@ -2,6 +2,7 @@
 
 ghost use Rattle.std.specs.Prelude.{◌≡◌, ◌-◌, ◌^◌, ◌<◌, ◌≤◌, ◌⊎◌, length, set, All, IsOk, IfOk, OnErr, OnOk, true, false};
 ghost use Rattle.metrics_core.specs.declared.kinds.MetricKind.TheVariants.{Counter, Gauge};
+ghost use Rattle.metrics_registry.specs.Live.{IsNumbered};
 ghost use Rattle.metrics_core.specs.Outside.{Rose, GrewBy, GrewByFront};
 ghost use Rattle.prom_format.specs.LabelSets.{labels_of};
 ghost use Rattle.series_cells.specs.Values.{call_of};
@@ -16,7 +17,7 @@ ghost use Rattle.legal_history.specs.History.{lender, child};
 ghost use Rattle.cell_lanes.specs.Things.{Thing, TookBack};
 ghost use Rattle.series_cells.specs.declared.calls.ValueCall.{ValueCall};
 ghost use Rattle.prom_exporter.specs.declared.lanes.SeriesCell.{SeriesCell};
-ghost use Rattle.prom_exporter.specs.LanePasses.{things_of, pass_known, IsPassOf};
+ghost use Rattle.prom_exporter.specs.LanePasses.{things_of, frame_of, pass_known, IsPassOf, IsIndex};
 ghost use Rattle.prom_exporter.specs.Lending.{LendsCounter, LendsGauge, LentCounter, LentGauge, HasNoCounter, HasNoGauge};
 
 use crate::BuildError;
@@ -224,12 +225,26 @@ impl PrometheusState {
         }
     }
 
+    /// The index under which lanes find a series: that of a counter among the counters, that of a gauge behind them. It is
+    /// `None` exactly where no counter and no gauge with the id is live.
+    pub fn index_of(&self, id: SeriesId) -> Option<usize>
+        ensures index { IsIndex id self.now result }
+        ensures numbered { IsNumbered self.now.series }
+    {
+        if let Some(place) = self.series.place_of_counter(id) {
+            return Some(place);
+        }
+        let place = self.series.place_of_gauge(id)?;
+        Some(self.series.counter_count() + place)
+    }
+
     /// Lends a new pass of the series with this index, counters first and gauges behind them, to a lane.
     pub(crate) fn lend_to_lane(&mut self, alloc: Global, index: usize) -> Result<LanePass, Memory>
         requires here { index < length (things_of self.old) }
         ensures lent { IfOk result (λ lent. (t : Thing ValueCall SeriesCell) → get_elem? (things_of self.old) index ≡ some t → IsPassOf t.fixed lent × (pass_known lent ≡ child t.root)) }
         ensures out { OnOk result ((t : Thing ValueCall SeriesCell) → get_elem? (things_of self.old) index ≡ some t → things_of self.new ≡ set (things_of self.old) index (record t { root = lender t.root })) }
         ensures refused { OnErr result (things_of self.new ≡ things_of self.old) }
+        ensures frame { frame_of self.new ≡ frame_of self.old }
     {
         let counters = self.series.counter_count();
         if index < counters {
@@ -247,6 +262,7 @@ impl PrometheusState {
         requires lent { (t : Thing ValueCall SeriesCell) → get_elem? (things_of self.old) index ≡ some t → IsPassOf t.fixed lent }
         ensures taken { (t : Thing ValueCall SeriesCell) → get_elem? (things_of self.old) index ≡ some t
             → (u : Thing ValueCall SeriesCell) × TookBack t.root (pass_known lent) u.root × (u.fixed ≡ t.fixed) × (things_of self.new ≡ set (things_of self.old) index u) }
+        ensures frame { frame_of self.new ≡ frame_of self.old }
     {
         let counters = self.series.counter_count();
         match lent {

@@ -65,6 +65,7 @@ loop-lane-preserved g c =
     let items = c.push_reserved.ensures.items in
     let here : get_elem? c.args.lanes.now (length old) ≡ some a = subst (λ n. get_elem? c.args.lanes.now n ≡ some a) (sym i.items) at in
     record {
+      frame = c.lend_lane-lent.ensures.frame ∙ i.frame;
       len = c.lend_lane-lent.ensures.many ∙ i.len;
       lends = subst (λ l. Each (λ j. Lends root_of (Stays fixed_of) (lent_on j l)) (g.S.Lenders.things c.args.shared.now) (g.S.Lenders.things c.lend_lane-lent.new.shared)) (sym items)
           (lends_lane root_of (Stays fixed_of) (stays_none fixed_of) (stays_then fixed_of) (g.S.Lenders.things c.args.shared.now) (g.S.Lenders.things c.loop-lane.shared) (g.S.Lenders.things c.lend_lane-lent.new.shared) old job i.len i.lends e.lends);

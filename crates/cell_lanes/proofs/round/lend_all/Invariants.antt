@@ -9,6 +9,7 @@ use Rattle.cell_lanes.proofs.round.lend_all.Given as goal
 
 abbrev pub invariant-loop-lane : goal.invariant-loop-lane
 invariant-loop-lane g l = record {
+  frame : g.S.Lenders.frame l.shared ≡ g.S.Lenders.frame l.initial.shared;
   len : length (g.S.Lenders.things l.shared) ≡ length (g.S.Lenders.things l.initial.shared);
   lends : Each (λ j. Lends root_of (Stays fixed_of) (lent_on j l.jobs.items)) (g.S.Lenders.things l.initial.shared) (g.S.Lenders.things l.shared);
   fit : JobsFit (Owns fixed_of g.S.Lenders.owns) (g.S.Lenders.things l.shared) l.jobs.items;

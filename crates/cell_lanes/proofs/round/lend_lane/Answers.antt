@@ -58,6 +58,7 @@ loop-cell-preserved g c =
     let cells = ap cells_of p.items ∙ cells_one old slot in
     let more = take_more c.args.named.now c.loop-cell.cell-index 0 c.loop-cell-test.true in
     record {
+      frame = c.lend.ensures.frame ∙ i.frame;
       len = ap length out ∙ length-set things t r ∙ i.len;
       lends = subst (Each (λ j. Lends root_of (Stays fixed_of) (times j (cells_of c.push_reserved.new.self.items))) (g.S.Lenders.things c.args.shared.now)) (sym out)
           (subst (λ l. Each (λ j. Lends root_of (Stays fixed_of) (times j l)) (g.S.Lenders.things c.args.shared.now) (set things t r)) (sym cells)

@@ -10,6 +10,7 @@ use Rattle.cell_lanes.proofs.round.take_all.Goals as goal
 pub loop-job-init : goal.loop-job-init
 loop-job-init g c =
     record {
+      frame = refl;
       len = refl;
       fit = c.requires.fit;
       takes = each_same (Taking root_of (Stays fixed_of) (λ j. all_given g.S.Lenders.knows j 0 c.args.jobs.items) (λ j. all_given g.S.Lenders.knows j 0 c.args.jobs.items)) (g.S.Lenders.things c.args.shared.now) (taking_none root_of (Stays fixed_of) (stays_none fixed_of) (stays_then fixed_of) (λ j. all_given g.S.Lenders.knows j 0 c.args.jobs.items));
@@ -32,6 +33,7 @@ loop-job-preserved g c =
     let all = subst (JobsFit (Owns fixed_of g.S.Lenders.owns) (g.S.Lenders.things c.loop-job.shared)) c.in-Some.ensures.items i.fit in
     let rest = jobs_fit_front (Owns fixed_of g.S.Lenders.owns) (g.S.Lenders.things c.loop-job.shared) c.pop.new.self.items c.in-Some.job all in
     record {
+      frame = c.take_lane.ensures.frame ∙ i.frame;
       len = c.take_lane.ensures.many ∙ i.len;
       fit = λ l x e. fit_each (Stays fixed_of) (stays_none fixed_of) (stays_then fixed_of) (Owns fixed_of g.S.Lenders.owns) (owned fixed_of g.S.Lenders.owns)
           (λ j. Rattle.cell_lanes.specs.Lanes.Takes root_of (Stays fixed_of) (given g.S.Lenders.knows j c.len.result c.in-Some.job.slots.items)) (g.S.Lenders.things c.loop-job.shared) (g.S.Lenders.things c.take_lane.new.shared) x.slots.items c.take_lane.ensures.many (λ j a b h. h.kept) t.takes (rest l x e);
@@ -44,6 +46,7 @@ returns g c =
     let i = c.loop-job.invariant in
     let none : c.loop-job.jobs.items ≡ [] = empty_list c.loop-job.jobs.items (sym c.loop-job.jobs.ok.0 ∙ c.in_default.ensures.cases.0) in
     record {
+      frame = i.frame;
       many = i.len;
       takes = taken_all root_of (Stays fixed_of) (stays_none fixed_of) (stays_then fixed_of) (λ j. all_given g.S.Lenders.knows j 0 c.args.jobs.items) (λ j. all_given g.S.Lenders.knows j 0 c.loop-job.jobs.items)
           (g.S.Lenders.things c.args.shared.now) (g.S.Lenders.things c.loop-job.shared) (λ j. ap (all_given g.S.Lenders.knows j 0) none) i.takes;

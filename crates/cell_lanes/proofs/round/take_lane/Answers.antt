@@ -10,6 +10,7 @@ use Rattle.cell_lanes.proofs.round.take_lane.Goals as goal
 pub loop-slot-init : goal.loop-slot-init
 loop-slot-init g c =
     record {
+      frame = refl;
       len = refl;
       slots = c.requires.slots;
       takes = each_same (Taking root_of (Stays fixed_of) (λ j. given g.S.Lenders.knows j c.args.lane c.args.slots.items) (λ j. given g.S.Lenders.knows j c.args.lane c.args.slots.items)) (g.S.Lenders.things c.args.shared.now) (taking_none root_of (Stays fixed_of) (stays_none fixed_of) (stays_then fixed_of) (λ j. given g.S.Lenders.knows j c.args.lane c.args.slots.items));
@@ -47,6 +48,7 @@ loop-slot-preserved g c =
     let r = t.0 in
     let out = t.3 in
     record {
+      frame = c.take_back.ensures.frame ∙ i.frame;
       len = ap length out ∙ length-set things x.cell r ∙ i.len;
       slots = subst (λ ds. SlotsFit (Owns fixed_of g.S.Lenders.owns) ds c.pop.new.self.items) (sym out)
           (fit_set (Stays fixed_of) (stays_none fixed_of) (stays_then fixed_of) (Owns fixed_of g.S.Lenders.owns) (owned fixed_of g.S.Lenders.owns) things c.pop.new.self.items x.cell q r at t.2
@@ -61,6 +63,7 @@ returns g c =
     let i = c.loop-slot.invariant in
     let none : c.loop-slot.slots.items ≡ [] = Rattle.legal_history.proofs.Steps.empty_list c.loop-slot.slots.items (sym c.loop-slot.slots.ok.0 ∙ c.in_default.ensures.cases.0) in
     record {
+      frame = i.frame;
       many = i.len;
       takes = Rattle.cell_lanes.proofs.Returning.taken_all root_of (Stays fixed_of) (stays_none fixed_of) (stays_then fixed_of) (λ j. given g.S.Lenders.knows j c.args.lane c.args.slots.items) (λ j. given g.S.Lenders.knows j c.args.lane c.loop-slot.slots.items)
           (g.S.Lenders.things c.args.shared.now) (g.S.Lenders.things c.loop-slot.shared) (λ j. ap (given g.S.Lenders.knows j c.args.lane) none) i.takes;

@@ -48,6 +48,7 @@ loop-j-preserved g c =
 
 pub returns : goal.returns
 returns g c = record {
+  frame = refl;
   same = c.loop-j.invariant.same;
   settled = λ j t e.
       c.loop-j.invariant.rest j t (let b = some_below (things g.S.Lender.root g.S.Lender.fixed c.args.self.now.items) j t e in let f = c.loop-j-test.false in omega (arith, c.len-j-end.ensures, length-map c.args.self.now.items (thing g.S.Lender.root g.S.Lender.fixed), c.args.self.now.ok.0)) e;

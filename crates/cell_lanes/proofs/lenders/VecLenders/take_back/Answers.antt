@@ -41,6 +41,7 @@ returns g c =
     let q = c.index_mut.result.now in
     let at = at_index items c.args.index q (below g.S.Lender.root g.S.Lender.fixed items c.args.index c.requires.here) c.index_mut.ensures.value in
     record {
+      frame = refl;
       taken = λ t e. rw (← thing_is g.S.Lender.root g.S.Lender.fixed items c.args.index q t at e) (
         thing g.S.Lender.root g.S.Lender.fixed c.take_back.new.self,
         took (g.S.Lender.root q) (g.S.Lender.knows c.args.lent) (g.S.Lender.root c.take_back.new.self) c.take_back.ensures.root,

@@ -15,7 +15,8 @@ use Rattle.prom_exporter.specs.declared.lanes.SeriesCell.{SeriesCell}
 use Rattle.prom_exporter.specs.declared.lanes.SeriesCell.TheVariants as cells
 use Rattle.prom_exporter.specs.Shared.{Shared}
 use Rattle.prom_exporter.specs.LanePasses.{IsPassOf, things_of}
-use Rattle.prom_exporter.proofs.LaneThings.{things_in, of_counter, of_gauge, counter_here, counter_put, counter_found, gauge_here, gauge_put, gauge_found, is_one, took_back}
+use Rattle.prom_exporter.specs.contracts.state.PrometheusState.{the_view}
+use Rattle.prom_exporter.proofs.LaneThings.{counter_frame, gauge_frame, things_in, of_counter, of_gauge, counter_here, counter_put, counter_found, gauge_here, gauge_put, gauge_found, is_one, took_back}
 use Rattle.prom_exporter.proofs.state.PrometheusState.take_from_lane.Goals as goal
 
 pub take_from_lane-requires : goal.take_from_lane-requires
@@ -27,8 +28,8 @@ pub take_from_lane-requires-then-index-counters-2 : goal.take_from_lane-requires
 take_from_lane-requires-then-index-counters-2 c =
     let series = c.self.inside.series in
     let cell = c.gauge_at.result.now in
-    let least : length series.counters ≤ c.args.index = subst (λ n. n ≤ c.args.index) c.counter_count-counters.ensures c.if-index-counters-2.true in
-    let value = subst (λ n. option_map (λ (s : LiveSeries (Shared PromGauge)). s.cell) (slice_get series.gauges (c.args.index - n)) ≡ Some cell) c.counter_count-counters.ensures c.gauge_at.ensures.value in
+    let least : length series.counters ≤ c.args.index = subst (λ n. n ≤ c.args.index) c.counter_count-counters.ensures.count c.if-index-counters-2.true in
+    let value = subst (λ n. option_map (λ (s : LiveSeries (Shared PromGauge)). s.cell) (slice_get series.gauges (c.args.index - n)) ≡ Some cell) c.counter_count-counters.ensures.count c.gauge_at.ensures.value in
     let at = gauge_here series c.args.index cell least value in
     subst (IsPassOf (cells.Gauge cell.cell)) c.in-Gauge.is (c.requires.lent (of_gauge cell) (subst (λ e. get_elem? (things_of e) c.args.index ≡ some (of_gauge cell)) c.self.view_is at))
 
@@ -40,15 +41,16 @@ returns-then-index-counters c =
     let below = c.if-index-counters.true in
     let took = took_back cell new (counter_known c.in-Counter.counter) c.take_from_lane.ensures in
     rw (← c.self.view_is, c.in-Counter.is) (record {
+      frame = counter_frame (the_view c.self.inside) c.args.index cell new c.counter_at.ensures.value took.1;
       taken = λ t e.
           rw (← is_one series c.args.index _ t (counter_here series c.args.index cell c.counter_at.ensures.value) e)
-          (of_counter new, took.0, ap cells.Counter took.1, counter_put series c.args.index new (subst (λ n. c.args.index < n) c.counter_count-counters.ensures below));
+          (of_counter new, took.0, ap cells.Counter took.1, counter_put series c.args.index new (subst (λ n. c.args.index < n) c.counter_count-counters.ensures.count below));
     })
 
 pub returns-else-index-counters : goal.returns-else-index-counters
 returns-else-index-counters c =
     let series = c.self.inside.series in
-    let least : length series.counters ≤ c.args.index = (let past = c.if-index-counters.false in omega (arith, past, c.counter_count-counters.ensures)) in
+    let least : length series.counters ≤ c.args.index = (let past = c.if-index-counters.false in omega (arith, past, c.counter_count-counters.ensures.count)) in
     let found = gauge_found series c.args.index least (subst (λ e. c.args.index < length (things_of e)) (sym c.self.view_is) c.requires.here) in
     let lent = c.requires.lent (of_gauge found.0) (subst (λ e. get_elem? (things_of e) c.args.index ≡ some (of_gauge found.0)) c.self.view_is found.1) in
     absurd (subst (IsPassOf (cells.Gauge found.0.cell)) c.in-Counter.is lent)
@@ -58,23 +60,24 @@ returns-then-index-counters-2 c =
     let series = c.self.inside.series in
     let cell = c.gauge_at.result.now in
     let new = c.take_from_lane-then-index-counters-2.new.self in
-    let least : length series.counters ≤ c.args.index = subst (λ n. n ≤ c.args.index) c.counter_count-counters.ensures c.if-index-counters-2.true in
-    let value = subst (λ n. option_map (λ (s : LiveSeries (Shared PromGauge)). s.cell) (slice_get series.gauges (c.args.index - n)) ≡ Some cell) c.counter_count-counters.ensures c.gauge_at.ensures.value in
+    let least : length series.counters ≤ c.args.index = subst (λ n. n ≤ c.args.index) c.counter_count-counters.ensures.count c.if-index-counters-2.true in
+    let value = subst (λ n. option_map (λ (s : LiveSeries (Shared PromGauge)). s.cell) (slice_get series.gauges (c.args.index - n)) ≡ Some cell) c.counter_count-counters.ensures.count c.gauge_at.ensures.value in
     let took = took_back cell new (gauge_known c.in-Gauge.gauge) c.take_from_lane-then-index-counters-2.ensures in
     rw (← c.self.view_is, c.in-Gauge.is) (record {
+      frame = gauge_frame (the_view c.self.inside) (c.args.index - c.counter_count-counters.result) cell new c.gauge_at.ensures.value took.1;
       taken = λ t e.
           rw (← is_one series c.args.index _ t (gauge_here series c.args.index cell least value) e) (
             of_gauge new,
             took.0,
             ap cells.Gauge took.1,
-            ap (λ n. things_in (record series { gauges = with_cell_at series.gauges (c.args.index - n) new })) c.counter_count-counters.ensures ∙ gauge_put series c.args.index new least,
+            ap (λ n. things_in (record series { gauges = with_cell_at series.gauges (c.args.index - n) new })) c.counter_count-counters.ensures.count ∙ gauge_put series c.args.index new least,
           );
     })
 
 pub returns-else-index-counters-2 : goal.returns-else-index-counters-2
 returns-else-index-counters-2 c =
     let series = c.self.inside.series in
-    let below : c.args.index < length series.counters = (let past = c.if-index-counters-2.false in omega (arith, past, c.counter_count-counters.ensures)) in
+    let below : c.args.index < length series.counters = (let past = c.if-index-counters-2.false in omega (arith, past, c.counter_count-counters.ensures.count)) in
     let found = counter_found series c.args.index below in
     let lent = c.requires.lent (of_counter found.0) (subst (λ e. get_elem? (things_of e) c.args.index ≡ some (of_counter found.0)) c.self.view_is found.1) in
     absurd (subst (IsPassOf (cells.Counter found.0.cell)) c.in-Gauge.is lent)
