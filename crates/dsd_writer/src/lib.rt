@@ -1,0 +1,12 @@
+//! DogStatsD lines and payloads (DogStatsD datagrams, protocol 1.3): the lines of series, packed within a limit of bytes
+//! into the fewest lines and payloads that keep their order.
+#![tactic(auto)]
+
+mod items;
+mod numbers;
+mod parts;
+mod points;
+mod results;
+mod room;
+
+pub use results::WriteResult;
