@@ -1,6 +1,7 @@
 pub mod Cuts
 pub mod Lines
 pub mod Items
+pub mod Adding
 pub mod Rooms
 pub mod Results
 pub mod Writers

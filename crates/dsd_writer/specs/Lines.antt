@@ -6,6 +6,7 @@ use Rattle.std.specs.Int.{w32, to_le_bytes}
 use Rattle.metrics_core.specs.Characters.{line, colon, full_stop}
 use Rattle.metrics_core.specs.Numbers.{dogstatsd_number}
 use Rattle.metrics_core.specs.Keys.{LabelText}
+use Rattle.metrics_core.specs.declared.numbers.Fixed.{Fixed as FixedOf}
 use Rattle.dsd_writer.specs.Cuts.{joined, full_cut}
 
 -- what lines of one series say beside their values: the name with the prefix, the type (`c`, `g`, `h` or `d`), and where
@@ -51,6 +52,10 @@ tags_behind before (tag ∷ tags) = before ++ tag_text tag ++ tags_behind (codes
 abbrev pub before_next : List ℕ → List LabelText → List ℕ
 before_next before [] = before
 before_next before (tag ∷ tags) = codes ","
+
+-- the texts of values in billionths
+abbrev pub spelled_values : List FixedOf → List (List ℕ)
+spelled_values values = map (λ value. dogstatsd_number value.0) values
 
 -- the texts of values, each behind a colon
 abbrev pub values_text : List (List ℕ) → List ℕ

@@ -3,6 +3,7 @@
 #![tactic(auto)]
 
 mod items;
+mod many;
 mod numbers;
 mod parts;
 mod points;

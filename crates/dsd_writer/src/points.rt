@@ -89,6 +89,10 @@ pub(crate) fn write_point(
     ensures written { IfOk result (λ written. written ≡ written_of limit item.now (text.now ∷ [])) }
     ensures err_bytes { OnErr result (bytes.new.items ≡ bytes.old.items) }
     ensures err_lengths { OnErr result (lengths.new.items ≡ lengths.old.items) }
+    ensures bytes_capacity { vec_capacity bytes.old ≤ vec_capacity bytes.new }
+    ensures lengths_capacity { vec_capacity lengths.old ≤ vec_capacity lengths.new }
+    ensures no_memory { vec_len bytes.old + length (joined (lines_of limit item.now (text.now ∷ []))) ≤ vec_capacity bytes.old
+        → vec_len lengths.old + length (lines_of limit item.now (text.now ∷ [])) ≤ vec_capacity lengths.old → IsOk result }
 {
     let Some(left) = behind_line(limit, item, text) else {
         return Ok(WriteResult::new(0, 1));
