@@ -3,3 +3,4 @@ pub mod Digits
 pub mod Fewest
 pub mod Tags
 pub mod Filling
+pub mod Stored

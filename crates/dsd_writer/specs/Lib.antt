@@ -1,8 +1,8 @@
 pub mod Cuts
 pub mod Lines
+pub mod Writers
 pub mod Items
 pub mod Adding
 pub mod Rooms
 pub mod Results
-pub mod Writers
 pub mod Vectors

@@ -1,9 +1,11 @@
--- What contracts see of a writer of payloads.
-use Rattle.std.specs.Prelude.{◌≡◌, ℕ, Bool, List}
-use Rattle.metrics_core.specs.Keys.{LabelText}
+-- What contracts see of a writer of payloads, and how its lines stand in its bytes.
+use Rattle.std.specs.Prelude.{◌≡◌, ℕ, ◌-◌, ◌*◌, ◌≤◌, min, Bool, List, [], ◌∷◌, ◌++◌, length, map, take, drop, All, Option, ℤ, Vec, vec_len, vec_capacity}
+use Rattle.metrics_core.specs.Keys.{LabelText, KeyText}
+use Rattle.dsd_writer.specs.Cuts.{joined}
+use Rattle.dsd_writer.specs.Lines.{Item, prefixed}
 
--- the limit of a payload in bytes, whether a payload is led by its length, the tags that every line has, the lines
--- so far, and how many bytes may be written without memory
+-- the limit of a payload in bytes, whether each payload is led by its length, the tags that every line has, the lines so
+-- far, and how many bytes can be written without memory
 pub record WriterText : Type 0 where
   pub limit : ℕ
   pub on_stream : Bool
@@ -11,8 +13,34 @@ pub record WriterText : Type 0 where
   pub lines : List (List ℕ)
   pub spare : ℕ
 
--- the settings are the same
+-- the limit, the length before a payload and the tags of every line are the same
 pub record SameSettings (old new : WriterText) : Type 0 where
-  pub limit : new.limit ≡ old.limit
-  pub on_stream : new.on_stream ≡ old.on_stream
-  pub global_tags : new.global_tags ≡ old.global_tags
+  pub same_limit : new.limit ≡ old.limit
+  pub same_start : new.on_stream ≡ old.on_stream
+  pub same_tags : new.global_tags ≡ old.global_tags
+
+-- what the lines of a series say beside their values: the tags of the series stand before those that every line has
+abbrev pub item_of : List ℕ → Option (List ℕ) → KeyText → List LabelText → Option ℤ → Option ℕ → Item
+item_of type prefix key global_tags rate timestamp = record {
+  name = prefixed prefix key.name;
+  type = type;
+  rate = rate;
+  tags = key.labels ++ global_tags;
+  timestamp = timestamp;
+}
+
+-- lists of these lengths, one after another at the front of the bytes
+abbrev pub lines_in : List ℕ → List ℕ → List (List ℕ)
+lines_in [] bytes = []
+lines_in (n ∷ lengths) bytes = take n bytes ∷ lines_in lengths (drop n bytes)
+
+-- the bytes are lines of these lengths, each within the limit
+pub record AreStored (limit : ℕ) (lengths bytes : List ℕ) : Type 0 where
+  pub sizes : map length (lines_in lengths bytes) ≡ lengths
+  pub whole : joined (lines_in lengths bytes) ≡ bytes
+  pub within : All (λ n. n ≤ limit) lengths
+  pub short : limit ≤ 4294967295
+
+-- room for so many bytes, and for a line of each four of them: no line is shorter
+abbrev pub room_in : {A : Type 0} → Vec ℕ A → Vec ℕ A → ℕ
+room_in bytes lengths = min (vec_capacity bytes - vec_len bytes) (4 * (vec_capacity lengths - vec_len lengths))

@@ -1,15 +1,17 @@
 //! What the lines of one series say beside their values.
 
-ghost use Rattle.std.specs.Prelude.{◌≡◌, ◌+◌, ◌≤◌, [], ◌++◌, length, vec_len, vec_capacity, option_copied};
+ghost use Rattle.std.specs.Prelude.{◌≡◌, ◌+◌, ◌≤◌, [], ◌++◌, length, vec_len, vec_capacity, option_copied, None};
+ghost use Rattle.std.specs.Option.{option_map};
 ghost use Rattle.dsd_writer.specs.Items.{type_text};
 ghost use Rattle.dsd_writer.specs.Lines.{ending_of};
 ghost use Rattle.dsd_writer.specs.Rooms.{Leaves};
+ghost use Rattle.dsd_writer.specs.Writers.{item_of};
 
 use crate::parts::{
     behind_all_tags, behind_rate, behind_timestamp, push_all_tags, push_rate, push_timestamp,
 };
 use crate::room::{behind, push};
-use metrics_core::{Fixed, Label};
+use metrics_core::{Fixed, Key, Label};
 use std::marker::Model;
 
 /// The type of a line.
@@ -38,13 +40,13 @@ impl LineType {
 /// What the lines of one series say beside their values. The tags of the series stand before the global ones.
 #[derive(Drop)]
 pub(crate) struct Item<'a> {
-    pub(crate) prefix: Option<&'a str>,
-    pub(crate) name: &'a str,
-    pub(crate) line_type: LineType,
-    pub(crate) rate: Option<Fixed>,
-    pub(crate) tags: &'a [Label],
-    pub(crate) global_tags: &'a [Label],
-    pub(crate) timestamp: Option<u64>,
+    prefix: Option<&'a str>,
+    name: &'a str,
+    line_type: LineType,
+    rate: Option<Fixed>,
+    tags: &'a [Label],
+    global_tags: &'a [Label],
+    timestamp: Option<u64>,
 }
 
 impl<'a> Model for Item<'a> {
@@ -64,6 +66,40 @@ impl<'a> Model for Item<'a> {
 }
 
 impl<'a> Item<'a> {
+    /// What lines of a series say, without sample rate and timestamp.
+    pub(crate) fn new(
+        line_type: LineType,
+        prefix: Option<&'a str>,
+        key: &'a Key,
+        global_tags: &'a [Label],
+    ) -> Item<'a>
+        ensures { result ≡ item_of (type_text line_type) (option_copied prefix.entry) key.now global_tags.now None None }
+    {
+        Item {
+            prefix,
+            name: key.name(),
+            line_type,
+            rate: None,
+            tags: key.labels().as_slice(),
+            global_tags,
+            timestamp: None,
+        }
+    }
+
+    /// The same with a timestamp in seconds, where there is one.
+    pub(crate) fn at(self, timestamp: Option<u64>) -> Item<'a>
+        ensures { result ≡ record self.entry { timestamp = timestamp } }
+    {
+        Item { timestamp, ..self }
+    }
+
+    /// The same with a sample rate, where there is one.
+    pub(crate) fn sampled(self, rate: Option<Fixed>) -> Item<'a>
+        ensures { result ≡ record self.entry { rate = option_map (λ rate. rate.0) rate } }
+    {
+        Item { rate, ..self }
+    }
+
     /// What is left of a room after the name.
     pub(crate) fn behind_name(&self, room: u64) -> Option<u64>
         ensures { Leaves result room (length self.now.name) }

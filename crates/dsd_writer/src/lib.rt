@@ -9,5 +9,7 @@ mod parts;
 mod points;
 mod results;
 mod room;
+mod writer;
 
 pub use results::WriteResult;
+pub use writer::PayloadWriter;

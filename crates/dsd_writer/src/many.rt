@@ -3,8 +3,10 @@
 ghost use Rattle.std.specs.Prelude.{◌≡◌, ◌+◌, ◌-◌, ◌^◌, ◌<◌, ◌≤◌, [], ◌∷◌, ◌++◌, IsOk, OnErr, OnOk, IfOk, IfSome, IsNone, ◌↔◌, length, map, take, vec_len, vec_capacity};
 ghost use Rattle.dsd_writer.specs.Adding.{AddsValue};
 ghost use Rattle.dsd_writer.specs.Cuts.{joined};
+ghost use Rattle.dsd_writer.specs.Results.{written_of};
 ghost use Rattle.dsd_writer.specs.Lines.{ending_of, left_out_values, line_of, lines_of, spelled_values};
 
+use crate::WriteResult;
 use crate::items::Item;
 use crate::numbers::NumberText;
 use crate::points::{push_length, push_value, reserve};
@@ -183,4 +185,33 @@ fn fill(
         end_line(bytes, lengths, item, frame.bare + used);
     }
     Ok(left_out)
+}
+
+/// Appends the lines of an item with these values. A refused call leaves the bytes as they were.
+pub(crate) fn write_points(
+    bytes: &mut Vec<u8>,
+    lengths: &mut Vec<u32>,
+    limit: u64,
+    item: &Item<'_>,
+    values: &[Fixed],
+) -> Result<WriteResult, Memory>
+    requires { limit ≤ 4294967295 }
+    ensures bytes { OnOk result (bytes.new.items ≡ bytes.old.items ++ joined (lines_of limit item.now (spelled_values values.now))) }
+    ensures lengths { OnOk result (lengths.new.items ≡ lengths.old.items ++ map length (lines_of limit item.now (spelled_values values.now))) }
+    ensures written { IfOk result (λ written. written ≡ written_of limit item.now (spelled_values values.now)) }
+    ensures err_bytes { OnErr result (bytes.new.items ≡ bytes.old.items) }
+    ensures err_lengths { OnErr result (lengths.new.items ≡ lengths.old.items) }
+    ensures bytes_capacity { vec_capacity bytes.old ≤ vec_capacity bytes.new }
+    ensures lengths_capacity { vec_capacity lengths.old ≤ vec_capacity lengths.new }
+{
+    let end = bytes.len();
+    let count = lengths.len();
+    match fill(bytes, lengths, limit, item, values) {
+        Ok(left_out) => Ok(WriteResult::new((lengths.len() - count) as u64, left_out)),
+        Err(refused) => {
+            bytes.truncate(end);
+            lengths.truncate(count);
+            Err(refused)
+        }
+    }
 }

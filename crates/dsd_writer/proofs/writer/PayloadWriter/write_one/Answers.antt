@@ -1,0 +1,31 @@
+use Rattle.std.proofs.Common.{◌≡◌, [], ◌∷◌, ◌++◌, ap, ◌∙◌, None}
+use Rattle.std.specs.Prelude.{option_copied}
+use Rattle.std.specs.Option.{option_map}
+use Rattle.std.proofs.lemmas.Result.{on_ok_weaker, on_err_weaker, IfOk-weaker}
+use Rattle.metrics_core.specs.declared.numbers.Fixed.{Fixed as FixedOf}
+use Rattle.dsd_writer.specs.Items.{type_text}
+use Rattle.dsd_writer.specs.Lines.{Item, lines_of, spelled_values}
+use Rattle.dsd_writer.specs.Results.{written_of}
+use Rattle.dsd_writer.specs.Writers.{WriterText, item_of}
+use Rattle.dsd_writer.proofs.Stored.{written_after}
+use Rattle.dsd_writer.proofs.writer.PayloadWriter.write_one.Goals as goal
+
+pub invariant_of-self : goal.invariant_of-self
+invariant_of-self c =
+    let ensured = c.write_point.ensures in
+    (written_after c.write_point.result c.self.inside.limit c.at-item.result (c.args.text.now ∷ []) c.self.inside.lengths.items c.self.inside.bytes.items c.write_point.new.lengths.items c.write_point.new.bytes.items
+    c.self.invariant ensured.bytes ensured.lengths ensured.err_bytes ensured.err_lengths).stored
+
+pub returns-clause-lines : goal.returns-clause-lines
+returns-clause-lines c =
+    let ensured = c.write_point.ensures in
+    let written = written_after c.write_point.result c.self.inside.limit c.at-item.result (c.args.text.now ∷ []) c.self.inside.lengths.items c.self.inside.bytes.items c.write_point.new.lengths.items c.write_point.new.bytes.items
+    c.self.invariant ensured.bytes ensured.lengths ensured.err_bytes ensured.err_lengths in
+    let now = c.args.self.now in
+    let view = c.self.view_is in
+    let item = item_of (type_text c.args.line_type) (option_copied c.args.prefix) c.args.key.now now.global_tags None c.args.timestamp in
+    let item_is : c.at-item.result ≡ item =
+    c.at-item.ensures ∙ ap (λ (i : Item). record i { timestamp = c.args.timestamp }) (c.new.ensures ∙ ap (λ tags. item_of (type_text c.args.line_type) (option_copied c.args.prefix) c.args.key.now tags None None) (c.as_slice.ensures.value ∙ ap (λ (v : WriterText). v.global_tags) view)) in
+    let lines_are : lines_of c.self.inside.limit c.at-item.result (c.args.text.now ∷ []) ≡ lines_of now.limit item (c.args.text.now ∷ []) =
+    ap (λ limit. lines_of limit c.at-item.result (c.args.text.now ∷ [])) (ap (λ (v : WriterText). v.limit) view) ∙ ap (λ (i : Item). lines_of now.limit i (c.args.text.now ∷ [])) item_is in
+    on_ok_weaker c.write_point.result (λ is. is ∙ ap (λ ls. ls ++ lines_of c.self.inside.limit c.at-item.result (c.args.text.now ∷ [])) (ap (λ (v : WriterText). v.lines) view) ∙ ap (λ ls. now.lines ++ ls) lines_are) written.ok
