@@ -4,3 +4,4 @@ pub mod Fewest
 pub mod Tags
 pub mod Filling
 pub mod Stored
+pub mod Packed

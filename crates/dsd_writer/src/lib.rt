@@ -5,6 +5,7 @@
 mod items;
 mod many;
 mod numbers;
+mod packing;
 mod parts;
 mod points;
 mod results;
