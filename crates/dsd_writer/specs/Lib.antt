@@ -2,6 +2,7 @@ pub mod Cuts
 pub mod Lines
 pub mod Writers
 pub mod Packing
+pub mod Left
 pub mod Items
 pub mod Adding
 pub mod Rooms

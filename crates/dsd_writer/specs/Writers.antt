@@ -1,5 +1,5 @@
 -- What contracts see of a writer of payloads, and how its lines stand in its bytes.
-use Rattle.std.specs.Prelude.{◌≡◌, ℕ, ◌-◌, ◌*◌, ◌≤◌, min, Bool, List, [], ◌∷◌, ◌++◌, length, map, take, drop, All, Option, ℤ, Vec, vec_len, vec_capacity}
+use Rattle.std.specs.Prelude.{◌≡◌, ℕ, ◌-◌, ◌*◌, ◌≤◌, min, Bool, List, [], ◌∷◌, ◌++◌, length, map, take, drop, All, Option, ℤ, Vec, Result, OnOk, OnErr, vec_len, vec_capacity}
 use Rattle.metrics_core.specs.Keys.{LabelText, KeyText}
 use Rattle.dsd_writer.specs.Cuts.{joined}
 use Rattle.dsd_writer.specs.Lines.{Item, prefixed}
@@ -18,6 +18,12 @@ pub record SameSettings (old new : WriterText) : Type 0 where
   pub same_limit : new.limit ≡ old.limit
   pub same_start : new.on_stream ≡ old.on_stream
   pub same_tags : new.global_tags ≡ old.global_tags
+
+-- the lines were handed out as payloads, or they are as they were
+pub record IsEmptied {T E : Type 0} (result : Result T E) (old new : WriterText) : Type 0 where
+  pub settings : SameSettings old new
+  pub ok : OnOk result (new.lines ≡ [])
+  pub err : OnErr result (new.lines ≡ old.lines)
 
 -- what the lines of a series say beside their values: the tags of the series stand before those that every line has
 abbrev pub item_of : List ℕ → Option (List ℕ) → KeyText → List LabelText → Option ℤ → Option ℕ → Item

@@ -7,10 +7,12 @@ mod many;
 mod numbers;
 mod packing;
 mod parts;
+mod payloads;
 mod points;
 mod results;
 mod room;
 mod writer;
 
+pub use payloads::Payloads;
 pub use results::WriteResult;
 pub use writer::PayloadWriter;
