@@ -5,3 +5,4 @@ pub mod Tags
 pub mod Filling
 pub mod Stored
 pub mod Packed
+pub mod Best

@@ -19,7 +19,7 @@ lines_in-joined (x ∷ xs) =
     ∙ ap (λ lines. x ∷ lines) (lines_in-joined xs)
 
 -- every value that is kept fits alone
-kept_fit : (limit : ℕ) (item : Item) (values : List (List ℕ)) → All (λ value. IsTrue (line_fits limit item (value ∷ []))) (kept_values limit item values)
+pub kept_fit : (limit : ℕ) (item : Item) (values : List (List ℕ)) → All (λ value. IsTrue (line_fits limit item (value ∷ []))) (kept_values limit item values)
 kept_fit limit item [] = All-nil (λ (value : List ℕ). IsTrue (line_fits limit item (value ∷ [])))
 kept_fit limit item (value ∷ values) =
     (elim (line_fits limit item (value ∷ [])) as (λ b. line_fits limit item (value ∷ []) ≡ b → All (λ value. IsTrue (line_fits limit item (value ∷ []))) (cond b (value ∷ kept_values limit item values) (kept_values limit item values))) [

@@ -42,3 +42,8 @@ IsByWeight {A} fits weight bare limit = (run : List A) → fits run ≡ nat_le (
 -- among all cuts of the list within the limit none has fewer runs
 abbrev pub IsFewest : {A : Type 0} → (List A → Bool) → List A → List (List A) → Type 0
 IsFewest {A} fits xs runs = (others : List (List A)) → IsCut fits xs others → length runs ≤ length others
+
+-- a full cut of which no other cut within the limit has fewer runs
+pub record IsBestCut {A : Type 0} (fits : List A → Bool) (xs : List A) (runs : List (List A)) : Type 0 where
+  pub full : IsFullCut fits xs runs
+  pub fewest : IsFewest fits xs runs

@@ -7,7 +7,7 @@ use Rattle.metrics_core.specs.Characters.{line, colon, full_stop}
 use Rattle.metrics_core.specs.Numbers.{dogstatsd_number}
 use Rattle.metrics_core.specs.Keys.{LabelText}
 use Rattle.metrics_core.specs.declared.numbers.Fixed.{Fixed as FixedOf}
-use Rattle.dsd_writer.specs.Cuts.{joined, full_cut}
+use Rattle.dsd_writer.specs.Cuts.{joined, full_cut, IsBestCut}
 
 -- what lines of one series say beside their values: the name with the prefix, the type (`c`, `g`, `h` or `d`), and where
 -- there are any a sample rate in billionths, tags and a timestamp in seconds
@@ -86,6 +86,10 @@ left_out_values limit item values = filter (is_left_out limit item) values
 -- the lines of an item: the full cut of its kept values
 abbrev pub lines_of : ℕ → Item → List (List ℕ) → List (List ℕ)
 lines_of limit item values = map (line_of item) (full_cut (line_fits limit item) (kept_values limit item values))
+
+-- the lines of an item are a full cut of its kept values, and no other cut within the limit has fewer
+abbrev pub IsBestLines : ℕ → Item → List (List ℕ) → Type 0
+IsBestLines limit item values = IsBestCut (line_fits limit item) (kept_values limit item values) (full_cut (line_fits limit item) (kept_values limit item values))
 
 -- whether lines together are within the limit of a payload
 abbrev pub payload_fits : ℕ → List (List ℕ) → Bool

@@ -1,7 +1,8 @@
 //! Lines packed into payloads.
 
 ghost use Rattle.std.specs.Prelude.{◌≡◌, ◌≤◌, [], ◌++◌, IfOk, OnOk, length, map, All};
-ghost use Rattle.dsd_writer.specs.Lines.{framed, payloads_of};
+ghost use Rattle.dsd_writer.specs.Cuts.{IsBestCut, full_cut};
+ghost use Rattle.dsd_writer.specs.Lines.{framed, payload_fits, payloads_of};
 ghost use Rattle.dsd_writer.specs.Packing.{framed_payloads, texts_of};
 ghost use Rattle.dsd_writer.specs.Writers.{AreStored, lines_in};
 
@@ -23,6 +24,7 @@ fn framed(alloc: Global, payload: &[u8], on_stream: bool) -> Result<Vec<u8>, Mem
 
 /// Packs the lines of these lengths, which stand one after another in the bytes: each payload takes lines up to the limit.
 /// After an error some payloads are packed.
+#[tactic(auto, using(crate::proofs::Best::stored_within))]
 pub(crate) fn pack(
     alloc: Global,
     packed: &mut Vec<Vec<u8>>,
@@ -34,6 +36,8 @@ pub(crate) fn pack(
     requires stored { AreStored limit lengths.now bytes.now }
     requires empty { packed.old.items ≡ [] }
     ensures payloads { OnOk result (texts_of packed.new.items ≡ framed_payloads on_stream (payloads_of limit (lines_in lengths.now bytes.now))) }
+    ensures best { IsBestCut (payload_fits limit) (lines_in lengths.now bytes.now) (full_cut (payload_fits limit) (lines_in lengths.now bytes.now)) }
+    ensures within { All (λ payload. length payload ≤ limit) (payloads_of limit (lines_in lengths.now bytes.now)) }
 {
     let mut payload: Vec<u8> = Vec::new(alloc);
     let mut rest = bytes;

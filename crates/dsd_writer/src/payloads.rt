@@ -1,9 +1,10 @@
 //! The payloads of a writer, handed out one after another.
 
-ghost use Rattle.std.specs.Prelude.{◌≡◌, [], ◌∷◌, ⊤, IfNone, IfOk, MatchOption, length};
+ghost use Rattle.std.specs.Prelude.{◌≡◌, ◌≤◌, [], ◌∷◌, ⊤, All, IfNone, IfOk, MatchOption, length};
 ghost use Rattle.std.specs.Borrow.{sem, follows_so};
 ghost use mathlib.Core.Option.{none};
-ghost use Rattle.dsd_writer.specs.Lines.{payloads_of};
+ghost use Rattle.dsd_writer.specs.Cuts.{IsBestCut, full_cut};
+ghost use Rattle.dsd_writer.specs.Lines.{payload_fits, payloads_of};
 ghost use Rattle.dsd_writer.specs.Packing.{framed_payloads};
 ghost use Rattle.dsd_writer.specs.Left.{payloads_left};
 ghost use Rattle.dsd_writer.specs.Writers.{IsEmptied};
@@ -44,6 +45,8 @@ impl PayloadWriter {
     pub fn payloads(&mut self) -> Result<Payloads<'_>, Memory>
         ensures* empties { sem 𝓛 (follows_so the_row the_row self.entry.ghost_name none (λ _ _. ⊤) (λ after. IsEmptied result self.old after)) }
         ensures payloads { IfOk result (λ payloads. payloads_left payloads ≡ framed_payloads self.old.on_stream (payloads_of self.old.limit self.old.lines)) }
+        ensures best { IsBestCut (payload_fits self.old.limit) self.old.lines (full_cut (payload_fits self.old.limit) self.old.lines) }
+        ensures within { All (λ payload. length payload ≤ self.old.limit) (payloads_of self.old.limit self.old.lines) }
     {
         let alloc = *self.packed.allocator();
         self.packed.clear();

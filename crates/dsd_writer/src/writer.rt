@@ -4,7 +4,7 @@ ghost use Rattle.std.specs.Prelude.{◌≡◌, ◌≤◌, [], ◌∷◌, ◌++�
 ghost use Rattle.std.specs.Option.{option_map};
 ghost use Rattle.metrics_core.specs.Numbers.{dogstatsd_number};
 ghost use Rattle.dsd_writer.specs.Items.{type_text};
-ghost use Rattle.dsd_writer.specs.Lines.{lines_of, spelled_values};
+ghost use Rattle.dsd_writer.specs.Lines.{IsBestLines, lines_of, spelled_values};
 ghost use Rattle.dsd_writer.specs.Results.{written_of};
 ghost use Rattle.dsd_writer.specs.Writers.{SameSettings, item_of};
 
@@ -118,6 +118,7 @@ impl PayloadWriter {
     /// Writes the values of a histogram, in order and in the fewest lines within the limit, each with the sample rate where
     /// there is one. A value is left out where a line with this value alone passes the limit. A refused call leaves the
     /// lines as they were.
+    #[tactic(auto, using(crate::proofs::Best::best_lines))]
     pub fn write_histogram(
         &mut self,
         key: &Key,
@@ -128,12 +129,14 @@ impl PayloadWriter {
         ensures settings { SameSettings self.old self.new }
         ensures lines { OnOk result (self.new.lines ≡ self.old.lines ++ lines_of self.old.limit (item_of (codes "h") (option_copied prefix.entry) key.now self.old.global_tags (option_map (λ rate. rate.0) maybe_sample_rate) None) (spelled_values values.now)) }
         ensures written { IfOk result (λ written. written ≡ written_of self.old.limit (item_of (codes "h") (option_copied prefix.entry) key.now self.old.global_tags (option_map (λ rate. rate.0) maybe_sample_rate) None) (spelled_values values.now)) }
+        ensures best { IsBestLines self.old.limit (item_of (codes "h") (option_copied prefix.entry) key.now self.old.global_tags (option_map (λ rate. rate.0) maybe_sample_rate) None) (spelled_values values.now) }
         ensures err { OnErr result (self.new.lines ≡ self.old.lines) }
     {
         self.write_many(LineType::Histogram, key, values, maybe_sample_rate, prefix)
     }
 
     /// Writes the values of a distribution, as [`PayloadWriter::write_histogram`] does those of a histogram.
+    #[tactic(auto, using(crate::proofs::Best::best_lines))]
     pub fn write_distribution(
         &mut self,
         key: &Key,
@@ -144,6 +147,7 @@ impl PayloadWriter {
         ensures settings { SameSettings self.old self.new }
         ensures lines { OnOk result (self.new.lines ≡ self.old.lines ++ lines_of self.old.limit (item_of (codes "d") (option_copied prefix.entry) key.now self.old.global_tags (option_map (λ rate. rate.0) maybe_sample_rate) None) (spelled_values values.now)) }
         ensures written { IfOk result (λ written. written ≡ written_of self.old.limit (item_of (codes "d") (option_copied prefix.entry) key.now self.old.global_tags (option_map (λ rate. rate.0) maybe_sample_rate) None) (spelled_values values.now)) }
+        ensures best { IsBestLines self.old.limit (item_of (codes "d") (option_copied prefix.entry) key.now self.old.global_tags (option_map (λ rate. rate.0) maybe_sample_rate) None) (spelled_values values.now) }
         ensures err { OnErr result (self.new.lines ≡ self.old.lines) }
     {
         self.write_many(

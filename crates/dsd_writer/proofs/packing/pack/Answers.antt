@@ -6,6 +6,7 @@ use Rattle.dsd_writer.specs.Cuts.{joined}
 use Rattle.dsd_writer.specs.Lines.{framed}
 use Rattle.dsd_writer.specs.Packing.{texts_of}
 use Rattle.dsd_writer.specs.Writers.{lines_in}
+use Rattle.dsd_writer.proofs.Best.{stored_best}
 use Rattle.dsd_writer.proofs.Packed.{IsPacking, begun, begins, joins, same_packing, next_line, length_of_line, length-lines_in}
 use Rattle.dsd_writer.proofs.packing.pack.Goals as goal
 use Rattle.dsd_writer.proofs.packing.pack.Goals.{then-len-line+in_ok-framed+in_ok-push, else-len-line}
@@ -86,3 +87,21 @@ loop-line_length-preserved c =
             },
           )
     ]
+
+pub returns-in_err-framed-clause-best : goal.returns-in_err-framed-clause-best
+returns-in_err-framed-clause-best c = stored_best c.args.limit c.args.lengths.now c.args.bytes.now c.requires.stored
+
+pub returns-in_err-push-clause-best : goal.returns-in_err-push-clause-best
+returns-in_err-push-clause-best c = stored_best c.args.limit c.args.lengths.now c.args.bytes.now c.requires.stored
+
+pub returns-in_err-extend_from_slice-clause-best : goal.returns-in_err-extend_from_slice-clause-best
+returns-in_err-extend_from_slice-clause-best c = stored_best c.args.limit c.args.lengths.now c.args.bytes.now c.requires.stored
+
+pub returns-in_err-framed-2-clause-best : goal.returns-in_err-framed-2-clause-best
+returns-in_err-framed-2-clause-best c = stored_best c.args.limit c.args.lengths.now c.args.bytes.now c.requires.stored
+
+pub returns-in_err-push-2-clause-best : goal.returns-in_err-push-2-clause-best
+returns-in_err-push-2-clause-best c = stored_best c.args.limit c.args.lengths.now c.args.bytes.now c.requires.stored
+
+pub returns-clause-best : goal.returns-clause-best
+returns-clause-best c = stored_best c.args.limit c.args.lengths.now c.args.bytes.now c.requires.stored
