@@ -12,7 +12,7 @@ use Rattle.dsd_writer.specs.Lines.{Item, line_of, line_fits, kept_values, payloa
 use Rattle.dsd_writer.specs.Writers.{AreStored, lines_in}
 use Rattle.dsd_writer.proofs.CutLemmas.{full_cut_is}
 use Rattle.dsd_writer.proofs.Fewest.{full_cut_fewest}
-use Rattle.dsd_writer.proofs.Filling.{length-line_of}
+use Rattle.dsd_writer.proofs.Filling.{length-line_of, joined-append}
 use Rattle.dsd_writer.proofs.Stored.{kept_fit}
 
 -- ---- values on lines
@@ -72,3 +72,8 @@ pub stored_within : (limit : ℕ) (lengths bytes : List ℕ) → AreStored limit
 stored_within limit lengths bytes stored =
     let P : List ℕ → Type 0 = λ l. All (λ n. n ≤ limit) l in
     (best_payloads limit (lines_in lengths bytes) (subst P (sym stored.sizes) stored.within)).1
+
+-- runs joined each, and then together
+pub joined_twice : (runs : List (List (List ℕ))) → joined (map joined runs) ≡ joined (joined runs)
+joined_twice [] = refl
+joined_twice (run ∷ runs) = ap (λ rest. joined run ++ rest) (joined_twice runs) ∙ sym (joined-append run (joined runs))

@@ -40,7 +40,7 @@ lines_within limit item values =
     let cut = full_cut_is (line_fits limit item) (kept_values limit item values) (kept_fit limit item values) in
     lines_fit limit item (full_cut (line_fits limit item) (kept_values limit item values)) cut.cut.within
 
-sizes_within : (limit : ℕ) (lines : List (List ℕ)) → All (λ line. length line ≤ limit) lines → All (λ n. n ≤ limit) (map length lines)
+pub sizes_within : (limit : ℕ) (lines : List (List ℕ)) → All (λ line. length line ≤ limit) lines → All (λ n. n ≤ limit) (map length lines)
 sizes_within limit [] within = All-nil (λ (n : ℕ). n ≤ limit)
 sizes_within limit (line ∷ lines) within =
     All-cons (λ (n : ℕ). n ≤ limit) (length line) (map length lines) (All-head (λ (line : List ℕ). length line ≤ limit) line lines within)

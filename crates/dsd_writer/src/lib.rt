@@ -3,6 +3,7 @@
 #![tactic(auto)]
 
 mod items;
+mod laws;
 mod many;
 mod numbers;
 mod packing;
@@ -11,8 +12,13 @@ mod payloads;
 mod points;
 mod results;
 mod room;
+#[cfg(test)]
+mod tests;
 mod writer;
 
+pub use laws::{
+    full_cuts_have_the_fewest_runs, lines_are_within_and_fewest, payloads_are_whole_and_fewest,
+};
 pub use payloads::Payloads;
 pub use results::WriteResult;
 pub use writer::PayloadWriter;
