@@ -22,6 +22,10 @@ module _ {A : Type 0} (fits : List A → Bool) where
         | false ↦ ap (λ r. run ++ r) (whole_behind (x ∷ []) xs)
       ]
 
+  pub full_cut_whole : (xs : List A) → joined (full_cut fits xs) ≡ xs
+  full_cut_whole [] = refl
+  full_cut_whole (x ∷ xs) = whole_behind (x ∷ []) xs
+
   -- a run that x would bring past the limit is full before a cut that begins at x
   full_before : (run : List A) (x : A) (xs : List A) → IsFalse (fits (run ++ x ∷ [])) → AreFull fits (full_cut_behind fits (x ∷ []) xs) → AreFull fits (run ∷ full_cut_behind fits (x ∷ []) xs)
   full_before run x xs past full = by (begins x [] xs)

@@ -3,7 +3,7 @@ use Rattle.std.proofs.Common.{◌≡◌, ℕ, ◌+◌, ◌<◌, ◌≤◌, Bool,
 use Rattle.std.specs.Prelude.{nat_le, not}
 use Rattle.std.proofs.lemmas.Bool.{le-leb, cases_lt}
 use Rattle.std.proofs.lemmas.Bool.Decides.{nat_tests}
-use Rattle.std.proofs.lemmas.List.{append-nil, map_push, take-append-drop}
+use Rattle.std.proofs.lemmas.List.{append-nil, length-map, map-append, map_push, take-append-drop}
 use Rattle.std.proofs.lemmas.List.Concat.{flat_map-append}
 use Rattle.std.proofs.Math.Seq.{take-append_seam}
 use Rattle.dsd_writer.specs.Adding.{AddsValue}
@@ -264,3 +264,85 @@ none_fits limit item (t ∷ values) high =
       ap (λ b. cond b (t ∷ kept_values limit item values) (kept_values limit item values)) fails ∙ rest.0,
       ap (λ b. cond (not b) (t ∷ left_out_values limit item values) (left_out_values limit item values)) fails ∙ ap (λ out. t ∷ out) rest.1,
     )
+
+-- ---- room for what is to come
+
+-- a line is at least as long as with fewer values
+first_line : (limit : ℕ) (item : Item) (run values : List (List ℕ)) → length (line_of item run) ≤ length (joined (map (line_of item) (full_cut_behind (line_fits limit item) run values)))
+first_line limit item run [] = omega (arith, ap length (append-nil (line_of item run)))
+first_line limit item run (t ∷ values) =
+    elim (line_fits limit item (run ++ t ∷ [])) as (λ b. length (line_of item run) ≤ length (joined (map (line_of item) (cond b (full_cut_behind (line_fits limit item) (run ++ t ∷ []) values) (run ∷ full_cut_behind (line_fits limit item) (t ∷ []) values))))) [
+      | true ↦ omega (arith, first_line limit item (run ++ t ∷ []) values, length-line_of item run, length-line_of item (run ++ t ∷ []), length-values_text_push run t)
+      | false ↦ omega (arith, length-append (line_of item run) (joined (map (line_of item) (full_cut_behind (line_fits limit item) (t ∷ []) values))))
+    ]
+
+some_line : (limit : ℕ) (item : Item) (run values : List (List ℕ)) → 0 < length (full_cut_behind (line_fits limit item) run values)
+some_line limit item run [] = omega arith
+some_line limit item run (t ∷ values) =
+    elim (line_fits limit item (run ++ t ∷ [])) as (λ b. 0 < length (cond b (full_cut_behind (line_fits limit item) (run ++ t ∷ []) values) (run ∷ full_cut_behind (line_fits limit item) (t ∷ []) values))) [
+      | true ↦ some_line limit item (run ++ t ∷ []) values
+      | false ↦ omega arith
+    ]
+
+pub record HasRoom (limit : ℕ) (item : Item) (values : List (List ℕ)) (bytes_before bytes lengths_before lengths : List ℕ) : Type 0 where
+  pub for_bytes : length bytes + length (ending_of item) ≤ length bytes_before + length (joined (lines_of limit item values))
+  pub for_lengths : length lengths < length lengths_before + length (lines_of limit item values)
+
+-- with an open line there is room for its end and its length among what is written at the end
+pub room_for_end : (limit : ℕ) (item : Item) (values rest : List (List ℕ)) (bytes_before bytes lengths_before lengths : List ℕ) (used left_out : ℕ) (done : List (List (List ℕ))) (run : List (List ℕ))
+    → IsFilling limit item values rest bytes_before bytes lengths_before lengths used left_out done run → 0 < used → HasRoom limit item values bytes_before bytes lengths_before lengths
+room_for_end limit item values rest bytes_before bytes lengths_before lengths used left_out done [] filling some = absurd (omega (arith, filling.weight))
+room_for_end limit item values rest bytes_before bytes lengths_before lengths used left_out done (r ∷ run) filling some =
+    let behind = full_cut_behind (line_fits limit item) (r ∷ run) (kept_values limit item rest) in
+    let lines = map (line_of item) done in
+    let all : lines_of limit item values ≡ lines ++ map (line_of item) behind = ap (map (line_of item)) (sym filling.to_come) ∙ map-append (line_of item) done behind in
+    let total : length (joined (lines_of limit item values)) ≡ length (joined lines) + length (joined (map (line_of item) behind)) =
+    ap (λ ls. length (joined ls)) all ∙ ap length (joined-append lines (map (line_of item) behind)) ∙ length-append (joined lines) (joined (map (line_of item) behind)) in
+    let first = first_line limit item (r ∷ run) (kept_values limit item rest) in
+    let line = length-append (item.name ++ values_text (r ∷ run)) (ending_of item) in
+    let now = ap length filling.written in
+    let split = length-append (bytes_before ++ joined lines) (item.name ++ values_text (r ∷ run)) in
+    let before = length-append bytes_before (joined lines) in
+    let count = ap length all ∙ length-append lines (map (line_of item) behind) in
+    let some_behind = some_line limit item (r ∷ run) (kept_values limit item rest) in
+    let lengths_now = ap length filling.counted ∙ length-append lengths_before (map length lines) in
+    record {
+      for_bytes = omega (arith, total, first, line, now, split, before);
+      for_lengths = omega (arith, count, some_behind, lengths_now, length-map behind (line_of item), length-map lines (λ (l : List ℕ). length l));
+    }
+
+-- what a value would add
+pub record Addition (item : Item) (room bare used : ℕ) (text bytes lengths : List ℕ) : Type 0 where
+  pub bytes_after : List ℕ
+  pub lengths_after : List ℕ
+  pub used_after : ℕ
+  pub adds : AddsValue item room bare used text bytes bytes_after lengths lengths_after used_after
+  pub some : 0 < used_after
+
+pub addition : (item : Item) (room bare used : ℕ) (text bytes lengths : List ℕ) → Addition item room bare used text bytes lengths
+addition item room bare used text bytes lengths =
+    elim (cases_lt 0 used) [
+      | inl some ↦ elim (cases_lt room (used + (1 + length text))) [
+        | inl high ↦ record {
+          bytes_after = (bytes ++ ending_of item) ++ item.name ++ 58 ∷ text;
+          lengths_after = lengths ++ (bare + used) ∷ [];
+          used_after = 1 + length text;
+          adds = record { first = λ none. absurd (omega arith); fits = λ _ low. absurd (omega arith); past = λ _ _. (refl, refl, refl) };
+          some = omega arith;
+        }
+        | inr low ↦ record {
+          bytes_after = bytes ++ 58 ∷ text;
+          lengths_after = lengths;
+          used_after = used + (1 + length text);
+          adds = record { first = λ none. absurd (omega arith); fits = λ _ _. (refl, refl, refl); past = λ _ high. absurd (omega arith) };
+          some = omega arith;
+        }
+      ]
+      | inr none ↦ record {
+        bytes_after = bytes ++ item.name ++ 58 ∷ text;
+        lengths_after = lengths;
+        used_after = 1 + length text;
+        adds = record { first = λ _. (refl, refl, refl); fits = λ some _. absurd (omega arith); past = λ some _. absurd (omega arith) };
+        some = omega arith;
+      }
+    ]

@@ -1,8 +1,9 @@
 -- What contracts see of a writer of payloads, and how its lines stand in its bytes.
-use Rattle.std.specs.Prelude.{◌≡◌, ℕ, ◌-◌, ◌*◌, ◌≤◌, min, Bool, List, [], ◌∷◌, ◌++◌, length, map, take, drop, All, Option, ℤ, Vec, Result, OnOk, OnErr, vec_len, vec_capacity}
+use Rattle.std.specs.Prelude.{◌≡◌, ℕ, ◌+◌, ◌-◌, ◌*◌, ◌≤◌, min, Bool, List, [], ◌∷◌, ◌++◌, length, map, take, drop, All, Option, ℤ, Vec, Result, IsOk, OnOk, OnErr, vec_len, vec_capacity}
 use Rattle.metrics_core.specs.Keys.{LabelText, KeyText}
 use Rattle.dsd_writer.specs.Cuts.{joined}
-use Rattle.dsd_writer.specs.Lines.{Item, prefixed}
+use Rattle.dsd_writer.specs.Lines.{Item, prefixed, payloads_of}
+use Rattle.dsd_writer.specs.Packing.{framed_payloads}
 
 -- the limit of a payload in bytes, whether each payload is led by its length, the tags that every line has, the lines so
 -- far, and how many bytes can be written without memory
@@ -47,6 +48,20 @@ pub record AreStored (limit : ℕ) (lengths bytes : List ℕ) : Type 0 where
   pub within : All (λ n. n ≤ limit) lengths
   pub short : limit ≤ 4294967295
 
--- room for so many bytes, and for a line of each four of them: no line is shorter
+-- room for so many bytes, and for a line of each three of them: no line is shorter
 abbrev pub room_in : {A : Type 0} → Vec ℕ A → Vec ℕ A → ℕ
-room_in bytes lengths = min (vec_capacity bytes - vec_len bytes) (4 * (vec_capacity lengths - vec_len lengths))
+room_in bytes lengths = min (vec_capacity bytes - vec_len bytes) (3 * (vec_capacity lengths - vec_len lengths))
+
+-- how many bytes the payloads of lines take, the lengths before them included
+abbrev pub stored_bytes : Bool → ℕ → List (List ℕ) → ℕ
+stored_bytes on_stream limit lines = length (joined (framed_payloads on_stream (payloads_of limit lines)))
+
+-- how many bytes further lines add
+abbrev pub added_bytes : WriterText → List (List ℕ) → ℕ
+added_bytes writer lines =
+    stored_bytes writer.on_stream writer.limit (writer.lines ++ lines) - stored_bytes writer.on_stream writer.limit writer.lines
+
+-- a write of lines takes no memory where what it adds is within the spare bytes, and uses up at most what it adds
+pub record IsWithinSpare {T E : Type 0} (result : Result T E) (old new : WriterText) (lines : List (List ℕ)) : Type 0 where
+  pub no_memory : added_bytes old lines ≤ old.spare → IsOk result
+  pub spare : OnOk result (old.spare ≤ new.spare + added_bytes old lines)

@@ -1,6 +1,6 @@
 //! The lines of many values of one series: each line takes values up to the limit, and then the next one begins.
 
-ghost use Rattle.std.specs.Prelude.{◌≡◌, ◌+◌, ◌-◌, ◌^◌, ◌<◌, ◌≤◌, [], ◌∷◌, ◌++◌, IsOk, OnErr, OnOk, IfOk, IfSome, IsNone, ◌↔◌, length, map, take, vec_len, vec_capacity};
+ghost use Rattle.std.specs.Prelude.{◌≡◌, ℕ, List, ◌+◌, ◌-◌, ◌^◌, ◌<◌, ◌≤◌, [], ◌∷◌, ◌++◌, IsOk, OnErr, OnOk, IfOk, IfSome, IsNone, ◌↔◌, length, map, take, vec_len, vec_capacity};
 ghost use Rattle.dsd_writer.specs.Adding.{AddsValue};
 ghost use Rattle.dsd_writer.specs.Cuts.{joined};
 ghost use Rattle.dsd_writer.specs.Results.{written_of};
@@ -133,6 +133,8 @@ fn add_value(
     ensures kept_lengths { take (length lengths.old.items) lengths.new.items ≡ lengths.old.items }
     ensures bytes_capacity { vec_capacity bytes.old ≤ vec_capacity bytes.new }
     ensures lengths_capacity { vec_capacity lengths.old ≤ vec_capacity lengths.new }
+    ensures no_memory { (bytes_after lengths_after : List ℕ) (used_after : ℕ) → AddsValue item.now frame.room frame.bare used text.now bytes.old.items bytes_after lengths.old.items lengths_after used_after
+        → length bytes_after + frame.ending ≤ vec_capacity bytes.old → length lengths_after < vec_capacity lengths.old → IsOk result }
 {
     let taken = 1 + text.len();
     if used == 0 {
@@ -165,6 +167,8 @@ fn fill(
     ensures kept_lengths { take (length lengths.old.items) lengths.new.items ≡ lengths.old.items }
     ensures bytes_capacity { vec_capacity bytes.old ≤ vec_capacity bytes.new }
     ensures lengths_capacity { vec_capacity lengths.old ≤ vec_capacity lengths.new }
+    ensures no_memory { vec_len bytes.old + length (joined (lines_of limit item.now (spelled_values values.now))) ≤ vec_capacity bytes.old
+        → vec_len lengths.old + length (lines_of limit item.now (spelled_values values.now)) ≤ vec_capacity lengths.old → IsOk result }
 {
     let Some(frame) = frame_of(limit, item) else {
         return Ok(values.len() as u64);
@@ -203,6 +207,8 @@ pub(crate) fn write_points(
     ensures err_lengths { OnErr result (lengths.new.items ≡ lengths.old.items) }
     ensures bytes_capacity { vec_capacity bytes.old ≤ vec_capacity bytes.new }
     ensures lengths_capacity { vec_capacity lengths.old ≤ vec_capacity lengths.new }
+    ensures no_memory { vec_len bytes.old + length (joined (lines_of limit item.now (spelled_values values.now))) ≤ vec_capacity bytes.old
+        → vec_len lengths.old + length (lines_of limit item.now (spelled_values values.now)) ≤ vec_capacity lengths.old → IsOk result }
 {
     let end = bytes.len();
     let count = lengths.len();
