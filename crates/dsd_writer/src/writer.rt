@@ -6,7 +6,7 @@ ghost use Rattle.metrics_core.specs.Numbers.{dogstatsd_number};
 ghost use Rattle.dsd_writer.specs.Items.{type_text};
 ghost use Rattle.dsd_writer.specs.Lines.{IsBestLines, lines_of, spelled_values};
 ghost use Rattle.dsd_writer.specs.Results.{written_of};
-ghost use Rattle.dsd_writer.specs.Writers.{SameSettings, item_of};
+ghost use Rattle.dsd_writer.specs.Writers.{IsWithinSpare, SameSettings, item_of};
 
 use crate::WriteResult;
 use crate::items::{Item, LineType};
@@ -76,6 +76,18 @@ impl PayloadWriter {
         }
     }
 
+    /// Makes room, so that the next writes that add no more than so many bytes, those before payloads included, take no memory.
+    pub fn reserve(&mut self, bytes: usize) -> Result<(), Memory>
+        ensures settings { SameSettings self.old self.new }
+        ensures lines { self.new.lines ≡ self.old.lines }
+        ensures spare { OnOk result (bytes ≤ self.new.spare) }
+        ensures kept { self.old.spare ≤ self.new.spare }
+    {
+        self.bytes.reserve(bytes)?;
+        self.lengths.reserve(bytes / 3 + 1)?;
+        Ok(())
+    }
+
     /// Writes the value of a counter, with a timestamp in seconds where there is one, under the name behind the prefix and a
     /// point, where there is one. It is one line, or left out where the line passes the limit. A refused call leaves the
     /// lines as they were.
@@ -90,6 +102,7 @@ impl PayloadWriter {
         ensures lines { OnOk result (self.new.lines ≡ self.old.lines ++ lines_of self.old.limit (item_of (codes "c") (option_copied prefix.entry) key.now self.old.global_tags None timestamp) (decimal value ∷ [])) }
         ensures written { IfOk result (λ written. written ≡ written_of self.old.limit (item_of (codes "c") (option_copied prefix.entry) key.now self.old.global_tags None timestamp) (decimal value ∷ [])) }
         ensures err { OnErr result (self.new.lines ≡ self.old.lines) }
+        ensures spare { IsWithinSpare result self.old self.new (lines_of self.old.limit (item_of (codes "c") (option_copied prefix.entry) key.now self.old.global_tags None timestamp) (decimal value ∷ [])) }
     {
         let mut digits = Buffer::new();
         let text = NumberText::of_count(&mut digits, value);
@@ -108,6 +121,7 @@ impl PayloadWriter {
         ensures lines { OnOk result (self.new.lines ≡ self.old.lines ++ lines_of self.old.limit (item_of (codes "g") (option_copied prefix.entry) key.now self.old.global_tags None timestamp) (dogstatsd_number value.0 ∷ [])) }
         ensures written { IfOk result (λ written. written ≡ written_of self.old.limit (item_of (codes "g") (option_copied prefix.entry) key.now self.old.global_tags None timestamp) (dogstatsd_number value.0 ∷ [])) }
         ensures err { OnErr result (self.new.lines ≡ self.old.lines) }
+        ensures spare { IsWithinSpare result self.old self.new (lines_of self.old.limit (item_of (codes "g") (option_copied prefix.entry) key.now self.old.global_tags None timestamp) (dogstatsd_number value.0 ∷ [])) }
     {
         let mut whole = Buffer::new();
         let mut fraction = Buffer::new();
@@ -131,6 +145,7 @@ impl PayloadWriter {
         ensures written { IfOk result (λ written. written ≡ written_of self.old.limit (item_of (codes "h") (option_copied prefix.entry) key.now self.old.global_tags (option_map (λ rate. rate.0) maybe_sample_rate) None) (spelled_values values.now)) }
         ensures best { IsBestLines self.old.limit (item_of (codes "h") (option_copied prefix.entry) key.now self.old.global_tags (option_map (λ rate. rate.0) maybe_sample_rate) None) (spelled_values values.now) }
         ensures err { OnErr result (self.new.lines ≡ self.old.lines) }
+        ensures spare { IsWithinSpare result self.old self.new (lines_of self.old.limit (item_of (codes "h") (option_copied prefix.entry) key.now self.old.global_tags (option_map (λ rate. rate.0) maybe_sample_rate) None) (spelled_values values.now)) }
     {
         self.write_many(LineType::Histogram, key, values, maybe_sample_rate, prefix)
     }
@@ -149,6 +164,7 @@ impl PayloadWriter {
         ensures written { IfOk result (λ written. written ≡ written_of self.old.limit (item_of (codes "d") (option_copied prefix.entry) key.now self.old.global_tags (option_map (λ rate. rate.0) maybe_sample_rate) None) (spelled_values values.now)) }
         ensures best { IsBestLines self.old.limit (item_of (codes "d") (option_copied prefix.entry) key.now self.old.global_tags (option_map (λ rate. rate.0) maybe_sample_rate) None) (spelled_values values.now) }
         ensures err { OnErr result (self.new.lines ≡ self.old.lines) }
+        ensures spare { IsWithinSpare result self.old self.new (lines_of self.old.limit (item_of (codes "d") (option_copied prefix.entry) key.now self.old.global_tags (option_map (λ rate. rate.0) maybe_sample_rate) None) (spelled_values values.now)) }
     {
         self.write_many(
             LineType::Distribution,
@@ -172,6 +188,7 @@ impl PayloadWriter {
         ensures lines { OnOk result (self.new.lines ≡ self.old.lines ++ lines_of self.old.limit (item_of (type_text line_type) (option_copied prefix.entry) key.now self.old.global_tags None timestamp) (text.now ∷ [])) }
         ensures written { IfOk result (λ written. written ≡ written_of self.old.limit (item_of (type_text line_type) (option_copied prefix.entry) key.now self.old.global_tags None timestamp) (text.now ∷ [])) }
         ensures err { OnErr result (self.new.lines ≡ self.old.lines) }
+        ensures spare { IsWithinSpare result self.old self.new (lines_of self.old.limit (item_of (type_text line_type) (option_copied prefix.entry) key.now self.old.global_tags None timestamp) (text.now ∷ [])) }
     {
         let item = Item::new(line_type, prefix, key, self.global_tags.as_slice()).at(timestamp);
         write_point(&mut self.bytes, &mut self.lengths, self.limit, &item, text)
@@ -190,6 +207,7 @@ impl PayloadWriter {
         ensures lines { OnOk result (self.new.lines ≡ self.old.lines ++ lines_of self.old.limit (item_of (type_text line_type) (option_copied prefix.entry) key.now self.old.global_tags (option_map (λ rate. rate.0) rate) None) (spelled_values values.now)) }
         ensures written { IfOk result (λ written. written ≡ written_of self.old.limit (item_of (type_text line_type) (option_copied prefix.entry) key.now self.old.global_tags (option_map (λ rate. rate.0) rate) None) (spelled_values values.now)) }
         ensures err { OnErr result (self.new.lines ≡ self.old.lines) }
+        ensures spare { IsWithinSpare result self.old self.new (lines_of self.old.limit (item_of (type_text line_type) (option_copied prefix.entry) key.now self.old.global_tags (option_map (λ rate. rate.0) rate) None) (spelled_values values.now)) }
     {
         let item = Item::new(line_type, prefix, key, self.global_tags.as_slice()).sampled(rate);
         write_points(
