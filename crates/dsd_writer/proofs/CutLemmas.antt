@@ -2,7 +2,7 @@
 use Rattle.std.proofs.Common.{◌≡◌, List, [], ◌∷◌, ◌++◌, length, refl, sym, ap, ◌∙◌, arith, ◌<◌, subst, Bool, true, false, cond, append_assoc, length-append}
 use Rattle.std.specs.Prelude.{All, IsTrue, IsFalse}
 use Rattle.std.proofs.lemmas.List.Elements.{All-head, All-tail, All-cons, All-nil}
-use Rattle.dsd_writer.specs.Cuts.{joined, AreFull, IsCut, IsFullCut, full_cut_behind, full_cut}
+use Rattle.dsd_writer.specs.Cuts.{joined, AreFull, IsFullCut, full_cut_behind, full_cut}
 
 module _ {A : Type 0} (fits : List A → Bool) where
   -- the first run of a cut behind a run begins as that run does

@@ -1,12 +1,12 @@
 -- The digits of a fraction of billionths: with a one in front, and without the zeros at the end.
 use Rattle.std.proofs.Common.{◌≡◌, ℕ, ◌+◌, ◌-◌, ◌*◌, ◌/◌, ◌%◌, ◌^◌, ◌<◌, ◌≤◌, List, [], ◌∷◌, ◌++◌, length, drop, replicate, refl, sym, ap, ◌∙◌, arith, append_assoc, inl, inr, ◌⊎◌, ◌≢◌}
-use Rattle.std.specs.Prelude.{decimal, if◌then◌else◌, Some, None}
+use Rattle.std.specs.Prelude.{decimal, Some, None}
 use Rattle.std.specs.Char.{encode_utf8}
 use Rattle.std.specs.Str.Pattern.{IsTrimEndMatches, CutsSuffixes, IsFullyTrimmed, FindsCharSuffix}
 use Rattle.std.proofs.lemmas.Bool.{cases_lt}
 use Rattle.std.proofs.lemmas.Bool.Decides.{nat_tests}
 use Rattle.std.proofs.lemmas.Fmt.{decimal_digit, decimal_step}
-use Rattle.std.proofs.lemmas.List.{replicate_more, append-nil, drop_all, take-append-drop, length_push}
+use Rattle.std.proofs.lemmas.List.{replicate_more, drop_all, take-append-drop, length_push}
 use Rattle.metrics_core.specs.Numbers.{padded, without_trailing_zeros, before_zeros, fraction_text}
 
 -- ---- a one in front keeps the zeros behind it

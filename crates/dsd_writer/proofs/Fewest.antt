@@ -1,8 +1,8 @@
 -- A full cut has the fewest runs: at each element it has begun no more runs than any other cut, and where it has begun as
 -- many, its last run so far is no heavier.
-use Rattle.std.proofs.Common.{◌≡◌, ℕ, ◌+◌, ◌<◌, ◌≤◌, Bool, true, false, cond, List, [], ◌∷◌, ◌++◌, length, refl, sym, ap, ◌∙◌, arith, subst}
-use Rattle.std.specs.Prelude.{All, IsTrue, nat_le, sum_by}
-use Rattle.std.proofs.lemmas.Bool.{leb-true, le-leb, false≢true}
+use Rattle.std.proofs.Common.{◌≡◌, ℕ, ◌+◌, ◌<◌, ◌≤◌, Bool, true, false, cond, List, [], ◌∷◌, ◌++◌, length, sym, ap, ◌∙◌, arith, subst}
+use Rattle.std.specs.Prelude.{All, IsTrue, sum_by}
+use Rattle.std.proofs.lemmas.Bool.{leb-true, le-leb}
 use Rattle.std.proofs.lemmas.List.Sums.{sum_by-append}
 use Rattle.std.proofs.lemmas.List.Elements.{All-head, All-tail}
 use Rattle.dsd_writer.specs.Cuts.{joined, IsCut, IsByWeight, IsFewest, full_cut_behind, full_cut}

@@ -1,14 +1,13 @@
 -- How many bytes further lines add to payloads, and that room for them is enough.
-use Rattle.std.proofs.Common.{◌≡◌, ℕ, ◌+◌, ◌-◌, ◌*◌, ◌<◌, ◌≤◌, Bool, true, false, cond, List, [], ◌∷◌, ◌++◌, length, map, refl, sym, ap, ◌∙◌, arith, append_assoc, length-append}
+use Rattle.std.proofs.Common.{◌≡◌, ℕ, ◌+◌, ◌-◌, ◌*◌, ◌<◌, ◌≤◌, Bool, true, false, cond, List, [], ◌∷◌, ◌++◌, length, map, refl, ap, ◌∙◌, arith, length-append}
 use Rattle.std.specs.Prelude.{All, IsOk, OnOk, Result, Ok, Err, Vec, vec_len, vec_capacity}
-use Rattle.std.specs.Int.{w32, to_le_bytes}
-use Rattle.std.proofs.lemmas.List.{append-nil, length-map}
+use Rattle.std.proofs.lemmas.List.{length-map}
 use Rattle.std.proofs.lemmas.List.Elements.{All-head, All-tail}
 use Rattle.metrics_core.specs.Characters.{newline}
 use Rattle.dsd_writer.specs.Cuts.{joined, full_cut, full_cut_behind}
 use Rattle.dsd_writer.specs.Lines.{Item, ending_of, framed, kept_values, line_fits, line_of, lines_of, payload_fits, payloads_of, rate_text, tags_text, timestamp_text, values_text}
 use Rattle.dsd_writer.specs.Packing.{framed_payloads}
-use Rattle.dsd_writer.specs.Writers.{IsWithinSpare, WriterText, added_bytes, room_in, stored_bytes}
+use Rattle.dsd_writer.specs.Writers.{IsWithinSpare, WriterText, room_in, stored_bytes}
 use Rattle.dsd_writer.proofs.Best.{best_lines, joined_twice}
 use Rattle.dsd_writer.proofs.CutLemmas.{full_cut_whole}
 use Rattle.dsd_writer.proofs.Filling.{joined-append}

@@ -1,5 +1,5 @@
 -- What a write answers.
-use Rattle.std.specs.Prelude.{◌≡◌, ℕ, List, length}
+use Rattle.std.specs.Prelude.{ℕ, List, length}
 use Rattle.dsd_writer.specs.Lines.{Item, lines_of, left_out_values}
 
 -- how many lines were written, and how many points were left out

@@ -17,7 +17,7 @@ unfolding digits
 tagged_counter = refl
 
 -- a tag without value
-pub bare_tag : line_of (record (counter (codes "p.c")) { tags = label (codes "e") [] ∷ []; timestamp = Some 2 }) (decimal 1 ∷ []) ≡ codes "p.c:1|c|#e|T2\n"
+pub bare_tag : line_of (record (counter (codes "p.c")) { tags = label (codes "e") [] ∷ []; timestamp = Some 2500000 }) (decimal 1 ∷ []) ≡ codes "p.c:1|c|#e|T2500000\n"
 unfolding digits
 bare_tag = refl
 

@@ -1,4 +1,4 @@
-use Rattle.std.proofs.Common.{◌≡◌, ℕ, ◌+◌, ◌∷◌, List, subst, [], ◌++◌, append_assoc, sym, ap, ◌∙◌, arith, length, map, drop, refl}
+use Rattle.std.proofs.Common.{◌≡◌, ℕ, ◌+◌, ◌∷◌, List, subst, [], ◌++◌, sym, ap, ◌∙◌, arith, length, map, drop, refl}
 use Rattle.std.proofs.lemmas.List.{append-nil, drop_all, length-map, at_drop_more}
 use Rattle.std.specs.Prelude.{pos}
 use Rattle.metrics_core.specs.declared.numbers.Fixed.{Fixed as FixedOf}

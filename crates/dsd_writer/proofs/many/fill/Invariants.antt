@@ -1,4 +1,4 @@
-use Rattle.std.proofs.Common.{◌≡◌, ℕ, ◌+◌, ◌<◌, ◌≤◌, List, drop, length, vec_len, vec_capacity}
+use Rattle.std.proofs.Common.{ℕ, ◌+◌, ◌<◌, ◌≤◌, List, drop, length, vec_len, vec_capacity}
 use Rattle.dsd_writer.specs.Lines.{ending_of, spelled_values}
 use Rattle.dsd_writer.proofs.Filling.{IsFilling}
 use Rattle.dsd_writer.proofs.many.fill.Given as goal

@@ -1,4 +1,4 @@
-use Rattle.std.proofs.Common.{◌≡◌, ℕ, ◌<◌, ◌≤◌, List, drop, length}
+use Rattle.std.proofs.Common.{ℕ, ◌<◌, ◌≤◌, List, drop, length}
 use Rattle.dsd_writer.specs.Packing.{texts_of}
 use Rattle.dsd_writer.specs.Writers.{lines_in}
 use Rattle.dsd_writer.proofs.Packed.{IsPacking}

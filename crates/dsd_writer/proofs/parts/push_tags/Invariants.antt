@@ -1,4 +1,4 @@
-use Rattle.std.proofs.Common.{◌≡◌, ◌≤◌, ◌++◌, drop, vec_len, vec_capacity, length}
+use Rattle.std.proofs.Common.{◌≡◌, ◌≤◌, ◌++◌, drop, vec_capacity}
 use denote.Shadow.{shadow}
 use denote.Text.{Utf8}
 use Rattle.dsd_writer.specs.Lines.{tags_behind}

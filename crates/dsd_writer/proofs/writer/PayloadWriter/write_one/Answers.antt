@@ -1,11 +1,8 @@
 use Rattle.std.proofs.Common.{ℕ, List, refl, sym, subst, ◌≡◌, [], ◌∷◌, ◌++◌, ap, ◌∙◌, None}
 use Rattle.std.specs.Prelude.{option_copied}
-use Rattle.std.specs.Option.{option_map}
-use Rattle.std.proofs.lemmas.Result.{on_ok_weaker, on_err_weaker, IfOk-weaker}
-use Rattle.metrics_core.specs.declared.numbers.Fixed.{Fixed as FixedOf}
+use Rattle.std.proofs.lemmas.Result.{on_ok_weaker}
 use Rattle.dsd_writer.specs.Items.{type_text}
-use Rattle.dsd_writer.specs.Lines.{Item, lines_of, spelled_values}
-use Rattle.dsd_writer.specs.Results.{written_of}
+use Rattle.dsd_writer.specs.Lines.{Item, lines_of}
 use Rattle.dsd_writer.specs.Writers.{WriterText, item_of}
 use Rattle.dsd_writer.proofs.Spare.{UsesRoom, within_spare}
 use Rattle.dsd_writer.proofs.Stored.{written_after}
