@@ -57,6 +57,7 @@ fn tags_of_the_series_stand_before_global_ones(rt: HostRuntime) -> Result<(), Fa
 fn a_gauge_has_a_fraction(rt: HostRuntime) -> Result<(), Fail> {
     let alloc = rt.alloc();
     let mut writer = PayloadWriter::new(alloc, 1432, false);
+    writer.reserve(29)?;
     let key = Key::from_static_name("test_gauge");
     writer.write_gauge(&key, Fixed(1967_000_000_000), Some(345678), None)?;
     assert_eq!(rt;
