@@ -1,0 +1,10 @@
+pub mod Cuts
+pub mod Lines
+pub mod Writers
+pub mod Packing
+pub mod Left
+pub mod Items
+pub mod Adding
+pub mod Rooms
+pub mod Results
+pub mod Vectors

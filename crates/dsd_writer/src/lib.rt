@@ -1,0 +1,24 @@
+//! DogStatsD lines and payloads (DogStatsD datagrams, protocol 1.3): the lines of series, packed within a limit of bytes
+//! into the fewest lines and payloads that keep their order.
+#![tactic(auto)]
+
+mod items;
+mod laws;
+mod many;
+mod numbers;
+mod packing;
+mod parts;
+mod payloads;
+mod points;
+mod results;
+mod room;
+#[cfg(test)]
+mod tests;
+mod writer;
+
+pub use laws::{
+    full_cuts_have_the_fewest_runs, lines_are_within_and_fewest, payloads_are_whole_and_fewest,
+};
+pub use payloads::Payloads;
+pub use results::WriteResult;
+pub use writer::PayloadWriter;

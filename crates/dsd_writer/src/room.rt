@@ -1,0 +1,21 @@
+//! Bytes behind one another in room that is there, and how they use up a limit.
+
+ghost use Rattle.std.specs.Prelude.{◌≡◌, ◌+◌, ◌≤◌, ◌++◌, length, vec_len, vec_capacity};
+ghost use Rattle.dsd_writer.specs.Rooms.{Leaves};
+
+/// Appends a text for which there is room.
+pub(crate) fn push(bytes: &mut Vec<u8>, text: &str)
+    requires { vec_len bytes.old + length text.now ≤ vec_capacity bytes.old }
+    ensures items { bytes.new.items ≡ bytes.old.items ++ text.now }
+    ensures len { vec_len bytes.new ≡ vec_len bytes.old + length text.now }
+    ensures capacity { vec_capacity bytes.old ≤ vec_capacity bytes.new }
+{
+    let _ = bytes.extend_from_slice(text.as_bytes());
+}
+
+/// What is left of a room after a text, where it fits.
+pub(crate) fn behind(room: u64, text: &str) -> Option<u64>
+    ensures { Leaves result room (length text.now) }
+{
+    room.checked_sub(text.len() as u64)
+}

@@ -1,0 +1,221 @@
+//! The writer of payloads: points become lines, and lines are kept until their payloads are asked for.
+
+ghost use Rattle.std.specs.Prelude.{◌≡◌, ◌≤◌, [], ◌∷◌, ◌++◌, codes, decimal, IfOk, OnErr, OnOk, None, option_copied};
+ghost use Rattle.std.specs.Option.{option_map};
+ghost use Rattle.metrics_core.specs.Numbers.{dogstatsd_number};
+ghost use Rattle.dsd_writer.specs.Items.{type_text};
+ghost use Rattle.dsd_writer.specs.Lines.{IsBestLines, lines_of, spelled_values};
+ghost use Rattle.dsd_writer.specs.Results.{written_of};
+ghost use Rattle.dsd_writer.specs.Writers.{IsWithinSpare, SameSettings, item_of};
+
+use crate::WriteResult;
+use crate::items::{Item, LineType};
+use crate::many::write_points;
+use crate::numbers::NumberText;
+use crate::points::write_point;
+use itoa::Buffer;
+use metrics_core::{Fixed, Key, Label, Memory};
+use std::alloc::Global;
+use std::marker::Model;
+
+/// Makes lines of points, and packs them into payloads. A contract sees its settings and the lines so far.
+#[derive(Drop)]
+pub struct PayloadWriter {
+    pub(crate) limit: u64,
+    pub(crate) on_stream: bool,
+    pub(crate) global_tags: Vec<Label>,
+    pub(crate) bytes: Vec<u8>,
+    pub(crate) lengths: Vec<u32>,
+    pub(crate) packed: Vec<Vec<u8>>,
+}
+
+impl Model for PayloadWriter {
+    ghost use Rattle.dsd_writer.specs.Writers.{WriterText, AreStored, lines_in, room_in};
+
+    ghost Value = { WriterText };
+
+    ghost view = { λ writer. record {
+      limit = writer.limit;
+      on_stream = writer.on_stream;
+      global_tags = writer.global_tags.items;
+      lines = lines_in writer.lengths.items writer.bytes.items;
+      spare = room_in writer.bytes writer.lengths;
+    } };
+
+    ghost invariant = { λ writer. AreStored writer.limit writer.lengths.items writer.bytes.items };
+}
+
+impl PayloadWriter {
+    /// A writer without lines. A payload has at most `max_payload_len` bytes; on a stream (`with_length_prefix`) it is led by
+    /// its length in four bytes, little-endian, which doesn't count. It takes no memory.
+    pub fn new(alloc: Global, max_payload_len: u64, with_length_prefix: bool) -> PayloadWriter
+        requires least { 6 ≤ max_payload_len }
+        requires most { max_payload_len ≤ 4294967295 }
+        ensures limit { result.limit ≡ max_payload_len }
+        ensures on_stream { result.on_stream ≡ with_length_prefix }
+        ensures tags { result.global_tags ≡ [] }
+        ensures lines { result.lines ≡ [] }
+    {
+        PayloadWriter {
+            limit: max_payload_len,
+            on_stream: with_length_prefix,
+            global_tags: Vec::new(alloc),
+            bytes: Vec::new(alloc),
+            lengths: Vec::new(alloc),
+            packed: Vec::new(alloc),
+        }
+    }
+
+    /// The writer with these labels as tags of every line to come, behind those of the series.
+    pub fn with_global_labels(self, labels: Vec<Label>) -> PayloadWriter
+        ensures tags { result ≡ record self { global_tags = labels.items } }
+    {
+        PayloadWriter {
+            global_tags: labels,
+            ..self
+        }
+    }
+
+    /// Makes room, so that the next writes that add no more than so many bytes, those before payloads included, take no memory.
+    pub fn reserve(&mut self, bytes: usize) -> Result<(), Memory>
+        ensures settings { SameSettings self.old self.new }
+        ensures lines { self.new.lines ≡ self.old.lines }
+        ensures spare { OnOk result (bytes ≤ self.new.spare) }
+        ensures kept { self.old.spare ≤ self.new.spare }
+    {
+        self.bytes.reserve(bytes)?;
+        self.lengths.reserve(bytes / 3 + 1)?;
+        Ok(())
+    }
+
+    /// Writes the value of a counter, with a timestamp in seconds where there is one, under the name behind the prefix and a
+    /// point, where there is one. It is one line, or left out where the line passes the limit. A refused call leaves the
+    /// lines as they were.
+    pub fn write_counter(
+        &mut self,
+        key: &Key,
+        value: u64,
+        timestamp: Option<u64>,
+        prefix: Option<&str>,
+    ) -> Result<WriteResult, Memory>
+        ensures settings { SameSettings self.old self.new }
+        ensures lines { OnOk result (self.new.lines ≡ self.old.lines ++ lines_of self.old.limit (item_of (codes "c") (option_copied prefix.entry) key.now self.old.global_tags None timestamp) (decimal value ∷ [])) }
+        ensures written { IfOk result (λ written. written ≡ written_of self.old.limit (item_of (codes "c") (option_copied prefix.entry) key.now self.old.global_tags None timestamp) (decimal value ∷ [])) }
+        ensures err { OnErr result (self.new.lines ≡ self.old.lines) }
+        ensures spare { IsWithinSpare result self.old self.new (lines_of self.old.limit (item_of (codes "c") (option_copied prefix.entry) key.now self.old.global_tags None timestamp) (decimal value ∷ [])) }
+    {
+        let mut digits = Buffer::new();
+        let text = NumberText::of_count(&mut digits, value);
+        self.write_one(LineType::Counter, key, timestamp, prefix, &text)
+    }
+
+    /// Writes the value of a gauge, as [`PayloadWriter::write_counter`] does that of a counter.
+    pub fn write_gauge(
+        &mut self,
+        key: &Key,
+        value: Fixed,
+        timestamp: Option<u64>,
+        prefix: Option<&str>,
+    ) -> Result<WriteResult, Memory>
+        ensures settings { SameSettings self.old self.new }
+        ensures lines { OnOk result (self.new.lines ≡ self.old.lines ++ lines_of self.old.limit (item_of (codes "g") (option_copied prefix.entry) key.now self.old.global_tags None timestamp) (dogstatsd_number value.0 ∷ [])) }
+        ensures written { IfOk result (λ written. written ≡ written_of self.old.limit (item_of (codes "g") (option_copied prefix.entry) key.now self.old.global_tags None timestamp) (dogstatsd_number value.0 ∷ [])) }
+        ensures err { OnErr result (self.new.lines ≡ self.old.lines) }
+        ensures spare { IsWithinSpare result self.old self.new (lines_of self.old.limit (item_of (codes "g") (option_copied prefix.entry) key.now self.old.global_tags None timestamp) (dogstatsd_number value.0 ∷ [])) }
+    {
+        let mut whole = Buffer::new();
+        let mut fraction = Buffer::new();
+        let text = NumberText::of_value(&mut whole, &mut fraction, value);
+        self.write_one(LineType::Gauge, key, timestamp, prefix, &text)
+    }
+
+    /// Writes the values of a histogram, in order and in the fewest lines within the limit, each with the sample rate where
+    /// there is one. A value is left out where a line with this value alone passes the limit. A refused call leaves the
+    /// lines as they were.
+    #[tactic(auto, using(crate::proofs::Best::best_lines))]
+    pub fn write_histogram(
+        &mut self,
+        key: &Key,
+        values: &[Fixed],
+        maybe_sample_rate: Option<Fixed>,
+        prefix: Option<&str>,
+    ) -> Result<WriteResult, Memory>
+        ensures settings { SameSettings self.old self.new }
+        ensures lines { OnOk result (self.new.lines ≡ self.old.lines ++ lines_of self.old.limit (item_of (codes "h") (option_copied prefix.entry) key.now self.old.global_tags (option_map (λ rate. rate.0) maybe_sample_rate) None) (spelled_values values.now)) }
+        ensures written { IfOk result (λ written. written ≡ written_of self.old.limit (item_of (codes "h") (option_copied prefix.entry) key.now self.old.global_tags (option_map (λ rate. rate.0) maybe_sample_rate) None) (spelled_values values.now)) }
+        ensures best { IsBestLines self.old.limit (item_of (codes "h") (option_copied prefix.entry) key.now self.old.global_tags (option_map (λ rate. rate.0) maybe_sample_rate) None) (spelled_values values.now) }
+        ensures err { OnErr result (self.new.lines ≡ self.old.lines) }
+        ensures spare { IsWithinSpare result self.old self.new (lines_of self.old.limit (item_of (codes "h") (option_copied prefix.entry) key.now self.old.global_tags (option_map (λ rate. rate.0) maybe_sample_rate) None) (spelled_values values.now)) }
+    {
+        self.write_many(LineType::Histogram, key, values, maybe_sample_rate, prefix)
+    }
+
+    /// Writes the values of a distribution, as [`PayloadWriter::write_histogram`] does those of a histogram.
+    #[tactic(auto, using(crate::proofs::Best::best_lines))]
+    pub fn write_distribution(
+        &mut self,
+        key: &Key,
+        values: &[Fixed],
+        maybe_sample_rate: Option<Fixed>,
+        prefix: Option<&str>,
+    ) -> Result<WriteResult, Memory>
+        ensures settings { SameSettings self.old self.new }
+        ensures lines { OnOk result (self.new.lines ≡ self.old.lines ++ lines_of self.old.limit (item_of (codes "d") (option_copied prefix.entry) key.now self.old.global_tags (option_map (λ rate. rate.0) maybe_sample_rate) None) (spelled_values values.now)) }
+        ensures written { IfOk result (λ written. written ≡ written_of self.old.limit (item_of (codes "d") (option_copied prefix.entry) key.now self.old.global_tags (option_map (λ rate. rate.0) maybe_sample_rate) None) (spelled_values values.now)) }
+        ensures best { IsBestLines self.old.limit (item_of (codes "d") (option_copied prefix.entry) key.now self.old.global_tags (option_map (λ rate. rate.0) maybe_sample_rate) None) (spelled_values values.now) }
+        ensures err { OnErr result (self.new.lines ≡ self.old.lines) }
+        ensures spare { IsWithinSpare result self.old self.new (lines_of self.old.limit (item_of (codes "d") (option_copied prefix.entry) key.now self.old.global_tags (option_map (λ rate. rate.0) maybe_sample_rate) None) (spelled_values values.now)) }
+    {
+        self.write_many(
+            LineType::Distribution,
+            key,
+            values,
+            maybe_sample_rate,
+            prefix,
+        )
+    }
+
+    /// Writes one number.
+    fn write_one(
+        &mut self,
+        line_type: LineType,
+        key: &Key,
+        timestamp: Option<u64>,
+        prefix: Option<&str>,
+        text: &NumberText<'_>,
+    ) -> Result<WriteResult, Memory>
+        ensures settings { SameSettings self.old self.new }
+        ensures lines { OnOk result (self.new.lines ≡ self.old.lines ++ lines_of self.old.limit (item_of (type_text line_type) (option_copied prefix.entry) key.now self.old.global_tags None timestamp) (text.now ∷ [])) }
+        ensures written { IfOk result (λ written. written ≡ written_of self.old.limit (item_of (type_text line_type) (option_copied prefix.entry) key.now self.old.global_tags None timestamp) (text.now ∷ [])) }
+        ensures err { OnErr result (self.new.lines ≡ self.old.lines) }
+        ensures spare { IsWithinSpare result self.old self.new (lines_of self.old.limit (item_of (type_text line_type) (option_copied prefix.entry) key.now self.old.global_tags None timestamp) (text.now ∷ [])) }
+    {
+        let item = Item::new(line_type, prefix, key, self.global_tags.as_slice()).at(timestamp);
+        write_point(&mut self.bytes, &mut self.lengths, self.limit, &item, text)
+    }
+
+    /// Writes many values.
+    fn write_many(
+        &mut self,
+        line_type: LineType,
+        key: &Key,
+        values: &[Fixed],
+        rate: Option<Fixed>,
+        prefix: Option<&str>,
+    ) -> Result<WriteResult, Memory>
+        ensures settings { SameSettings self.old self.new }
+        ensures lines { OnOk result (self.new.lines ≡ self.old.lines ++ lines_of self.old.limit (item_of (type_text line_type) (option_copied prefix.entry) key.now self.old.global_tags (option_map (λ rate. rate.0) rate) None) (spelled_values values.now)) }
+        ensures written { IfOk result (λ written. written ≡ written_of self.old.limit (item_of (type_text line_type) (option_copied prefix.entry) key.now self.old.global_tags (option_map (λ rate. rate.0) rate) None) (spelled_values values.now)) }
+        ensures err { OnErr result (self.new.lines ≡ self.old.lines) }
+        ensures spare { IsWithinSpare result self.old self.new (lines_of self.old.limit (item_of (type_text line_type) (option_copied prefix.entry) key.now self.old.global_tags (option_map (λ rate. rate.0) rate) None) (spelled_values values.now)) }
+    {
+        let item = Item::new(line_type, prefix, key, self.global_tags.as_slice()).sampled(rate);
+        write_points(
+            &mut self.bytes,
+            &mut self.lengths,
+            self.limit,
+            &item,
+            values,
+        )
+    }
+}
