@@ -6,3 +6,4 @@ pub mod DriveSteps
 pub mod Sayings
 pub mod WordSteps
 pub mod Fits
+pub mod LaneSteps

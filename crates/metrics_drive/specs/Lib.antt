@@ -7,4 +7,5 @@ pub mod Player
 pub mod Turns
 pub mod Built
 pub mod Fitting
+pub mod LaneCalls
 pub mod Vectors

@@ -3,6 +3,7 @@
 
 mod drive;
 mod examples;
+mod lanes;
 mod play;
 mod reading;
 mod report;
