@@ -7,3 +7,5 @@ pub mod Sayings
 pub mod WordSteps
 pub mod Fits
 pub mod LaneSteps
+pub mod LaneOrders
+pub mod AfterLanes

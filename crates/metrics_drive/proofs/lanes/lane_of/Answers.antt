@@ -34,21 +34,21 @@ loop-line-preserved c =
     λ j. ap (calls_at ids handles c.args.lane j) more ∙ calls_at-last ids handles c.args.lane j (take i c.args.calls.now) line in
     elim c.if-from-lane.branch [
       | then-from-lane+in_ok-take_line w ↦
-      let e = w.in_ok-take_line.ensures in
-      let own : HasLane c.args.lane line ≡ true = eq-eqb line.lane c.args.lane (sym c.from.ensures ∙ w.if-from-lane.true) in
-      rw w.gathered-is (record {
-        lines = e.lines;
-        asked = e.asked inv.asked;
-        calls = λ j. e.calls j ∙ ap (λ l. l ++ keep (is_at ids handles j line) (asked line.act) []) (inv.calls j)
-            ∙ sym (step j ∙ ap (λ b. calls_at ids handles c.args.lane j (take i c.args.calls.now) ++ keep (b && is_at ids handles j line) (asked line.act) []) own);
-      })
+          let e = w.in_ok-take_line.ensures in
+          let own : HasLane c.args.lane line ≡ true = eq-eqb line.lane c.args.lane (sym c.from.ensures ∙ w.if-from-lane.true) in
+          rw w.gathered-is (record {
+            lines = e.lines;
+            asked = e.asked inv.asked;
+            calls = λ j. e.calls j ∙ ap (λ l. l ++ keep (is_at ids handles j line) (asked line.act) []) (inv.calls j)
+                ∙ sym (step j ∙ ap (λ b. calls_at ids handles c.args.lane j (take i c.args.calls.now) ++ keep (b && is_at ids handles j line) (asked line.act) []) own);
+          })
       | else-from-lane w ↦
-      let other : HasLane c.args.lane line ≡ false = ne_eqb line.lane c.args.lane (λ same. w.if-from-lane.false (c.from.ensures ∙ same)) in
-      rw w.gathered-is (record {
-        lines = inv.lines;
-        asked = inv.asked;
-        calls = λ j. inv.calls j ∙ sym (step j ∙ ap (λ b. calls_at ids handles c.args.lane j (take i c.args.calls.now) ++ keep (b && is_at ids handles j line) (asked line.act) []) other ∙ append-nil _);
-      })
+          let other : HasLane c.args.lane line ≡ false = ne_eqb line.lane c.args.lane (λ same. w.if-from-lane.false (c.from.ensures ∙ same)) in
+          rw w.gathered-is (record {
+            lines = inv.lines;
+            asked = inv.asked;
+            calls = λ j. inv.calls j ∙ sym (step j ∙ ap (λ b. calls_at ids handles c.args.lane j (take i c.args.calls.now) ++ keep (b && is_at ids handles j line) (asked line.act) []) other ∙ append-nil _);
+          })
     ]
 
 -- what was built of what was gathered
