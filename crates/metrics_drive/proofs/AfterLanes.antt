@@ -35,8 +35,11 @@ use Rattle.drive_script.specs.declared.script.Act.{Act}
 use Rattle.drive_script.specs.declared.script.Act.TheVariants as acts
 use Rattle.metrics_drive.specs.LaneCalls.{HasLane, asked, calls_at, id_at, is_at, lines_at}
 use Rattle.metrics_drive.specs.Play.{PlayState, RoundOrders, AreOrdersOf, IsOrderOf, after_calls, called, calls_on, is_call_on, names, of_lane}
+use Rattle.metrics_drive.specs.Orders.{IsCalled}
+use Rattle.metrics_drive.specs.Resting.{AllRest}
 use Rattle.metrics_drive.proofs.LaneOrders.{OwnBy, taken_map, taken_lane}
-use Rattle.metrics_drive.proofs.LaneSteps.{get_of, kind_at}
+use Rattle.metrics_drive.proofs.LaneSteps.{get_of}
+use Rattle.metrics_drive.proofs.RestingSteps.{counter_at, counter_id, gauge_at, gauge_id}
 
 -- ---- the calls on one series
 
@@ -107,9 +110,11 @@ module _ {A : Type 0} where
   behind (x ∷ xs) = xs
 
   head_same : {x y : A} {xs ys : List A} → x ∷ xs ≡ y ∷ ys → x ≡ y
+  unfolding first_or
   head_same {x} e = ap (first_or x) e
 
   tail_same : {x y : A} {xs ys : List A} → x ∷ xs ≡ y ∷ ys → xs ≡ ys
+  unfolding behind
   tail_same e = ap behind e
 
 -- ---- the series of one kind
@@ -156,9 +161,46 @@ module _ {F : Type 0} (kind : MetricKind) (ids handles : List SeriesId) (lines :
       let rest = collect (suc k) es fs (tail_same frame) (λ i s p. let q = at (suc i) s p in (subst (λ n. get_elem? ids n ≡ some s.id) (omega arith) q.0, q.1)) (λ i s t p q. subst (λ n. GrewAt n s t) (omega arith) (grew (suc i) s t p q)) in
       let order = taken own.0 (λ l. map call_line_of (lines_at ids handles l k lines)) in
       (order ∷ rest.0, (is_order ids handles k (is_call_on handles kind (shown e)) (named_at k e first here.1) own.0 lines own.1, rest.1), (λ i. after_one k e f own same i ∷ rest.2 i))
-    where
-      head_same : {A : Type 0} {x y : A} {xs ys : List A} → x ∷ xs ≡ y ∷ ys → x ≡ y
-      head_same p = ?
 
-      tail_same : {A : Type 0} {x y : A} {xs ys : List A} → x ∷ xs ≡ y ∷ ys → xs ≡ ys
-      tail_same p = ?
+-- ---- the exporter
+
+module _ (e f : Exporter) (handles : List SeriesId) (lines : List CallValue) (lanes : List (Lane SeriesCall)) (done : ℕ → ℕ) where
+  -- the history of each thing grew by its calls in an order
+  grew_at : AllDone lanes done → Each (Grew root_of StandsAsValue lanes done) (things_of e) (things_of f) → ((j l : ℕ) → all_calls_on j lanes l ≡ calls_at (ids_of e) handles l j lines)
+      → (j : ℕ) (c d : Thing ValueCall SeriesCell) → get_elem? (things_of e) j ≡ some c → get_elem? (things_of f) j ≡ some d
+      → (order : List ℕ) × IsOrder order (λ l. map value_call (calls_at (ids_of e) handles l j lines)) × (calls d.root.seen ≡ calls c.root.seen ++ taken order (λ l. map value_call (calls_at (ids_of e) handles l j lines)))
+  grew_at all each same j c d at at' =
+      let grew = round_calls root_of value_call lanes done j c d all (each j c d at at') in
+      let lists : (λ l. map value_call (all_calls_on j lanes l)) ≡ (λ l. map value_call (calls_at (ids_of e) handles l j lines)) = λ i l. map value_call (same j l i) in
+      subst (λ (xs : ℕ → List ValueCall). (order : List ℕ) × IsOrder order xs × (calls d.root.seen ≡ calls c.root.seen ++ taken order xs)) lists grew
+
+  abbrev before : PlayState
+  before = record { prometheus = prometheus_of e; handles = handles }
+
+  abbrev after : PlayState
+  after = record { prometheus = prometheus_of f; handles = handles }
+
+  pub round_made : AllRest e → frame_of f ≡ frame_of e → AllDone lanes done → Each (Grew root_of StandsAsValue lanes done) (things_of e) (things_of f)
+      → ((j l : ℕ) → all_calls_on j lanes l ≡ calls_at (ids_of e) handles l j lines) → (round : RoundText) → round.calls ≡ map call_line_of lines → IsCalled before round after
+  round_made rest frame all each same round are =
+      let grew = grew_at all each same in
+      let more : length f.series.counters ≡ length e.series.counters = sym (length-map f.series.counters unseen) ∙ ap (λ (x : Exporter). length x.series.counters) frame ∙ length-map e.series.counters unseen in
+      let counters = collect kinds.Counter (ids_of e) handles lines round.moment 0 e.series.counters f.series.counters (ap (λ (x : Exporter). x.series.counters) frame)
+          (λ i s at. (subst (λ n. get_elem? (ids_of e) n ≡ some s.id) (omega arith) (counter_id e i s at), (rest.counters i s at).kind_is))
+          (λ i s t at at'. subst (λ n. GrewAt kinds.Counter (ids_of e) handles lines round.moment n s t) (omega arith) (grew i (counter_thing s) (counter_thing t) (counter_at e i s at) (counter_at f i t at'))) in
+      let gauges = collect kinds.Gauge (ids_of e) handles lines round.moment (length e.series.counters) e.series.gauges f.series.gauges (ap (λ (x : Exporter). x.series.gauges) frame)
+          (λ i s at. (gauge_id e i s at, (rest.gauges i s at).kind_is))
+          (λ i s t at at'. grew (length e.series.counters + i) (gauge_thing s) (gauge_thing t) (gauge_at e i s at) (subst (λ n. get_elem? (things_of f) (n + i) ≡ some (gauge_thing t)) more (gauge_at f i t at'))) in
+      let orders : RoundOrders = record { counters = counters.0; gauges = gauges.0; histograms = [] } in
+      (orders, legal round are counters.0 gauges.0 counters.1 gauges.1, (λ i. record {
+        prometheus = record { counters = counters.2 i; gauges = gauges.2 i; histograms = []; made = (frame i).series.made; published = []; pending = [] };
+        handles = handles;
+      }))
+    where
+      legal : (round : RoundText) → round.calls ≡ map call_line_of lines → (cs gs : List (List CallLine))
+          → AllZip (λ series order. IsOrderOf (filter (is_call_on handles kinds.Counter series) (map call_line_of lines)) order) (all_shown kinds.Counter (ids_of e) handles lines round.moment e.series.counters) cs
+          → AllZip (λ series order. IsOrderOf (filter (is_call_on handles kinds.Gauge series) (map call_line_of lines)) order) (all_shown kinds.Gauge (ids_of e) handles lines round.moment e.series.gauges) gs
+          → AreOrdersOf before round (record { counters = cs; gauges = gs; histograms = [] })
+      legal round are cs gs c g kinds.Counter = subst (λ ls. AllZip (λ series order. IsOrderOf (filter (is_call_on handles kinds.Counter series) ls) order) before.prometheus.counters cs) (sym are) c
+      legal round are cs gs c g kinds.Gauge = subst (λ ls. AllZip (λ series order. IsOrderOf (filter (is_call_on handles kinds.Gauge series) ls) order) before.prometheus.gauges gs) (sym are) g
+      legal round are cs gs c g kinds.Histogram = tt

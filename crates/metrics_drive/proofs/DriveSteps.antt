@@ -9,7 +9,7 @@ use Rattle.drive_script.specs.Faults.{IsScriptFault}
 use Rattle.drive_script.specs.declared.faults.DriveFault.{DriveFault}
 use Rattle.drive_script.specs.declared.faults.DriveFault.TheVariants as faults
 use Rattle.metrics_drive.specs.Headline.{IsPlayed, IsPlayedInPart, IsGoodScript, script_limit}
-use Rattle.metrics_drive.specs.InTurn.{run_text}
+use Rattle.metrics_drive.specs.Orders.{ForSomeRun, run_text}
 use Rattle.metrics_drive.specs.Answers.{IsComplete, IsBadScript, IsTooLong, IsPlayFault, LeavesFront, fault_status}
 use Rattle.metrics_drive.specs.Reading.{IsReadFault}
 use Rattle.metrics_drive.proofs.RunPages.{run_is_pages}
@@ -65,16 +65,16 @@ read_fault_complete bytes S K failed = record {
 
 -- a script read whole and played
 pub played_whole : (left : Option (List ℕ)) (items : List ℕ) (script : ScriptText) (written written' : Option (List ℕ))
-    → IfSome left (λ bytes. items ≡ bytes) → length items ≤ script_limit → IsScriptOf items script → GrewBy written written' (run_text script)
+    → IfSome left (λ bytes. items ≡ bytes) → length items ≤ script_limit → IsScriptOf items script → ForSomeRun script (GrewBy written written')
     → IfSome left (λ bytes. IsPlayed bytes written written')
 played_whole None items script written written' whole within reading grew = tt
 played_whole (Some bytes) items script written written' whole within reading grew =
     let P : List ℕ → Type 0 = λ b. IsPlayed b written written' in
-    subst P whole (record { script = script; reading = (within, reading); text = run_text script; pages = run_is_pages script; grew = grew })
+    subst P whole (record { script = script; reading = (within, reading); text = run_text script grew.0; pages = run_is_pages script grew.0 grew.1; grew = grew.2 })
 
 -- a script read whole and played in part
 pub played_front : (left : Option (List ℕ)) (items : List ℕ) (script : ScriptText) (written written' : Option (List ℕ)) (K : Type 0) (fault : DriveFault)
-    → IfSome left (λ bytes. items ≡ bytes) → length items ≤ script_limit → IsScriptOf items script → GrewByFront written written' (run_text script)
+    → IfSome left (λ bytes. items ≡ bytes) → length items ≤ script_limit → IsScriptOf items script → ForSomeRun script (GrewByFront written written')
     → IsPlayFault K fault → IfSome left (λ bytes. LeavesFront bytes written written' fault)
 played_front None items script written written' K fault whole within reading grew cause = tt
 played_front (Some bytes) items script written written' K fault whole within reading grew cause =
@@ -82,7 +82,7 @@ played_front (Some bytes) items script written written' K fault whole within rea
     subst P whole (by fault cause)
   where
     front : IsPlayedInPart items written written'
-    front = record { script = script; reading = (within, reading); text = run_text script; pages = run_is_pages script; grew = grew }
+    front = record { script = script; reading = (within, reading); text = run_text script grew.0; pages = run_is_pages script grew.0 grew.1; grew = grew.2 }
 
     by : (f : DriveFault) → IsPlayFault K f → LeavesFront items written written' f
     by (faults.Script l) c = tt

@@ -56,7 +56,7 @@ other_first (y ∷ ys) l lane own ne = ap (λ b. cond b (y ∷ []) []) (ne_eqb y
 counts_rest : (l k : ℕ) (ls : List ℕ) (ys : List CallLine) → times k (l ∷ ls) ≡ length ys → times k ls ≡ length (rest_if (k == l) ys)
 counts_rest l k ls ys e = dite (ℕ_discrete k l)
     (λ (same : k ≡ l). rest_count ys (times k ls) (sym (ap (λ b. flag b + times k ls) (eq-eqb l k (sym same))) ∙ e) ∙ ap (λ b. length (rest_if b ys)) (sym (eq-eqb k l same)))
-    (λ (ne : ¬ (k ≡ l)). sym (ap (λ b. flag b + times k ls) (ne_eqb l k (λ q. ne (sym q)))) ∙ e ∙ ap (λ b. length (rest_if b ys)) (sym (ne_eqb k l ne)))
+    (λ (ne : ¬ (k ≡ l)). let none : times k ls ≡ 0 + times k ls = omega arith in none ∙ sym (ap (λ b. flag b + times k ls) (ne_eqb l k (λ q. ne (sym q)))) ∙ e ∙ ap (λ b. length (rest_if b ys)) (sym (ne_eqb k l ne)))
 
 -- the calls of a lane in what is taken are those of the lane
 pub taken_lane : (order : List ℕ) (xs : ℕ → List CallLine) → ((l : ℕ) → OwnBy l (xs l)) → IsOrder order xs → (lane : ℕ) → of_lane lane (taken order xs) ≡ xs lane

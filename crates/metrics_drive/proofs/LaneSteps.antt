@@ -31,7 +31,7 @@ use Rattle.drive_script.specs.declared.script.Act.{Act}
 use Rattle.drive_script.specs.declared.script.Act.TheVariants as acts
 use Rattle.metrics_drive.specs.LaneCalls.{AllAsked, AsksKind, HasLane, asked, calls_at, kind_asked, id_at, is_at}
 
-counter≢gauge : kinds.Counter ≡ kinds.Gauge → ⊥
+pub counter≢gauge : kinds.Counter ≡ kinds.Gauge → ⊥
 counter≢gauge e = true≢false (ap (λ k. kind_eq k kinds.Counter) e)
 
 kind_eq-same : (a b : MetricKind) → kind_eq a b ≡ true → a ≡ b
@@ -156,7 +156,7 @@ distinct_keys eq same (k ∷ ks) all = ((λ is. never_in eq same k ks all.0 is),
 -- ---- the series that a handle names
 
 module _ {X : Type 0} where
-  abbrev its_id : LiveSeries X → SeriesId
+  abbrev pub its_id : LiveSeries X → SeriesId
   its_id series = series.id
 
   above : (n : ℕ) (es : List (LiveSeries X)) → IsBelowAll n es → (i : ℕ) (a : SeriesId) → get_elem? (map its_id es) i ≡ some a → n < a.number
@@ -171,12 +171,12 @@ module _ {X : Type 0} where
   rise_apart (x ∷ es) rises (suc i) zero a e f = absurd (let h = above x.id.number es rises.0 i a e in let same = ap (λ (id : SeriesId). id.number) (some-injective x.id a f) in omega (arith, h, same))
   rise_apart (x ∷ es) rises (suc i) (suc j) a e f = ap suc (rise_apart es rises.1 i j a e f)
 
-  kind_at : (kind : MetricKind) (n : ℕ) (es : List (LiveSeries X)) → AreOf kind n es → (i : ℕ) (a : SeriesId) → get_elem? (map its_id es) i ≡ some a → a.kind ≡ kind
+  pub kind_at : (kind : MetricKind) (n : ℕ) (es : List (LiveSeries X)) → AreOf kind n es → (i : ℕ) (a : SeriesId) → get_elem? (map its_id es) i ≡ some a → a.kind ≡ kind
   kind_at kind n [] are i a e = absurd (some-ne-none a (sym e))
   kind_at kind n (x ∷ es) are zero a e = ap (λ (id : SeriesId). id.kind) (sym (some-injective x.id a e)) ∙ are.0
   kind_at kind n (x ∷ es) are (suc i) a e = kind_at kind n es are.2 i a e
 
-front_or_behind : {A : Type 0} (xs ys : List A) (i : ℕ) (a : A) → get_elem? (xs ++ ys) i ≡ some a → (get_elem? xs i ≡ some a) ⊎ ((k : ℕ) × (i ≡ length xs + k) × (get_elem? ys k ≡ some a))
+pub front_or_behind : {A : Type 0} (xs ys : List A) (i : ℕ) (a : A) → get_elem? (xs ++ ys) i ≡ some a → (get_elem? xs i ≡ some a) ⊎ ((k : ℕ) × (i ≡ length xs + k) × (get_elem? ys k ≡ some a))
 front_or_behind [] ys i a e = inr (i, omega arith, e)
 front_or_behind (x ∷ xs) ys zero a e = inl e
 front_or_behind (x ∷ xs) ys (suc i) a e = ⊎_elim (λ (front : get_elem? xs i ≡ some a). inl front) (λ (back : (k : ℕ) × (i ≡ length xs + k) × (get_elem? ys k ≡ some a)). inr (back.0, (let h = back.1 in omega (arith, h)), back.2)) (front_or_behind xs ys i a e)
@@ -197,7 +197,7 @@ ids_apart exporter numbered i j a e f =
 
 -- ---- whether an index is that of an id
 
-get_of : {A : Type 0} (xs : List A) (i : ℕ) (a : A) → get_elem? xs i ≡ some a → slice_get xs i ≡ Some a
+pub get_of : {A : Type 0} (xs : List A) (i : ℕ) (a : A) → get_elem? xs i ≡ some a → slice_get xs i ≡ Some a
 get_of [] i a e = absurd (some-ne-none a (sym e))
 get_of (x ∷ xs) zero a e = ap Some (some-injective x a e)
 get_of (x ∷ xs) (suc i) a e = get_of xs i a e

@@ -1,5 +1,5 @@
 pub mod ReadingSteps
-pub mod TurnSteps
+pub mod RoundSteps
 pub mod BuiltRounds
 pub mod RunPages
 pub mod DriveSteps
@@ -9,3 +9,4 @@ pub mod Fits
 pub mod LaneSteps
 pub mod LaneOrders
 pub mod AfterLanes
+pub mod RestingSteps

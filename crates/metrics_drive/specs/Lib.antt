@@ -4,7 +4,8 @@ pub mod Headline
 pub mod Answers
 pub mod Reading
 pub mod Player
-pub mod Turns
+pub mod Orders
+pub mod Resting
 pub mod Built
 pub mod Fitting
 pub mod LaneCalls

@@ -14,19 +14,24 @@ ghost use Rattle.metrics_drive.specs.Answers.{
 };
 ghost use Rattle.metrics_drive.specs.Headline.{IsPlayed};
 
-use crate::Report;
 use crate::play::play;
 use crate::reading::read_all;
+use crate::{Gate, Report};
 use drive_script::{DriveFault, read_script};
 use metrics_core::{Sink, Source};
 use std::alloc::Global;
+use std::sync::Wait;
+use std::thread::Threads;
 
 /// Reads the whole script from the source and plays it: one page for each round goes to `out`, each ended by the line
-/// `# EOF`. Nothing is written before the whole script was read and found valid.
-pub fn drive<S: Source, K: Sink>(
+/// `# EOF`. The lanes of a round run side by side, and the gate is called around each of their calls. Nothing is written
+/// before the whole script was read and found valid.
+pub fn drive<R: Threads + Wait + Sync, S: Source, K: Sink, G: Gate + Sync>(
+    rt: &R,
     alloc: Global,
     source: &mut S,
     out: &mut K,
+    gate: &G,
 ) -> Result<Report, DriveFault>
     // What was written is one page per round, each exactly the families of the sequential state, for one order of the calls.
     ensures played { OnOk result (IfSome (S.left source.old) (λ bytes. IsPlayed bytes (K.written out.old) (K.written out.new))) }
@@ -54,7 +59,7 @@ pub fn drive<S: Source, K: Sink>(
         Ok(script) => script,
         Err(fault) => return Err(fault),
     };
-    match play(alloc, &script, out) {
+    match play(rt, alloc, gate, &script, out) {
         Ok(report) => Ok(report),
         Err(fault) => Err(fault),
     }

@@ -12,6 +12,7 @@ mod say;
 #[cfg(test)]
 mod tests;
 
+pub use cell_lanes::{LaneHook as Gate, NoHook as Free};
 pub use drive::drive;
 use drive_script::DriveFault;
 pub use examples::{basic_example, empty_example};
@@ -24,6 +25,8 @@ use std::env::Args;
 use std::io::ErrorKind;
 use std::process::ExitCode;
 use std::rt::Env;
+use std::sync::Wait;
+use std::thread::Threads;
 
 /// Makes the real source and sinks, calls `run`, and ends with its status.
 fn main(rt: HostRuntime) -> ExitCode {
@@ -41,7 +44,7 @@ fn main(rt: HostRuntime) -> ExitCode {
 }
 
 /// Calls `run` with the words after the program's name. Words that aren't text are no form of words.
-fn run_words<R: Env + AllocGlobal, S: Source, K: Sink, E: Sink>(
+fn run_words<R: Env + AllocGlobal + Threads + Wait + Sync, S: Source, K: Sink, E: Sink>(
     rt: &R,
     alloc: Global,
     source: &mut S,
@@ -57,7 +60,7 @@ fn run_words<R: Env + AllocGlobal, S: Source, K: Sink, E: Sink>(
     for word in &words {
         views.push(word.as_str())?;
     }
-    Ok(run(alloc, &views, source, out, err))
+    Ok(run(rt, alloc, &views, source, out, err, &Free))
 }
 
 /// The words after the program's name.

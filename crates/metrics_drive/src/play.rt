@@ -6,23 +6,33 @@ ghost use Rattle.drive_script.specs.Texts.{script_of, settings_of, round_of};
 ghost use Rattle.metrics_drive.specs.Answers.{IsPlayFault, report_of};
 ghost use Rattle.metrics_drive.specs.Built.{AreBuiltRounds};
 ghost use Rattle.metrics_drive.specs.Fitting.{CallsFit};
-ghost use Rattle.metrics_drive.specs.InTurn.{run_text};
+ghost use Rattle.metrics_drive.specs.Orders.{ForSomeRun};
 ghost use Rattle.metrics_drive.specs.Play.{exporter_settings};
 
-use crate::Report;
-use drive_script::{Act, CallLine, DriveFault, Round, Script, Settings, Setup};
+use crate::lanes::lanes_of;
+use crate::{Gate, Report};
+use cell_lanes::run_lanes;
+use drive_script::{CallLine, DriveFault, Round, Script, Settings, Setup};
 use metrics_core::{Memory, MetricKind, SeriesId, Sink, write_whole};
 use prom_exporter::{BuildError, PrometheusBuilder, PrometheusState};
-use series_cells::{CounterCall, GaugeCall};
 use std::alloc::Global;
+use std::sync::Wait;
+use std::thread::Threads;
 
-/// Plays a script: a page for each round goes to the sink, each ended by the line `# EOF`.
-pub fn play<K: Sink>(alloc: Global, script: &Script, out: &mut K) -> Result<Report, DriveFault>
+/// Plays a script: the lanes of each round run side by side, and then a page goes to the sink, ended by the line `# EOF`.
+/// The gate is called around each call of a lane.
+pub fn play<R: Threads + Wait + Sync, G: Gate + Sync, K: Sink>(
+    rt: &R,
+    alloc: Global,
+    gate: &G,
+    script: &Script,
+    out: &mut K,
+) -> Result<Report, DriveFault>
     requires built { AreBuiltRounds script.now.rounds.items }
     requires fit { CallsFit [] (map round_of script.now.rounds.items) }
-    ensures pages { OnOk result (GrewBy (K.written out.old) (K.written out.new) (run_text (script_of script.now))) }
+    ensures pages { OnOk result (ForSomeRun (script_of script.now) (GrewBy (K.written out.old) (K.written out.new))) }
     ensures counted { IfOk result (λ report. report ≡ report_of (length script.now.rounds.items)) }
-    ensures front { OnErr result (GrewByFront (K.written out.old) (K.written out.new) (run_text (script_of script.now))) }
+    ensures front { OnErr result (ForSomeRun (script_of script.now) (GrewByFront (K.written out.old) (K.written out.new))) }
     ensures cause { IfErr result (IsPlayFault (Rose (K.faults out.old) (K.faults out.new))) }
     ensures never_falls { K.faults out.old ≤ K.faults out.new }
 {
@@ -31,7 +41,7 @@ pub fn play<K: Sink>(alloc: Global, script: &Script, out: &mut K) -> Result<Repo
         Err(Memory) => return Err(DriveFault::Memory),
     };
     for round in &script.rounds {
-        match player.play_round(alloc, round, out) {
+        match player.play_round(rt, alloc, gate, round, out) {
             Ok(()) => (),
             Err(fault) => return Err(fault),
         }
@@ -57,13 +67,13 @@ impl Player {
     ghost use Rattle.prom_format.specs.Pages.{page_text};
     ghost use Rattle.prom_exporter.specs.State.{page_step};
     ghost use Rattle.prom_exporter.specs.Exporter.{AllHome, page_families, state_of as prometheus_of};
-    ghost use Rattle.drive_script.specs.Script.{SettingsText};
+    ghost use Rattle.drive_script.specs.Script.{RoundText, SettingsText};
     ghost use Rattle.drive_script.specs.Texts.{round_of, settings_of, setup_of, call_line_of};
     ghost use Rattle.metrics_drive.specs.Answers.{IsPlayFault};
-    ghost use Rattle.metrics_drive.specs.InTurn.{played, round_text};
-    ghost use Rattle.metrics_drive.specs.Play.{play_start, setup_step, exporter_settings};
+    ghost use Rattle.metrics_drive.specs.Orders.{ForSomeOrders, IsCalled, round_text};
+    ghost use Rattle.metrics_drive.specs.Play.{after_round, play_start, setup_step, exporter_settings};
     ghost use Rattle.metrics_drive.specs.Player.{state_of};
-    ghost use Rattle.metrics_drive.specs.Turns.{call_step};
+    ghost use Rattle.metrics_drive.specs.Resting.{AllRest};
     ghost use Rattle.metrics_drive.specs.Built.{AreBuiltSetups, IsBuiltSetup};
     ghost use Rattle.metrics_drive.specs.Fitting.{CallsFit, FitsHandle};
 
@@ -71,7 +81,7 @@ impl Player {
     fn new(alloc: Global, settings: &Settings) -> Result<Player, Memory>
         ensures start { IfOk result (λ player. state_of player ≡ play_start) }
         ensures settings { IfOk result (λ player. player.exporter.settings ≡ exporter_settings (settings_of settings.now)) }
-        ensures home { IfOk result (λ player. AllHome player.exporter) }
+        ensures rest { IfOk result (λ player. AllRest player.exporter) }
     {
         let builder = builder_of(alloc, settings)?;
         match builder.build_state(alloc) {
@@ -84,23 +94,26 @@ impl Player {
     }
 
     /// Plays a round: its setup, its calls, its page.
-    fn play_round<K: Sink>(
+    fn play_round<R: Threads + Wait + Sync, G: Gate + Sync, K: Sink>(
         &mut self,
+        rt: &R,
         alloc: Global,
+        gate: &G,
         round: &Round,
         out: &mut K,
     ) -> Result<(), DriveFault>
         requires built { AreBuiltSetups round.now.setup.items }
         requires fit { CallsFit self.old.handles.items (round_of round.now ∷ []) }
-        requires home { AllHome self.old.exporter }
-        ensures home { OnOk result (AllHome self.new.exporter) }
+        requires rest { AllRest self.old.exporter }
+        ensures rest { OnOk result (AllRest self.new.exporter) }
         ensures settings { self.new.exporter.settings ≡ self.old.exporter.settings }
         ensures played { (settings : SettingsText) → self.old.exporter.settings ≡ exporter_settings settings
-            → OnOk result (state_of self.new ≡ played settings (state_of self.old) (round_of round.now)) }
-        ensures page { (settings : SettingsText) → self.old.exporter.settings ≡ exporter_settings settings
-            → OnOk result (GrewBy (K.written out.old) (K.written out.new) (round_text settings (state_of self.old) (round_of round.now))) }
+            → OnOk result (ForSomeOrders (state_of self.old) (round_of round.now) (λ orders.
+            (state_of self.new ≡ after_round settings (state_of self.old) (round_of round.now) orders)
+            × GrewBy (K.written out.old) (K.written out.new) (round_text settings (state_of self.old) (round_of round.now) orders))) }
         ensures front { (settings : SettingsText) → self.old.exporter.settings ≡ exporter_settings settings
-            → OnErr result (GrewByFront (K.written out.old) (K.written out.new) (round_text settings (state_of self.old) (round_of round.now))) }
+            → OnErr result (ForSomeOrders (state_of self.old) (round_of round.now) (λ orders.
+            GrewByFront (K.written out.old) (K.written out.new) (round_text settings (state_of self.old) (round_of round.now) orders))) }
         ensures cause { IfErr result (IsPlayFault (Rose (K.faults out.old) (K.faults out.new))) }
         ensures never_falls { K.faults out.old ≤ K.faults out.new }
     {
@@ -108,7 +121,10 @@ impl Player {
             Ok(()) => (),
             Err(Memory) => return Err(DriveFault::Memory),
         }
-        self.make_calls(&round.calls);
+        match self.make_calls(rt, alloc, gate, &round.calls) {
+            Ok(()) => (),
+            Err(Memory) => return Err(DriveFault::Memory),
+        }
         self.write_page(alloc, round.moment, out)
     }
 
@@ -116,7 +132,7 @@ impl Player {
     fn set_up(&mut self, alloc: Global, setup: &[Setup]) -> Result<(), Memory>
         requires { AreBuiltSetups setup.now }
         ensures settings { self.new.exporter.settings ≡ self.old.exporter.settings }
-        ensures home { AllHome self.old.exporter → AllHome self.new.exporter }
+        ensures rest { AllRest self.old.exporter → AllRest self.new.exporter }
         ensures stepped { OnOk result (state_of self.new ≡ fold setup_step (state_of self.old) (map setup_of setup.now)) }
     {
         for line in setup {
@@ -132,7 +148,7 @@ impl Player {
     fn set_up_line(&mut self, alloc: Global, line: &Setup) -> Result<(), Memory>
         requires { IsBuiltSetup (setup_of line.now) }
         ensures settings { self.new.exporter.settings ≡ self.old.exporter.settings }
-        ensures home { AllHome self.old.exporter → AllHome self.new.exporter }
+        ensures rest { AllRest self.old.exporter → AllRest self.new.exporter }
         ensures stepped { OnOk result (state_of self.new ≡ setup_step (state_of self.old) (setup_of line.now)) }
     {
         let Setup::Register { kind, key } = line;
@@ -145,39 +161,23 @@ impl Player {
         Ok(())
     }
 
-    /// Makes the calls of a round in the script's order.
-    fn make_calls(&mut self, calls: &[CallLine])
+    /// Makes the calls of a round: its lanes run side by side, each with its own passes, and all passes are back at the end.
+    /// A lane that is refused memory makes no further call.
+    fn make_calls<R: Threads + Wait + Sync, G: Gate + Sync>(
+        &mut self,
+        rt: &R,
+        alloc: Global,
+        gate: &G,
+        calls: &[CallLine],
+    ) -> Result<(), Memory>
         requires fit { All (λ line. FitsHandle self.old.handles.items (call_line_of line)) calls.now }
-        requires home { AllHome self.old.exporter }
+        requires rest { AllRest self.old.exporter }
+        ensures rest { AllRest self.new.exporter }
         ensures settings { self.new.exporter.settings ≡ self.old.exporter.settings }
-        ensures home { AllHome self.new.exporter }
-        ensures called { (moment : ℕ) → state_of self.new ≡ fold (call_step moment) (state_of self.old) (map call_line_of calls.now) }
+        ensures called { OnOk result ((round : RoundText) → round.calls ≡ map call_line_of calls.now → IsCalled (state_of self.old) round (state_of self.new)) }
     {
-        for line in calls {
-            self.make_call(line);
-        }
-    }
-
-    /// Makes one call. A handle that no register line has names no series.
-    fn make_call(&mut self, line: &CallLine)
-        requires fit { FitsHandle self.old.handles.items (call_line_of line.now) }
-        requires home { AllHome self.old.exporter }
-        ensures settings { self.new.exporter.settings ≡ self.old.exporter.settings }
-        ensures home { AllHome self.new.exporter }
-        ensures handles { self.new.handles ≡ self.old.handles }
-        ensures called { (moment : ℕ) → state_of self.new ≡ call_step moment (state_of self.old) (call_line_of line.now) }
-    {
-        let Some(id) = self.handles.get(line.handle as usize).copied() else {
-            return;
-        };
-        let exporter = &mut self.exporter;
-        match line.act {
-            Act::Inc(value) => exporter.call_counter(id, CounterCall::Increment(value)),
-            Act::Abs(value) => exporter.call_counter(id, CounterCall::Absolute(value)),
-            Act::Add(value) => exporter.call_gauge(id, GaugeCall::Increment(value)),
-            Act::Sub(value) => exporter.call_gauge(id, GaugeCall::Decrement(value)),
-            Act::Set(value) => exporter.call_gauge(id, GaugeCall::Set(value)),
-        };
+        let lanes = lanes_of(alloc, &self.exporter, &self.handles, calls)?;
+        run_lanes(rt, alloc, gate, &mut self.exporter, &lanes)
     }
 
     /// Writes the page at a moment, ended by the line `# EOF`.

@@ -14,24 +14,30 @@ ghost use Rattle.metrics_drive.specs.Answers.{
 };
 ghost use Rattle.metrics_drive.specs.Headline.{IsPlayed, IsPlayedInPart};
 
+use crate::Gate;
 use crate::drive::drive;
 use crate::say::{say_fault, say_report, say_usage};
 use drive_script::DriveFault;
 use metrics_core::{Sink, Source};
 use std::alloc::Global;
+use std::sync::Wait;
+use std::thread::Threads;
 
 /// Does what the words ask for, and answers the status that the program ends with:
 /// 0 done, 2 the words are no form, 3 the script is not valid, 5 it is longer than 67,108,864 bytes, 6 the source failed,
 /// 7 the sink of the pages failed, 8 memory was wanting. `err` gets one line that says which; a failing `err` changes
 /// nothing else.
 ///
-/// For the word `drive` the whole script is read from `source`, and its pages are written to `out`.
-pub fn run<S: Source, K: Sink, E: Sink>(
+/// For the word `drive` the whole script is read from `source`, and its pages are written to `out`. The lanes of a round run
+/// side by side, in up to eight threads; the gate is called around each call of a lane.
+pub fn run<R: Threads + Wait + Sync, S: Source, K: Sink, E: Sink, G: Gate + Sync>(
+    rt: &R,
     alloc: Global,
     words: &[&str],
     source: &mut S,
     out: &mut K,
     err: &mut E,
+    gate: &G,
 ) -> u8
     // Status 0: what was written is one page per round, ended by `# EOF`; read by the exposition grammar, each is exactly
     // the families of the sequential state, for one order per series of all lanes' calls.
@@ -61,7 +67,7 @@ pub fn run<S: Source, K: Sink, E: Sink>(
         say_usage(err);
         return 2;
     }
-    match drive(alloc, source, out) {
+    match drive(rt, alloc, source, out, gate) {
         Ok(report) => {
             say_report(err, &report);
             0

@@ -42,11 +42,24 @@ const DONE: Case = Case {
 };
 
 /// Whether a run over these bytes answers and leaves what the case says.
-fn holds(alloc: Global, script: Vec<u8>, case: &Case) -> Result<bool, AllocError> {
+fn holds<R: Threads + Wait + Sync>(
+    rt: &R,
+    alloc: Global,
+    script: Vec<u8>,
+    case: &Case,
+) -> Result<bool, AllocError> {
     let mut source = MemorySource::new(script, case.most.max(1), case.failing_reads.to_vec(alloc)?);
     let mut out = MemorySink::new(alloc, case.taken.max(1), case.failing_writes.to_vec(alloc)?);
     let mut err = MemorySink::new(alloc, 6, case.failing_says.to_vec(alloc)?);
-    let status = run(alloc, case.words, &mut source, &mut out, &mut err);
+    let status = run(
+        rt,
+        alloc,
+        case.words,
+        &mut source,
+        &mut out,
+        &mut err,
+        &Free,
+    );
     Ok(status == case.status && out.written() == case.page && err.written() == case.said)
 }
 
@@ -104,7 +117,7 @@ fn plays_a_script_over_any_devices(rt: HostRuntime) -> Result<(), Fail> {
         },
     ];
     for case in &cases {
-        assert!(rt; holds(alloc, SCRIPT.to_vec(alloc)?, case)?);
+        assert!(rt; holds(&rt, alloc, SCRIPT.to_vec(alloc)?, case)?);
     }
     Ok(())
 }
@@ -117,27 +130,32 @@ fn answers_by_the_bytes_that_come(rt: HostRuntime) -> Result<(), Fail> {
         said: b"pages 0 sent 0 unsent 0 dropped 0\n",
         ..DONE
     };
-    assert!(rt; holds(alloc, Vec::new(alloc), &empty)?);
+    assert!(rt; holds(&rt, alloc, Vec::new(alloc), &empty)?);
     let newline = Case {
         status: 3,
         page: b"",
         said: b"script: line 1\n",
         ..DONE
     };
-    assert!(rt; holds(alloc, b"\n".to_vec(alloc)?, &newline)?);
+    assert!(rt; holds(&rt, alloc, b"\n".to_vec(alloc)?, &newline)?);
     let long = Case {
         status: 5,
         page: b"",
         said: b"script: longer than 67108864 bytes\n",
         ..DONE
     };
-    assert!(rt; holds(alloc, vec![in alloc; 0u8; 67_108_865]?, &long)?);
+    assert!(rt; holds(&rt, alloc, vec![in alloc; 0u8; 67_108_865]?, &long)?);
     Ok(())
 }
 
 /// Whether the program answers 0 over a script of one round and writes this page.
-fn shows(alloc: Global, script: &[u8], page: &'static [u8]) -> Result<bool, AllocError> {
-    holds(alloc, script.to_vec(alloc)?, &Case { page, ..DONE })
+fn shows<R: Threads + Wait + Sync>(
+    rt: &R,
+    alloc: Global,
+    script: &[u8],
+    page: &'static [u8],
+) -> Result<bool, AllocError> {
+    holds(rt, alloc, script.to_vec(alloc)?, &Case { page, ..DONE })
 }
 
 #[test]
@@ -182,7 +200,7 @@ fn shows_counters_and_gauges_of_any_texts(rt: HostRuntime) -> Result<(), Fail> {
         ),
     ];
     for (script, page) in &rows {
-        assert!(rt; shows(alloc, script, page)?);
+        assert!(rt; shows(&rt, alloc, script, page)?);
     }
     Ok(())
 }
@@ -196,7 +214,7 @@ fn writes_a_page_for_each_round(rt: HostRuntime) -> Result<(), Fail> {
         ..DONE
     };
     let script = b"round 0\nregister counter \"c\"\n0 inc 0 42\nround 0\nround 1\n";
-    assert!(rt; holds(alloc, script.to_vec(alloc)?, &rounds)?);
+    assert!(rt; holds(&rt, alloc, script.to_vec(alloc)?, &rounds)?);
     Ok(())
 }
 
@@ -222,7 +240,7 @@ fn names_the_first_bad_line(rt: HostRuntime) -> Result<(), Fail> {
             said,
             ..DONE
         };
-        assert!(rt; holds(alloc, script.to_vec(alloc)?, &case)?);
+        assert!(rt; holds(&rt, alloc, script.to_vec(alloc)?, &case)?);
     }
     Ok(())
 }

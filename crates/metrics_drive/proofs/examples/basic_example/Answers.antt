@@ -2,7 +2,7 @@ use Rattle.std.specs.Fmt.{digits}
 use Rattle.std.specs.Str.{chars}
 use Rattle.drive_script.specs.Vectors.{basic}
 use Rattle.metrics_drive.specs.Vectors.{basic_pages, one_page}
-use Rattle.metrics_drive.proofs.RunPages.{run_is_pages}
+use Rattle.metrics_drive.proofs.RunPages.{turns_are_pages}
 use Rattle.metrics_drive.proofs.examples.basic_example.Goals as goal
 
 pub returns-clause-computed : goal.returns-clause-computed
@@ -10,7 +10,7 @@ returns-clause-computed c = basic_pages
 
 pub returns-clause-run : goal.returns-clause-run
 unfolding digits chars
-returns-clause-run c = run_is_pages basic
+returns-clause-run c = turns_are_pages basic
 
 pub returns-clause-report : goal.returns-clause-report
 returns-clause-report c = one_page

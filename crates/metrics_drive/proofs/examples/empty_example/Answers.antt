@@ -1,10 +1,10 @@
 use Rattle.drive_script.specs.Vectors.{empty}
 use Rattle.metrics_drive.specs.Vectors.{none}
-use Rattle.metrics_drive.proofs.RunPages.{run_is_pages}
+use Rattle.metrics_drive.proofs.RunPages.{turns_are_pages}
 use Rattle.metrics_drive.proofs.examples.empty_example.Goals as goal
 
 pub returns-clause-run : goal.returns-clause-run
-returns-clause-run c = run_is_pages empty
+returns-clause-run c = turns_are_pages empty
 
 pub returns-clause-report : goal.returns-clause-report
 returns-clause-report c = none

@@ -1,19 +1,17 @@
 use Rattle.std.proofs.Common.{◌≡◌, ◌≤◌, map, drop}
-use Rattle.metrics_core.specs.Outside.{GrewUpTo}
-use Rattle.prom_exporter.specs.Exporter.{AllHome}
-use Rattle.metrics_drive.specs.Play.{exporter_settings}
 use Rattle.drive_script.specs.Texts.{script_of, settings_of, round_of}
 use Rattle.metrics_drive.specs.Fitting.{CallsFit}
-use Rattle.metrics_drive.specs.InTurn.{run_text, rounds_text}
+use Rattle.metrics_drive.specs.Play.{exporter_settings}
 use Rattle.metrics_drive.specs.Player.{state_of}
+use Rattle.metrics_drive.specs.Resting.{AllRest}
+use Rattle.metrics_drive.proofs.RoundSteps.{IsSoFar}
 use Rattle.metrics_drive.proofs.play.play.Given as goal
 
 abbrev pub invariant-loop-round : goal.invariant-loop-round
 invariant-loop-round g l = record {
   settings : l.player.exporter.settings ≡ exporter_settings (settings_of l.script.settings);
-  home : AllHome l.player.exporter;
+  rest : AllRest l.player.exporter;
   fit : CallsFit l.player.handles.items (map round_of (drop l.round-index l.script.rounds.items));
   never_falls : g.K.Sink.faults l.initial.out ≤ g.K.Sink.faults l.out;
-  so_far : GrewUpTo (g.K.Sink.written l.initial.out) (g.K.Sink.written l.out) (run_text (script_of l.script))
-      (rounds_text (settings_of l.script.settings) (state_of l.player) (map round_of (drop l.round-index l.script.rounds.items)));
+  so_far : IsSoFar (script_of l.script) (state_of l.player) (map round_of (drop l.round-index l.script.rounds.items)) (g.K.Sink.written l.initial.out) (g.K.Sink.written l.out);
 }
