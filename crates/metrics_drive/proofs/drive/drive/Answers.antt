@@ -8,10 +8,10 @@ use Rattle.metrics_drive.proofs.DriveSteps.{played_whole, played_front, good_ans
 use Rattle.metrics_drive.proofs.drive.drive.Goals as goal
 
 pub play-requires-clause-built : goal.play-requires-clause-built
-play-requires-clause-built g c = script_built c.deref.result.now c.in-Ok-read_script.script c.in-Ok-read_script.ensures.valid
+play-requires-clause-built g c κs within = script_built c.deref.result.now c.in-Ok-read_script.script c.in-Ok-read_script.ensures.valid
 
 pub play-requires-clause-fit : goal.play-requires-clause-fit
-play-requires-clause-fit g c = ([], refl, c.in-Ok-read_script.ensures.valid.1.handles)
+play-requires-clause-fit g c κs within = ([], refl, c.in-Ok-read_script.ensures.valid.1.handles)
 
 pub returns-in-Err-read_script-clause-complete : goal.returns-in-Err-read_script-clause-complete
 returns-in-Err-read_script-clause-complete g c =

@@ -10,14 +10,14 @@ use Rattle.metrics_drive.proofs.RoundSteps.{IsSoFar, rounds_behind, so_far-cut, 
 use Rattle.metrics_drive.proofs.play.play.Goals as goal
 
 pub play_round-requires-clause-fit : goal.play_round-requires-clause-fit
-play_round-requires-clause-fit g c =
+play_round-requires-clause-fit g c κs within =
     let within : c.loop-round.round-index < length c.args.script.now.rounds.items = omega (arith, ap length c.deref-round-items.ensures.value) in
     let found : c.round-item.result ≡ get_or c.args.script.now.rounds.items c.loop-round.round-index c.round-item.result
     = c.round-item.is ∙ ap (λ rounds. get_or rounds c.loop-round.round-index c.round-item.result) c.deref-round-items.ensures.value in
     first_fits _ (round_of c.round-item.result) _ (subst (CallsFit c.loop-round.player.handles.items) (rounds_behind c.args.script.now.rounds.items c.loop-round.round-index c.round-item.result within found) c.loop-round.invariant.fit)
 
 pub play_round-requires-clause-rest : goal.play_round-requires-clause-rest
-play_round-requires-clause-rest g c = c.loop-round.invariant.rest
+play_round-requires-clause-rest g c κs within = c.loop-round.invariant.rest
 
 pub returns-in-Err-clause-front : goal.returns-in-Err-clause-front
 returns-in-Err-clause-front g c = unbegun (script_of c.args.script.now) _
@@ -30,9 +30,6 @@ returns-in-Err-play_round-clause-front g c =
     let P : List RoundText → Type 0 = λ rounds. IsSoFar (script_of c.args.script.now) (state_of c.loop-round.player) rounds (g.K.Sink.written c.args.out.now) (g.K.Sink.written c.loop-round.out) in
     let so_far = subst P (rounds_behind c.args.script.now.rounds.items c.loop-round.round-index c.round-item.result within found) c.loop-round.invariant.so_far in
     so_far-cut (script_of c.args.script.now) (state_of c.loop-round.player) (round_of c.round-item.result) _ _ _ _ so_far (c.in-Err-play_round.ensures.front (settings_of c.args.script.now.settings) c.loop-round.invariant.settings)
-
-pub loop-round-begins : goal.loop-round-begins
-loop-round-begins g c = holes!
 
 pub loop-round-preserved : goal.loop-round-preserved
 loop-round-preserved g c =
@@ -61,3 +58,16 @@ returns-clause-pages g c =
     let past : length c.args.script.now.rounds.items ≤ c.loop-round.round-index
     = omega (arith, c.loop-round-test.false, ap length c.deref-round-items.ensures.value) in
     so_far-end (script_of c.args.script.now) (state_of c.loop-round.player) _ _ _ (ap (map round_of) (drop_of_length-le c.args.script.now.rounds.items past)) c.loop-round.invariant.so_far
+
+pub loop-round-init : goal.loop-round-init
+loop-round-init g c =
+    let script = script_of c.args.script.now in
+    let rounds = map round_of c.args.script.now.rounds.items in
+    let told = g.K.Sink.written c.args.out.now in
+    record {
+      settings = c.in-Ok.ensures.settings;
+      rest = c.in-Ok.ensures.rest;
+      fit = subst (λ (p : PlayState). CallsFit p.handles rounds) (sym c.in-Ok.ensures.start) c.requires.fit;
+      never_falls = omega arith;
+      so_far = subst (λ (p : PlayState). IsSoFar script p rounds told told) (sym c.in-Ok.ensures.start) (so_far-start script told);
+    }
