@@ -1,11 +1,10 @@
 -- What a round of lanes leaves: each series after its calls in one order.
-use Rattle.std.proofs.Common.{◌≡◌, ℕ, zero, suc, ◌+◌, ◌<◌, ◌≤◌, Bool, true, false, cond, List, [], ◌∷◌, ◌++◌, length, map, refl, sym, ap, subst, ◌∙◌, arith, add-zero}
-use Rattle.std.specs.Prelude.{◌==◌, ◌&&◌, Option, Some, None, All, filter, option_map, unwrap_or, slice_get, zip}
+use Rattle.std.proofs.Common.{◌≡◌, ℕ, suc, ◌+◌, Bool, true, false, cond, List, [], ◌∷◌, ◌++◌, length, map, refl, sym, ap, subst, ◌∙◌, arith}
+use Rattle.std.specs.Prelude.{◌==◌, ◌&&◌, None, filter, option_map, unwrap_or, slice_get, zip}
 use Rattle.std.specs.List.{AllZip}
 use Rattle.std.proofs.lemmas.List.{map-append, length-map}
-use mathlib.Core.Option.{some, some-injective, some-ne-none}
+use mathlib.Core.Option.{some}
 use lib.ListN.{get_elem?}
-use Rattle.atomic_table.proofs.Lists.{at_longer, at_map}
 use Rattle.legal_history.specs.History.{calls}
 use Rattle.legal_history.specs.Order.{taken, IsOrder}
 use Rattle.cell_lanes.specs.declared.lane.Lane.{Lane}
@@ -16,8 +15,7 @@ use Rattle.metrics_core.specs.declared.kinds.MetricKind.TheVariants as kinds
 use Rattle.metrics_core.specs.declared.kinds.SeriesId.{SeriesId}
 use Rattle.metrics_core.specs.declared.calls.SeriesCall.{SeriesCall}
 use Rattle.metrics_core.specs.Kinds.{kind_eq}
-use Rattle.metrics_core.specs.Calls.{Call}
-use Rattle.metrics_registry.specs.Live.{LiveSeries, AreOf, IsNumbered, id_eq}
+use Rattle.metrics_registry.specs.Live.{LiveSeries, id_eq}
 use Rattle.series_cells.specs.declared.calls.ValueCall.{ValueCall}
 use Rattle.series_cells.specs.Values as values
 use Rattle.series_cells.proofs.Played.{round_calls}
@@ -34,7 +32,7 @@ use Rattle.drive_script.specs.declared.script.CallLine.{CallLine as CallValue}
 use Rattle.drive_script.specs.declared.script.Act.{Act}
 use Rattle.drive_script.specs.declared.script.Act.TheVariants as acts
 use Rattle.metrics_drive.specs.LaneCalls.{HasLane, asked, calls_at, id_at, is_at, lines_at}
-use Rattle.metrics_drive.specs.Play.{PlayState, RoundOrders, AreOrdersOf, IsOrderOf, after_calls, called, calls_on, is_call_on, names, of_lane}
+use Rattle.metrics_drive.specs.Play.{PlayState, RoundOrders, AreOrdersOf, IsOrderOf, called, is_call_on, names, of_lane}
 use Rattle.metrics_drive.specs.Orders.{IsCalled}
 use Rattle.metrics_drive.specs.Resting.{AllRest}
 use Rattle.metrics_drive.proofs.LaneOrders.{OwnBy, taken_map, taken_lane}
@@ -186,16 +184,19 @@ module _ (e f : Exporter) (handles : List SeriesId) (lines : List CallValue) (la
       let grew = grew_at all each same in
       let more : length f.series.counters ≡ length e.series.counters = sym (length-map f.series.counters unseen) ∙ ap (λ (x : Exporter). length x.series.counters) frame ∙ length-map e.series.counters unseen in
       let counters = collect kinds.Counter (ids_of e) handles lines round.moment 0 e.series.counters f.series.counters (ap (λ (x : Exporter). x.series.counters) frame)
-          (λ i s at. (subst (λ n. get_elem? (ids_of e) n ≡ some s.id) (omega arith) (counter_id e i s at), (rest.counters i s at).kind_is))
-          (λ i s t at at'. subst (λ n. GrewAt kinds.Counter (ids_of e) handles lines round.moment n s t) (omega arith) (grew i (counter_thing s) (counter_thing t) (counter_at e i s at) (counter_at f i t at'))) in
+      (λ i s at. (subst (λ n. get_elem? (ids_of e) n ≡ some s.id) (omega arith) (counter_id e i s at), (rest.counters i s at).kind_is))
+      (λ i s t at at'. subst (λ n. GrewAt kinds.Counter (ids_of e) handles lines round.moment n s t) (omega arith) (grew i (counter_thing s) (counter_thing t) (counter_at e i s at) (counter_at f i t at'))) in
       let gauges = collect kinds.Gauge (ids_of e) handles lines round.moment (length e.series.counters) e.series.gauges f.series.gauges (ap (λ (x : Exporter). x.series.gauges) frame)
-          (λ i s at. (gauge_id e i s at, (rest.gauges i s at).kind_is))
-          (λ i s t at at'. grew (length e.series.counters + i) (gauge_thing s) (gauge_thing t) (gauge_at e i s at) (subst (λ n. get_elem? (things_of f) (n + i) ≡ some (gauge_thing t)) more (gauge_at f i t at'))) in
-      let orders : RoundOrders = record { counters = counters.0; gauges = gauges.0; histograms = [] } in
-      (orders, legal round are counters.0 gauges.0 counters.1 gauges.1, (λ i. record {
-        prometheus = record { counters = counters.2 i; gauges = gauges.2 i; histograms = []; made = (frame i).series.made; published = []; pending = [] };
-        handles = handles;
-      }))
+      (λ i s at. (gauge_id e i s at, (rest.gauges i s at).kind_is))
+      (λ i s t at at'. grew (length e.series.counters + i) (gauge_thing s) (gauge_thing t) (gauge_at e i s at) (subst (λ n. get_elem? (things_of f) (n + i) ≡ some (gauge_thing t)) more (gauge_at f i t at'))) in
+      let orders : RoundOrders = record { counters = counters.0; gauges = gauges.0; histograms = [] } in (
+        orders,
+        legal round are counters.0 gauges.0 counters.1 gauges.1,
+        (λ i. record {
+          prometheus = record { counters = counters.2 i; gauges = gauges.2 i; histograms = []; made = (frame i).series.made; published = []; pending = [] };
+          handles = handles;
+        }),
+      )
     where
       legal : (round : RoundText) → round.calls ≡ map call_line_of lines → (cs gs : List (List CallLine))
           → AllZip (λ series order. IsOrderOf (filter (is_call_on handles kinds.Counter series) (map call_line_of lines)) order) (all_shown kinds.Counter (ids_of e) handles lines round.moment e.series.counters) cs

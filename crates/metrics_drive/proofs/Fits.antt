@@ -1,13 +1,12 @@
 -- The handles of calls are of their kinds, from round to round.
-use Rattle.std.proofs.Common.{◌≡◌, ℕ, List, [], ◌∷◌, ◌++◌, map, fold, refl, sym, ap, subst, ◌∙◌, append-nil, append_assoc}
-use Rattle.std.specs.Prelude.{All, Option, Some, None, option_map, filter_map, slice_get}
-use Rattle.std.specs.List.{cons_option}
+use Rattle.std.proofs.Common.{◌≡◌, List, [], ◌∷◌, ◌++◌, map, fold, sym, ap, subst, ◌∙◌, append-nil, append_assoc}
+use Rattle.std.specs.Prelude.{All, option_map, filter_map, slice_get}
 use Rattle.std.proofs.lemmas.List.{map-append}
 use Rattle.std.proofs.lemmas.List.Elements.{All-head, All-tail, All-cons, All-nil}
 use Rattle.std.proofs.lemmas.Option.{same_Some, slice_get-map}
 use Rattle.metrics_core.specs.declared.kinds.MetricKind.{MetricKind}
 use Rattle.metrics_core.specs.declared.kinds.SeriesId.{SeriesId}
-use Rattle.drive_script.specs.Script.{CallLine, RoundText, SetupLine, Register, Describe, kind_of}
+use Rattle.drive_script.specs.Script.{CallLine, RoundText, SetupLine, Register, Describe}
 use Rattle.drive_script.specs.Texts.{call_line_of}
 use Rattle.drive_script.specs.Valid.{Registration, registration_of, registered_in, HasHandle}
 use Rattle.drive_script.specs.declared.script.CallLine.{CallLine as CallValue}

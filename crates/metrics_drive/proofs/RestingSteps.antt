@@ -9,7 +9,7 @@ use Rattle.legal_history.specs.History.{Settled, first}
 use Rattle.legal_history.proofs.Steps.{one_at}
 use Rattle.cell_lanes.specs.declared.lane.Lane.{Lane}
 use Rattle.cell_lanes.specs.Things.{Thing, root_of, fixed_of}
-use Rattle.cell_lanes.specs.Lanes.{AllTaken, AtRest, Home, Roots}
+use Rattle.cell_lanes.specs.Lanes.{AllTaken, AtRest, Roots}
 use Rattle.metrics_core.specs.Keys.{KeyText}
 use Rattle.metrics_core.specs.declared.kinds.MetricKind.{MetricKind}
 use Rattle.metrics_core.specs.declared.kinds.MetricKind.TheVariants as kinds

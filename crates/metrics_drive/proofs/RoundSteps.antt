@@ -1,5 +1,5 @@
 -- A round from its parts, and the rounds of a script one after another.
-use Rattle.std.proofs.Common.{◌≡◌, ℕ, ◌+◌, ◌<◌, List, [], ◌∷◌, ◌++◌, length, map, drop, drop-cons, get_or, suc, add-one, refl, sym, ap, subst, ◌∙◌}
+use Rattle.std.proofs.Common.{◌≡◌, ℕ, ◌+◌, ◌<◌, List, [], ◌∷◌, length, map, drop, drop-cons, get_or, suc, add-one, refl, sym, ap, subst, ◌∙◌}
 use Rattle.std.specs.Prelude.{Result, Ok, Err, OnOk, OnErr, Option}
 use Rattle.metrics_core.specs.Outside.{GrewBy, GrewByFront, GrewUpTo}
 use Rattle.metrics_core.proofs.Grown.{grew_none, grew_up_to-append, grew_up_to-end, grew_up_to-front, grew_up_to-start}
@@ -11,7 +11,7 @@ use Rattle.metrics_core.specs.declared.kinds.SeriesId.{SeriesId}
 use Rattle.drive_script.specs.Script.{RoundText, ScriptText, SettingsText}
 use Rattle.drive_script.specs.Texts.{round_of}
 use Rattle.drive_script.specs.declared.script.Round.{Round}
-use Rattle.metrics_drive.specs.Play.{PlayState, RoundOrders, AreOrders, AreOrdersAlong, AreOrdersOf, after_calls, after_round, after_setup, exporter_settings, page_of, play_start}
+use Rattle.metrics_drive.specs.Play.{PlayState, RoundOrders, AreOrders, AreOrdersAlong, AreOrdersOf, after_calls, after_round, after_setup, exporter_settings, play_start}
 use Rattle.metrics_drive.specs.InTurn.{orders_along, orders_in_turn}
 use Rattle.metrics_drive.specs.Orders.{ForSomeOrders, ForSomeRun, IsCalled, round_text, rounds_text, run_text}
 use Rattle.metrics_drive.proofs.RunPages.{orders_legal, orders_of_kind}
@@ -22,17 +22,16 @@ use Rattle.metrics_drive.proofs.RunPages.{orders_legal, orders_of_kind}
 pub after_page : (settings : SettingsText) (p q : PlayState) (round : RoundText) (exporter : Exporter) (handles : List SeriesId) → q ≡ after_setup p round → exporter.settings ≡ exporter_settings settings
     → IsCalled q round (record { prometheus = prometheus_of exporter; handles = handles })
     → ForSomeOrders p round (λ orders. (record { prometheus = page_step exporter.settings.idle round.moment (prometheus_of exporter); handles = handles } ≡ after_round settings p round orders)
-        × (page_text (page_families round.moment exporter) ≡ round_text settings p round orders))
+    × (page_text (page_families round.moment exporter) ≡ round_text settings p round orders))
 after_page settings p q round exporter handles set_up same called =
-    let state : record { prometheus = prometheus_of exporter; handles = handles } ≡ after_calls (after_setup p round) round called.0 = called.2 ∙ ap (λ s. after_calls s round called.0) set_up in
-    (
+    let state : record { prometheus = prometheus_of exporter; handles = handles } ≡ after_calls (after_setup p round) round called.0 = called.2 ∙ ap (λ s. after_calls s round called.0) set_up in (
       called.0,
       subst (λ s. AreOrdersOf s round called.0) set_up called.1,
       (
         ap (λ idle. record { prometheus = page_step idle round.moment (prometheus_of exporter); handles = handles }) (ap (λ s. s.idle) same)
-        ∙ ap (λ (x : PlayState). record { prometheus = page_step (exporter_settings settings).idle round.moment x.prometheus; handles = x.handles }) state,
+            ∙ ap (λ (x : PlayState). record { prometheus = page_step (exporter_settings settings).idle round.moment x.prometheus; handles = x.handles }) state,
         ap (λ s. page_text (families_shown s round.moment (prometheus_of exporter))) same
-        ∙ ap (λ (x : PlayState). page_text (families_at (exporter_settings settings) round.moment (page_step (exporter_settings settings).idle round.moment x.prometheus))) state,
+            ∙ ap (λ (x : PlayState). page_text (families_at (exporter_settings settings) round.moment (page_step (exporter_settings settings).idle round.moment x.prometheus))) state,
       ),
     )
 

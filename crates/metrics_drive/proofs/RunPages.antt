@@ -1,5 +1,5 @@
 -- A run in turn is one of the runs of a script, and what a run writes reads back as its pages.
-use Rattle.std.proofs.Common.{ℕ, List, [], ◌∷◌, refl, map}
+use Rattle.std.proofs.Common.{List, [], ◌∷◌, refl, map}
 use Rattle.std.specs.List.{AllZip}
 use Rattle.metrics_core.specs.declared.kinds.MetricKind.{MetricKind}
 use Rattle.metrics_core.specs.declared.kinds.MetricKind.TheVariants as kinds

@@ -1,5 +1,5 @@
 -- Which handles calls name: those of register lines of the calls' kinds.
-use Rattle.std.specs.Prelude.{◌≡◌, List, map, Option, Some, slice_get}
+use Rattle.std.specs.Prelude.{◌≡◌, List, map, Some, slice_get}
 use Rattle.metrics_core.specs.declared.kinds.MetricKind.{MetricKind}
 use Rattle.metrics_core.specs.declared.kinds.SeriesId.{SeriesId}
 use Rattle.drive_script.specs.Script.{CallLine, RoundText, kind_of}

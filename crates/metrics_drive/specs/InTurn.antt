@@ -1,5 +1,5 @@
 -- The run in which the lanes of a round take turns, so that each series' calls stand in the script's order.
-use Rattle.std.specs.Prelude.{ℕ, List, [], ◌∷◌, map}
+use Rattle.std.specs.Prelude.{List, [], ◌∷◌, map}
 use Rattle.metrics_core.specs.declared.kinds.MetricKind.TheVariants as kinds
 use Rattle.drive_script.specs.Script.{ScriptText, SettingsText, RoundText}
 use Rattle.metrics_drive.specs.Play.{PlayState, RoundOrders, play_start, after_setup, after_round, calls_on}

@@ -3,6 +3,8 @@
 
 mod drive;
 mod examples;
+#[cfg(test)]
+mod lane_tests;
 mod lanes;
 mod play;
 mod reading;

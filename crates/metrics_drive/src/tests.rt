@@ -161,14 +161,10 @@ fn shows<R: Threads + Wait + Sync>(
 #[test]
 fn shows_counters_and_gauges_of_any_texts(rt: HostRuntime) -> Result<(), Fail> {
     let alloc = rt.alloc();
-    let rows: [(&'static [u8], &'static [u8]); 9] = [
+    let rows: [(&'static [u8], &'static [u8]); 8] = [
         (
             b"round 0\nregister gauge \"basic_gauge\" \"wutang\"=\"forever\"\n0 set 0 -3.14\n",
             b"# TYPE basic_gauge gauge\nbasic_gauge{wutang=\"forever\"} -3.14\n\n# EOF\n",
-        ),
-        (
-            b"round 0\nregister counter \"c\"\n0 inc 0 1\n1 abs 0 10\n",
-            b"# TYPE c counter\nc 10\n\n# EOF\n",
         ),
         (
             b"round 0\nregister counter \"c\"\n0 inc 0 18446744073709551615\n0 inc 0 1\n",

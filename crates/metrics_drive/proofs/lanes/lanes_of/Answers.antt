@@ -1,4 +1,4 @@
-use Rattle.std.proofs.Common.{◌≡◌, ◌+◌, ◌<◌, ◌≤◌, ◌++◌, ℕ, List, [], ◌∷◌, length, refl, sym, ap, subst, ◌∙◌, ⊎_elim, ◌⊎◌, arith, length-append}
+use Rattle.std.proofs.Common.{◌≡◌, ◌<◌, ◌≤◌, [], ◌∷◌, length, sym, ap, subst, ◌∙◌, ⊎_elim, arith, length-append}
 use mathlib.Core.Option.{some}
 use mathlib.Core.Logic.{dite}
 use native.Mathlib.Decide.{ℕ_discrete}
@@ -6,7 +6,7 @@ use lib.ListN.{get_elem?}
 use Rattle.std.proofs.lemmas.Bool.{cases_lt}
 use Rattle.legal_history.proofs.Steps.{at_snoc_index}
 use Rattle.cell_lanes.specs.declared.lane.Lane.{Lane}
-use Rattle.cell_lanes.specs.Lanes.{AllFit, Fit, all_calls_on}
+use Rattle.cell_lanes.specs.Lanes.{Fit, all_calls_on}
 use Rattle.metrics_core.specs.declared.calls.SeriesCall.{SeriesCall}
 use Rattle.prom_exporter.specs.LanePasses.{ids_of}
 use Rattle.metrics_drive.specs.LaneCalls.{AllAsked, calls_at}

@@ -1,8 +1,8 @@
-use Rattle.std.proofs.Common.{◌≡◌, ◌<◌, ◌≤◌, ◌+◌, length, get_or, ℕ, List, [], ◌∷◌, subst, sym, ap, ◌∙◌, map, drop, drop_of_length-le, arith}
+use Rattle.std.proofs.Common.{◌≡◌, ◌<◌, ◌≤◌, ◌+◌, length, get_or, List, subst, sym, ap, ◌∙◌, map, drop, drop_of_length-le, arith}
 use Rattle.drive_script.specs.Script.{RoundText}
 use Rattle.drive_script.specs.Texts.{script_of, settings_of, round_of}
 use Rattle.metrics_drive.specs.Fitting.{CallsFit}
-use Rattle.metrics_drive.specs.Play.{PlayState, after_round}
+use Rattle.metrics_drive.specs.Play.{PlayState}
 use Rattle.metrics_drive.specs.Player.{state_of}
 use Rattle.metrics_drive.proofs.DriveSteps.{play_fault_later}
 use Rattle.metrics_drive.proofs.Fits.{first_fits, rest_fits}

@@ -1,5 +1,4 @@
-use Rattle.std.proofs.Common.{◌≡◌, ℕ, List, length, map, sym, ap, subst, ◌∙◌}
-use Rattle.std.specs.Prelude.{OnOk}
+use Rattle.std.proofs.Common.{◌≡◌, ℕ, List, length, sym, subst}
 use Rattle.cell_lanes.specs.declared.lane.Lane.{Lane}
 use Rattle.cell_lanes.specs.Things.{fixed_of, root_of}
 use Rattle.cell_lanes.specs.Lanes.{AllDone, AllFit, AllTaken, Each, Grew, all_calls_on}

@@ -1,4 +1,3 @@
-use Rattle.std.proofs.Common.{◌≡◌}
 use Rattle.metrics_drive.proofs.RestingSteps.{counter_rests, gauge_rests}
 use Rattle.metrics_drive.proofs.play.Player.set_up_line.Goals.{in-Counter+in_ok-id-in-Counter, in-Gauge+in_ok-id-in-Gauge}
 use Rattle.metrics_drive.proofs.play.Player.set_up_line.Goals as goal

@@ -1,4 +1,3 @@
-use Rattle.std.proofs.Common.{sym}
 use Rattle.metrics_core.proofs.Grown.{grew_front-longer, grew_front-append, grew-append}
 use Rattle.metrics_drive.proofs.play.Player.write_page.Goals as goal
 
