@@ -101,6 +101,21 @@ fn counters_before_gauges_with_global_labels(rt: HostRuntime) -> Result<(), Fail
 #[test]
 fn a_lent_counter_counts(rt: HostRuntime) -> Result<(), Fail> {
     let alloc = rt.alloc();
+    let mut exporter = PrometheusBuilder::new(alloc)?.build_state(alloc)?;
+    let id = exporter.register_counter(alloc, &Key::from_static_name("c"))?;
+    let Some(mut lent) = exporter.lend_counter(alloc, id)? else {
+        return Err(Fail::new("no series was lent"));
+    };
+    lent.handle.increment(&mut lent.pass, 5);
+    exporter.give_back_counter(lent);
+    let body = b"# TYPE c counter\nc 5\n\n";
+    assert_eq!(rt; page(alloc, &mut exporter)?.as_slice(), body.as_slice());
+    Ok(())
+}
+
+#[test]
+fn a_page_beside_a_lent_counter(rt: HostRuntime) -> Result<(), Fail> {
+    let alloc = rt.alloc();
     let mut exporter = counted(alloc, &Key::from_static_name("c"), [1, 1])?;
     let (kind, number) = (MetricKind::Counter, 0);
     let Some(mut lent) = exporter.lend_counter(alloc, SeriesId { kind, number })? else {
@@ -108,8 +123,6 @@ fn a_lent_counter_counts(rt: HostRuntime) -> Result<(), Fail> {
     };
     lent.handle.increment(&mut lent.pass, 5);
     let body = b"# TYPE c counter\nc 7\n\n";
-    assert_eq!(rt; page(alloc, &mut exporter)?.as_slice(), body.as_slice());
-    exporter.give_back_counter(lent);
     assert_eq!(rt; page(alloc, &mut exporter)?.as_slice(), body.as_slice());
     Ok(())
 }
