@@ -6,6 +6,7 @@ mod families;
 mod labels;
 mod laws;
 mod lines;
+mod matchers;
 mod names;
 mod numbers;
 mod printed;
@@ -20,6 +21,7 @@ pub use laws::{
     one_reading, one_text, printed_alike_where_meant_alike, sanitized_texts_are_names,
 };
 pub use lines::{row_head, write_help_line, write_metric_line, write_type_line};
+pub use matchers::{Matcher, matchers_are_ordered};
 pub use names::{sanitize_label_key, sanitize_metric_name};
 pub use numbers::{push_count, push_fixed};
 pub use printed::{sanitize_description, sanitize_label_value};

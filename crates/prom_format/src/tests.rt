@@ -1,7 +1,7 @@
 //! Worked examples of what stands on a page.
 
 use crate::{
-    LabelSet, push_count, push_fixed, sanitize_description, sanitize_label_key,
+    LabelSet, Matcher, push_count, push_fixed, sanitize_description, sanitize_label_key,
     sanitize_label_value, sanitize_metric_name, write_help_line, write_metric_line,
     write_type_line,
 };
@@ -171,5 +171,19 @@ fn labels_of_the_key_replace_global_ones(rt: HostRuntime) -> Result<(), Fail> {
         assert_eq!(rt; label.as_str(), printed);
     }
     assert!(rt; strings.next_string(rt.alloc()).is_none());
+    Ok(())
+}
+
+#[test]
+fn matchers_fit_names(rt: HostRuntime) -> Result<(), Fail> {
+    let alloc = rt.alloc();
+    let whole = Matcher::Full(String::from_str(alloc, "http")?);
+    let front = Matcher::Prefix(String::new(alloc)).sanitized(alloc)?;
+    let end = Matcher::Suffix(String::from_str(alloc, "5xx")?).sanitized(alloc)?;
+    assert!(rt; end == Matcher::Suffix(String::from_str(alloc, "_xx")?));
+    assert!(rt; !end.matches("http_5xx") && end.matches("http__xx"));
+    assert!(rt; whole.matches("http") && !whole.matches("http_"));
+    assert!(rt; front.matches("") && front.matches("http"));
+    assert!(rt; whole < front && front < end);
     Ok(())
 }
