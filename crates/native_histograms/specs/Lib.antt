@@ -1,0 +1,4 @@
+pub mod Native
+pub mod Settings
+pub mod Placed
+pub mod Vectors
