@@ -32,9 +32,9 @@ fn index_at_start(magnitude: u64) -> i32
 {
     let scaled = u128::from(magnitude) * 536_870_912;
     let mut bound = 1_000_000_000u128;
-    for place in 0..63i32 {
+    for place in 0..63u32 {
         if scaled <= bound {
-            return place - 29;
+            return place as i32 - 29;
         }
         bound *= 2;
     }
