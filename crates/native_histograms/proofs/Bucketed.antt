@@ -1,6 +1,6 @@
 -- Buckets as maps from indices to counts.
 use Rattle.std.proofs.Common.{◌≡◌, ℕ, zero, suc, ◌+◌, ◌-◌, ◌*◌, ◌<◌, ◌≤◌, Bool, true, false, cond, ◌&&◌, ◌||◌, not, eqb, List, [], ◌∷◌, ◌++◌, map, length, Option, Some, None, refl, sym, ap, subst, ◌∙◌, inl, inr, arith, zero-add, add-zero}
-use Rattle.std.specs.Prelude.{ℤ, pos, ◌<ℤ◌, ◌==◌, count_by, sum_by, fold, filter_map, replicate, unwrap_or}
+use Rattle.std.specs.Prelude.{ℤ, pos, is_none, nat_lt, ◌<ℤ◌, ◌==◌, count_by, sum_by, fold, filter_map, replicate, unwrap_or}
 use Rattle.std.specs.List.{AllByRecursion, range_with_len, list_any, cons_option}
 use Rattle.std.specs.List.Sorted.{IsStrictlySortedBy}
 use Rattle.std.specs.Map.{lookup, keys_of}
@@ -14,7 +14,7 @@ use Rattle.std.proofs.lemmas.List.Folds.{sum_by-replicate}
 use Rattle.std.proofs.lemmas.List.Sums.{sum_by-cons, sum_by-append}
 use Rattle.metrics_core.specs.Numbers.{in_64_bits}
 use Rattle.native_histograms.specs.Native.{indices, bucket_at, buckets_of}
-use Rattle.native_histograms.specs.Placed.{half_up, IsIndex, raised_at, Raises, Halves}
+use Rattle.native_histograms.specs.Placed.{half_up, IsIndex, raised_at, Raises, Halves, is_full}
 use Rattle.native_histograms.proofs.Indices.{place, IsIndex-half_up}
 
 -- how often an index is there
@@ -361,3 +361,16 @@ halves old new sorted folded found all stands =
     ∙ ap (λ es. fold (λ o e. raised_at (half_up e.0) e.1 q o) None es) stands
     ∙ fold_halved found q indices None
     ∙ ap held (halved_sum q found all))
+
+-- ---- whether a bucket opens
+
+is_none-held : (n : ℕ) → is_none (held n) ≡ (n == 0)
+is_none-held zero = refl
+is_none-held (suc n) = sym (not_zero (suc n) (omega arith))
+
+pub full_is : (max_buckets depth : ℕ) (side other : List (ℤ × ℕ)) (k : ℤ) (found others : List ℤ) → AllByRecursion IsIndex found → side ≡ buckets_of found → other ≡ buckets_of others
+    → (nat_lt depth 4 && (is_none (lookup (int_eq k) side) && nat_lt max_buckets (length side + length other + 1))) ≡ is_full max_buckets depth found others k
+full_is max_buckets depth side other k found others all stands stands' =
+    let none : is_none (lookup (int_eq k) side) ≡ (count found k == 0) =
+    ap (λ es. is_none (lookup (int_eq k) es)) stands ∙ ap is_none (lookup-buckets_of found all k) ∙ is_none-held (count found k) in
+    λ j. nat_lt depth 4 && (none j && nat_lt max_buckets (length (stands j) + length (stands' j) + 1))

@@ -1,9 +1,10 @@
 -- What a bucket gets, and what becomes of buckets when the schema falls.
-use Rattle.std.specs.Prelude.{◌≡◌, ℕ, ◌+◌, ◌/◌, ◌<◌, ◌==◌, Bool, ◌&&◌, nat_lt, List, ◌++◌, map, length, replicate, ℤ, pos, negsuc, ◌-ℤ◌, neg_ℤ, count_by, Option, Some, unwrap_or, if◌then◌else◌}
+use Rattle.std.specs.Prelude.{◌≡◌, ℕ, ◌+◌, ◌/◌, ◌<◌, ◌==◌, Bool, ◌&&◌, nat_lt, List, ◌++◌, map, length, replicate, ℤ, pos, negsuc, ◌-ℤ◌, neg_ℤ, FitsSigned, count_by, Option, Some, unwrap_or, if◌then◌else◌}
+use Rattle.std.specs.Int.{w64}
 use Rattle.std.specs.List.{AllByRecursion}
 use Rattle.std.specs.Ordering.{int_eq}
 use Rattle.metrics_core.specs.Numbers.{in_64_bits}
-use Rattle.native_histograms.specs.Native.{buckets_of}
+use Rattle.native_histograms.specs.Native.{NativeText, buckets_of, positive_buckets, negative_buckets, zero_count, native_depth}
 
 -- half of an index, rounded up
 abbrev pub half_up : ℤ → ℤ
@@ -36,7 +37,7 @@ pub record Sides : Type 0 where
 -- whether an index opens a bucket over the greatest number while the schema may fall
 abbrev pub is_full : ℕ → ℕ → List ℤ → List ℤ → ℤ → Bool
 is_full max_buckets depth found others index =
-    nat_lt depth 4 && (count_by (int_eq index) found == 0) && nat_lt max_buckets (length (buckets_of found) + length (buckets_of others) + 1)
+    nat_lt depth 4 && ((count_by (int_eq index) found == 0) && nat_lt max_buckets (length (buckets_of found) + length (buckets_of others) + 1))
 
 -- the sides after so many more of an index
 abbrev pub sides_behind : Bool → ℕ → List ℤ → List ℤ → ℤ × ℕ → Sides
@@ -49,3 +50,23 @@ Places max_buckets old placed new =
     (found others : List ℤ) → AllByRecursion IsIndex found → AllByRecursion IsIndex others → IsIndex placed.0
     → old.side ≡ buckets_of found → old.other ≡ buckets_of others
     → new ≡ sides_behind (is_full max_buckets old.depth found others placed.0) old.depth found others placed
+
+-- the buckets of a histogram: minus the schema, and the zeros
+pub record BucketsText : Type 0 where
+  pub depth : ℕ
+  pub positive : List (ℤ × ℕ)
+  pub negative : List (ℤ × ℕ)
+  pub zeros : ℕ
+
+abbrev pub parts_of : NativeText → List ℤ → BucketsText
+parts_of config values = record {
+  depth = native_depth config values;
+  positive = positive_buckets config (native_depth config values) values;
+  negative = negative_buckets config (native_depth config values) values;
+  zeros = zero_count config values;
+}
+
+-- the buckets after a value was put there so many times
+abbrev pub Adds : NativeText → BucketsText → ℤ × ℕ → BucketsText → Type 0
+Adds config old added new =
+    (values : List ℤ) → AllByRecursion (FitsSigned w64) values → old ≡ parts_of config values → new ≡ parts_of config (values ++ replicate added.1 added.0)

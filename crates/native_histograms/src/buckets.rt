@@ -18,7 +18,7 @@ pub(crate) fn index_of(depth: u32, magnitude: u64) -> i32
     ensures { result ≡ index_of depth magnitude }
 {
     let mut index = index_at_start(magnitude);
-    for _ in 0..depth {
+    for _lowered in 0..depth {
         index = half_up(index);
     }
     index
@@ -98,6 +98,19 @@ fn opens_too_many(
         && side.len() as u128 + other.len() as u128 + 1 > u128::from(max_buckets)
 }
 
+/// Whether it does while the depth may rise.
+fn is_full(
+    depth: u32,
+    side: &BTreeMap<i32, u64>,
+    other: &BTreeMap<i32, u64>,
+    max_buckets: u32,
+    index: i32,
+) -> bool
+    ensures { result ≡ (nat_lt depth 4 && (is_none (lookup (int_eq index) side.now.entries) && nat_lt max_buckets (length side.now.entries + length other.now.entries + 1))) }
+{
+    depth < 4 && opens_too_many(side, other, max_buckets, index)
+}
+
 /// Puts so many values of an index in the buckets of their sign, beside those of the other sign. Where that opens a bucket
 /// over the greatest number and the depth is under 4, the depth rises by one and all indices are halved upwards.
 pub(crate) fn place(
@@ -115,7 +128,7 @@ pub(crate) fn place(
     ensures refused_side { OnErr result (side.new.entries ≡ side.old.entries) }
     ensures refused_other { OnErr result (other.new.entries ≡ other.old.entries) }
 {
-    if *depth < 4 && opens_too_many(side, other, max_buckets, index) {
+    if is_full(*depth, side, other, max_buckets, index) {
         let mut merged = halved(alloc, side)?;
         let others = halved(alloc, other)?;
         raise(&mut merged, half_up(index), count)?;
