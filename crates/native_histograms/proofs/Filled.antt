@@ -6,6 +6,9 @@ use Rattle.std.specs.List.{AllByRecursion}
 use Rattle.std.specs.Ordering.{int_eq}
 use Rattle.std.specs.Cmp.{signed_Decides}
 use Rattle.std.proofs.lemmas.Int.{ints}
+use Rattle.std.proofs.lemmas.Bool.{lt-ltb, le-ltb}
+use Rattle.std.proofs.lemmas.List.{map-append}
+use Rattle.std.proofs.lemmas.List.Elements.{filter-append}
 use Rattle.std.proofs.lemmas.List.Folds.{sum_by-replicate}
 use Rattle.std.proofs.lemmas.List.Sums.{sum_by-append}
 use Rattle.metrics_core.specs.Numbers.{in_64_bits}
@@ -23,18 +26,6 @@ IsSound test = (v : ℤ) → test v ≡ true → 1 ≤ unsigned_abs v
 
 magnitude : (v : ℤ) → FitsSigned w64 v → unsigned_abs v ≤ 2 ^ 63
 magnitude v fits = omega (arith, ints)
-
-filter-append : (test : ℤ → Bool) (xs ys : List ℤ) → filter test (xs ++ ys) ≡ filter test xs ++ filter test ys
-filter-append test [] ys = refl
-filter-append test (x ∷ xs) ys = ap (λ l. cond (test x) (x ∷ l) l) (filter-append test xs ys) ∙ by (test x)
-  where
-    by : (b : Bool) → cond b (x ∷ filter test xs ++ filter test ys) (filter test xs ++ filter test ys) ≡ cond b (x ∷ filter test xs) (filter test xs) ++ filter test ys
-    by true = refl
-    by false = refl
-
-map-append : (f : ℤ → ℤ) (xs ys : List ℤ) → map f (xs ++ ys) ≡ map f xs ++ map f ys
-map-append f [] ys = refl
-map-append f (x ∷ xs) ys = ap (λ l. f x ∷ l) (map-append f xs ys)
 
 filter-passes : (test : ℤ → Bool) (v : ℤ) (n : ℕ) → test v ≡ true → filter test (replicate n v) ≡ replicate n v
 filter-passes test v zero is = refl
@@ -63,13 +54,11 @@ indices-same test d values v n is =
 -- all of them are indices
 all-indices : (test : ℤ → Bool) (d : ℕ) (values : List ℤ) → AllByRecursion (FitsSigned w64) values → AllByRecursion IsIndex (indices_where test d values)
 all-indices test d [] fit = tt
-all-indices test d (v ∷ values) fit = by (test v)
+all-indices test d (v ∷ values) fit = by (test v) (all-indices test d values fit.1)
   where
-    rest : AllByRecursion IsIndex (indices_where test d values)
-    rest = all-indices test d values fit.1
-    by : (b : Bool) → AllByRecursion IsIndex (map (λ v. index_of d (unsigned_abs v)) (cond b (v ∷ filter test values) (filter test values)))
-    by true = (IsIndex-index_of d (unsigned_abs v) (magnitude v fit.0), rest)
-    by false = rest
+    by : (b : Bool) → AllByRecursion IsIndex (indices_where test d values) → AllByRecursion IsIndex (map (λ v. index_of d (unsigned_abs v)) (cond b (v ∷ filter test values) (filter test values)))
+    by true rest = (IsIndex-index_of d (unsigned_abs v) (magnitude v fit.0), rest)
+    by false rest = rest
 
 -- at one schema lower each is halved upwards
 indices-halved : (test : ℤ → Bool) → IsSound test → (d : ℕ) (values : List ℤ) → AllByRecursion (FitsSigned w64) values
@@ -127,11 +116,171 @@ length-again : (test : ℤ → Bool) (d : ℕ) (values : List ℤ) (v : ℤ) (b 
     → length (buckets_of (indices_where test d ((values ++ v ∷ []) ++ v ∷ []))) ≡ length (buckets_of (indices_where test d (values ++ v ∷ [])))
 length-again test d values v true is fits =
     length-side test d (values ++ v ∷ []) v fits is
-    ∙ ap (λ c. length (buckets_of (indices_where test d (values ++ v ∷ []))) + cond c 1 0) (not_zero (count (indices_where test d (values ++ v ∷ [])) k) (omega (arith, more)))
+    ∙ ap (λ c. length (buckets_of (indices_where test d (values ++ v ∷ []))) + cond {A = ℕ} c 1 0) (not_zero (count (indices_where test d (values ++ v ∷ [])) (index_of d (unsigned_abs v))) (omega (arith, more)))
     ∙ add-zero (length (buckets_of (indices_where test d (values ++ v ∷ []))))
   where
-    k : ℤ
-    k = index_of d (unsigned_abs v)
+    once_more : (k : ℤ) (found : List ℤ) → 1 ≤ count (found ++ replicate 1 k) k
+    once_more k found = omega (arith, count-more found k k 1, ap (λ b. cond {A = ℕ} b 1 0) ((signed_Decides k k).1 refl))
     more : 1 ≤ count (indices_where test d (values ++ v ∷ [])) (index_of d (unsigned_abs v))
-    more = ?
-length-again test d values v false not fits = length-other test d (values ++ v ∷ []) v not
+    more = subst (λ l. 1 ≤ count l (index_of d (unsigned_abs v))) (sym (indices-more test d values v 1 is)) (once_more (index_of d (unsigned_abs v)) (indices_where test d values))
+length-again test d values v false under fits = length-other test d (values ++ v ∷ []) v under
+
+opens_by : (opens : Bool) (t t' s most : ℕ) → t' ≡ t + cond opens 1 0 → s ≡ t + 1 → (opens && nat_lt most s) ≡ (nat_lt t t' && nat_lt most t')
+opens_by true t t' s most is same =
+    let more : t' ≡ s = omega arith in
+    ap (λ n. nat_lt most n) (sym more) ∙ ap (λ b. b && nat_lt most t') (sym (lt-ltb t t' (omega arith)))
+opens_by false t t' s most is same = ap (λ b. b && nat_lt most t') (sym (le-ltb t t' (omega arith)))
+
+full_positive : (config : NativeText) (d : ℕ) (values : List ℤ) (v : ℤ) → FitsSigned w64 v → is_positive config v ≡ true → is_negative config v ≡ false
+    → is_full config.max_buckets d (indices_where (is_positive config) d values) (indices_where (is_negative config) d values) (index_of d (unsigned_abs v)) ≡ (nat_lt d 4 && opens_too_many config d values v)
+full_positive config d values v fits is not =
+    let side = length-side (is_positive config) d values v fits is in
+    let other = length-other (is_negative config) d values v not in
+    ap (λ b. nat_lt d 4 && b) (opens_by (count (indices_where (is_positive config) d values) (index_of d (unsigned_abs v)) == 0) (bucket_total config d values) (bucket_total config d (values ++ v ∷ []))
+    (bucket_total config d values + 1) config.max_buckets (omega (arith, side, other)) refl)
+
+full_negative : (config : NativeText) (d : ℕ) (values : List ℤ) (v : ℤ) → FitsSigned w64 v → is_positive config v ≡ false → is_negative config v ≡ true
+    → is_full config.max_buckets d (indices_where (is_negative config) d values) (indices_where (is_positive config) d values) (index_of d (unsigned_abs v)) ≡ (nat_lt d 4 && opens_too_many config d values v)
+full_negative config d values v fits not is =
+    let side = length-side (is_negative config) d values v fits is in
+    let other = length-other (is_positive config) d values v not in
+    ap (λ b. nat_lt d 4 && b) (opens_by (count (indices_where (is_negative config) d values) (index_of d (unsigned_abs v)) == 0) (bucket_total config d values) (bucket_total config d (values ++ v ∷ []))
+    (length (buckets_of (indices_where (is_negative config) d values)) + length (buckets_of (indices_where (is_positive config) d values)) + 1) config.max_buckets (omega (arith, side, other)) (omega arith))
+
+-- ---- the schema
+
+-- the same value again doesn't lower it
+stays_once : (config : NativeText) (d : ℕ) (values : List ℤ) (v : ℤ) → bucket_total config d (values ++ v ∷ []) ≡ bucket_total config d values → depth_behind config d values v ≡ d
+stays_once config d values v same =
+    ap (λ t. cond (nat_lt d 4 && (nat_lt (bucket_total config d values) t && nat_lt config.max_buckets t)) (d + 1) d) same
+    ∙ ap (λ b. cond (nat_lt d 4 && (b && nat_lt config.max_buckets (bucket_total config d values))) (d + 1) d) (le-ltb (bucket_total config d values) (bucket_total config d values) (omega arith))
+    ∙ by (nat_lt d 4)
+  where
+    by : (b : Bool) → cond (b && false) (d + 1) d ≡ d
+    by true = refl
+    by false = refl
+
+stays : (config : NativeText) (d : ℕ) (values : List ℤ) (v : ℤ) (n : ℕ) → FitsSigned w64 v → depth_after config d (values ++ v ∷ []) (replicate n v) ≡ d
+stays config d values v zero fits = refl
+stays config d values v (suc n) fits =
+    let same : bucket_total config d ((values ++ v ∷ []) ++ v ∷ []) ≡ bucket_total config d (values ++ v ∷ []) =
+    λ j. length-again (is_positive config) d values v (is_positive config v) refl fits j + length-again (is_negative config) d values v (is_negative config v) refl fits j in
+    ap (λ e. depth_after config e ((values ++ v ∷ []) ++ v ∷ []) (replicate n v)) (stays_once config d (values ++ v ∷ []) v same)
+    ∙ stays config d (values ++ v ∷ []) v n fits
+
+depth_after-append : (config : NativeText) (d : ℕ) (before xs ys : List ℤ) → depth_after config d before (xs ++ ys) ≡ depth_after config (depth_after config d before xs) (before ++ xs) ys
+depth_after-append config d before [] ys = ap (λ b. depth_after config d b ys) (sym (append-nil before))
+depth_after-append config d before (x ∷ xs) ys =
+    depth_after-append config (depth_behind config d before x) (before ++ x ∷ []) xs ys
+    ∙ ap (λ b. depth_after config (depth_after config (depth_behind config d before x) (before ++ x ∷ []) xs) b ys) (append_assoc before (x ∷ []) xs)
+
+depth-more : (config : NativeText) (values : List ℤ) (v : ℤ) (n : ℕ) → FitsSigned w64 v → 0 < n → native_depth config (values ++ replicate n v) ≡ depth_behind config (native_depth config values) values v
+depth-more config values v zero fits some = absurd (omega arith)
+depth-more config values v (suc n) fits some =
+    depth_after-append config config.depth [] values (v ∷ replicate n v)
+    ∙ stays config (depth_behind config (native_depth config values) values v) values v n fits
+
+-- a zero opens no bucket
+depth-same : (config : NativeText) (values : List ℤ) (v : ℤ) (n : ℕ) → FitsSigned w64 v → 0 < n → is_positive config v ≡ false → is_negative config v ≡ false
+    → native_depth config (values ++ replicate n v) ≡ native_depth config values
+depth-same config values v n fits some not not' =
+    let d = native_depth config values in
+    depth-more config values v n fits some
+    ∙ stays_once config d values v (λ j. length-other (is_positive config) d values v not j + length-other (is_negative config) d values v not' j)
+
+-- ---- zeros
+
+abbrev is_zero : NativeText → ℤ → Bool
+is_zero config v = not (is_positive config v || is_negative config v)
+
+zeros-more : (config : NativeText) (values : List ℤ) (v : ℤ) (n : ℕ)
+    → zero_count config (values ++ replicate n v) ≡ in_64_bits (zero_count config values + cond (not (is_positive config v || is_negative config v)) n 0)
+zeros-more config values v n =
+    ap in_64_bits (sum_by-append (λ x. cond (is_zero config x) 1 0) values (replicate n v) ∙ ap (λ m. count_by (is_zero config) values + m) (sum_by-replicate (λ x. cond (is_zero config x) 1 0) n v ∙ by (is_zero config v)))
+    ∙ wrapped (count_by (is_zero config) values) (cond (is_zero config v) n 0)
+  where
+    by : (b : Bool) → n * cond b 1 0 ≡ cond b n 0
+    by true = omega arith
+    by false = omega arith
+    wrapped : (a m : ℕ) → in_64_bits (a + m) ≡ in_64_bits (in_64_bits a + m)
+    wrapped a m = omega arith
+
+zeros-same : (config : NativeText) (values : List ℤ) (v : ℤ) (n : ℕ) → (is_positive config v || is_negative config v) ≡ true → zero_count config (values ++ replicate n v) ≡ zero_count config values
+zeros-same config values v n is =
+    zeros-more config values v n
+    ∙ ap (λ b. in_64_bits (zero_count config values + cond (not b) n 0)) is
+    ∙ again (count_by (λ v. not (is_positive config v || is_negative config v)) values)
+  where
+    again : (a : ℕ) → in_64_bits (in_64_bits a + 0) ≡ in_64_bits a
+    again a = omega arith
+
+-- ---- buckets
+
+positive-sound : (config : NativeText) → IsInRange config → IsSound (is_positive config)
+positive-sound config range v is = let least = range.threshold in grind (arith, ints)
+
+negative-sound : (config : NativeText) → IsInRange config → IsSound (is_negative config)
+negative-sound config range v is = let least = range.threshold in grind (arith, ints)
+
+positive-alone : (config : NativeText) → IsInRange config → (v : ℤ) → is_positive config v ≡ true → is_negative config v ≡ false
+positive-alone config range v is = let least = range.threshold in grind (arith, ints)
+
+or_true : (b : Bool) → (b || true) ≡ true
+or_true true = refl
+or_true false = refl
+
+pub adds_positive : (config : NativeText) → IsInRange config → (v : ℤ) (n : ℕ) → FitsSigned w64 v → 0 < n → is_positive config v ≡ true
+    → (old new : Sides) (zeros : ℕ) → Places config.max_buckets old (index_of old.depth (unsigned_abs v), n) new
+    → Adds config (record { depth = old.depth; positive = old.side; negative = old.other; zeros = zeros }) (v, n) (record { depth = new.depth; positive = new.side; negative = new.other; zeros = zeros })
+adds_positive config range v n fits some is old new zeros placed values fit stands =
+    let p = is_positive config in
+    let q = is_negative config in
+    let not = positive-alone config range v is in
+    let d = old.depth in
+    let depth : d ≡ native_depth config values = ap (λ b. b.depth) stands in
+    let k = index_of d (unsigned_abs v) in
+    let full = is_full config.max_buckets d (indices_where p d values) (indices_where q d values) k in
+    let behind : cond full (d + 1) d ≡ native_depth config (values ++ replicate n v) =
+    ap (λ b. cond b (d + 1) d) (full_positive config d values v fits is not) ∙ ap (λ e. depth_behind config e values v) depth ∙ sym (depth-more config values v n fits some) in
+    let sides : new ≡ record { depth = native_depth config (values ++ replicate n v); side = buckets_of (indices_where p (native_depth config (values ++ replicate n v)) (values ++ replicate n v)); other = buckets_of (indices_where q (native_depth config (values ++ replicate n v)) (values ++ replicate n v)) } =
+    placed (indices_where p d values) (indices_where q d values) (all-indices p d values fit) (all-indices q d values fit) (IsIndex-index_of d (unsigned_abs v) (magnitude v fits))
+    (ap (λ b. b.positive) stands ∙ ap (λ e. buckets_of (indices_where p e values)) (sym depth)) (ap (λ b. b.negative) stands ∙ ap (λ e. buckets_of (indices_where q e values)) (sym depth))
+    ∙ sides_at p q (positive-sound config range) (negative-sound config range) d values v n full fit fits is not
+    ∙ (λ j. record { depth = behind j; side = buckets_of (indices_where p (behind j) (values ++ replicate n v)); other = buckets_of (indices_where q (behind j) (values ++ replicate n v)) }) in
+    let same : zeros ≡ zero_count config (values ++ replicate n v) = ap (λ b. b.zeros) stands ∙ sym (zeros-same config values v n (ap (λ b. b || is_negative config v) is)) in
+    λ j. record { depth = (sides j).depth; positive = (sides j).side; negative = (sides j).other; zeros = same j }
+
+pub adds_negative : (config : NativeText) → IsInRange config → (v : ℤ) (n : ℕ) → FitsSigned w64 v → 0 < n → is_positive config v ≡ false → is_negative config v ≡ true
+    → (old new : Sides) (zeros : ℕ) → Places config.max_buckets old (index_of old.depth (unsigned_abs v), n) new
+    → Adds config (record { depth = old.depth; positive = old.other; negative = old.side; zeros = zeros }) (v, n) (record { depth = new.depth; positive = new.other; negative = new.side; zeros = zeros })
+adds_negative config range v n fits some not is old new zeros placed values fit stands =
+    let p = is_positive config in
+    let q = is_negative config in
+    let d = old.depth in
+    let depth : d ≡ native_depth config values = ap (λ b. b.depth) stands in
+    let k = index_of d (unsigned_abs v) in
+    let full = is_full config.max_buckets d (indices_where q d values) (indices_where p d values) k in
+    let behind : cond full (d + 1) d ≡ native_depth config (values ++ replicate n v) =
+    ap (λ b. cond b (d + 1) d) (full_negative config d values v fits not is) ∙ ap (λ e. depth_behind config e values v) depth ∙ sym (depth-more config values v n fits some) in
+    let sides : new ≡ record { depth = native_depth config (values ++ replicate n v); side = buckets_of (indices_where q (native_depth config (values ++ replicate n v)) (values ++ replicate n v)); other = buckets_of (indices_where p (native_depth config (values ++ replicate n v)) (values ++ replicate n v)) } =
+    placed (indices_where q d values) (indices_where p d values) (all-indices q d values fit) (all-indices p d values fit) (IsIndex-index_of d (unsigned_abs v) (magnitude v fits))
+    (ap (λ b. b.negative) stands ∙ ap (λ e. buckets_of (indices_where q e values)) (sym depth)) (ap (λ b. b.positive) stands ∙ ap (λ e. buckets_of (indices_where p e values)) (sym depth))
+    ∙ sides_at q p (negative-sound config range) (positive-sound config range) d values v n full fit fits is not
+    ∙ (λ j. record { depth = behind j; side = buckets_of (indices_where q (behind j) (values ++ replicate n v)); other = buckets_of (indices_where p (behind j) (values ++ replicate n v)) }) in
+    let same : zeros ≡ zero_count config (values ++ replicate n v) = ap (λ b. b.zeros) stands ∙ sym (zeros-same config values v n (ap (λ b. is_positive config v || b) is ∙ or_true (is_positive config v))) in
+    λ j. record { depth = (sides j).depth; positive = (sides j).other; negative = (sides j).side; zeros = same j }
+
+pub adds_zero : (config : NativeText) (v : ℤ) (n : ℕ) → FitsSigned w64 v → 0 < n → is_positive config v ≡ false → is_negative config v ≡ false
+    → (old : BucketsText) → Adds config old (v, n) (record old { zeros = in_64_bits (old.zeros + n) })
+adds_zero config v n fits some over under old values fit stands =
+    let p = is_positive config in
+    let q = is_negative config in
+    let vs = values ++ replicate n v in
+    let depth : native_depth config values ≡ native_depth config vs = sym (depth-same config values v n fits some over under) in
+    let positive : buckets_of (indices_where p (native_depth config values) values) ≡ buckets_of (indices_where p (native_depth config vs) vs) =
+    λ j. buckets_of ((sym (indices-same p (native_depth config values) values v n over) ∙ ap (λ e. indices_where p e vs) depth) j) in
+    let negative : buckets_of (indices_where q (native_depth config values) values) ≡ buckets_of (indices_where q (native_depth config vs) vs) =
+    λ j. buckets_of ((sym (indices-same q (native_depth config values) values v n under) ∙ ap (λ e. indices_where q e vs) depth) j) in
+    let zeros : in_64_bits (old.zeros + n) ≡ zero_count config vs =
+    ap (λ z. in_64_bits (z + n)) (ap (λ b. b.zeros) stands) ∙ sym (zeros-more config values v n ∙ ap (λ b. in_64_bits (zero_count config values + cond (not b) n 0)) (λ j. (over j || under j))) in
+    λ j. record { depth = (ap (λ b. b.depth) stands ∙ depth) j; positive = (ap (λ b. b.positive) stands ∙ positive) j; negative = (ap (λ b. b.negative) stands ∙ negative) j; zeros = zeros j }
