@@ -1,18 +1,86 @@
-//! The buckets of one sign: from each index to how many values have it.
+//! The buckets of a histogram: of each sign, from each index to how many values have it.
 
-ghost use Rattle.std.specs.Prelude.{◌≡◌, ℤ, ◌+◌, ◌*◌, ◌^◌, ◌<◌, ◌≤◌, IfOk, OnOk, OnErr, IsTrue, is_none, ◌&&◌, nat_lt, length};
+ghost use Rattle.std.specs.Prelude.{◌≡◌, [], ℤ, ◌+◌, ◌*◌, ◌^◌, ◌<◌, ◌≤◌, IfOk, OnOk, OnErr, IsTrue, is_none, ◌&&◌, nat_lt, length};
 ghost use Rattle.std.specs.Map.{lookup};
 ghost use Rattle.std.specs.Ordering.{int_cmp, int_eq};
 ghost use Rattle.std.specs.BTreeMap.{IsOrdered};
 ghost use Rattle.native_histograms.specs.Native.{index_of};
-ghost use Rattle.native_histograms.specs.Placed.{half_up, raised_at, Raises, Halves, Places};
+ghost use Rattle.native_histograms.specs.Placed.{half_up, raised_at, Raises, Halves, Places, Adds};
 
-use metrics_core::Memory;
+use crate::NativeHistogramConfig;
+use metrics_core::{Fixed, Memory};
 use std::alloc::Global;
 use std::collections::BTreeMap;
 
+/// The buckets and the zeros of a histogram.
+#[derive(Drop)]
+pub(crate) struct Buckets {
+    /// Minus the schema.
+    pub depth: u32,
+    /// From each index to its count, modulo 2^64.
+    pub positive: BTreeMap<i32, u64>,
+    pub negative: BTreeMap<i32, u64>,
+    pub zeros: u64,
+}
+
+impl Buckets {
+    ghost use Rattle.native_histograms.specs.Filled.{buckets_text};
+
+    /// No buckets.
+    pub fn new(alloc: Global, depth: u32) -> Buckets
+        ensures { buckets_text result ≡ record { depth = depth; positive = []; negative = []; zeros = 0 } }
+    {
+        Buckets {
+            depth,
+            positive: BTreeMap::new(alloc),
+            negative: BTreeMap::new(alloc),
+            zeros: 0,
+        }
+    }
+
+    /// Adds a value so many times.
+    pub fn add(
+        &mut self,
+        alloc: Global,
+        config: &NativeHistogramConfig,
+        value: Fixed,
+        count: u32,
+    ) -> Result<(), Memory>
+        requires { 0 < count }
+        ensures added { OnOk result (Adds config.now (buckets_text self.old) (value.0, count) (buckets_text self.new)) }
+        ensures depth { self.old.depth ≤ 4 → self.new.depth ≤ 4 }
+        ensures refused { OnErr result (buckets_text self.new ≡ buckets_text self.old) }
+    {
+        let threshold = config.zero_threshold().0;
+        if value.0 > threshold {
+            let index = index_of(self.depth, value.0.unsigned_abs());
+            let most = config.max_buckets();
+            place(alloc, &mut self.depth, &mut self.positive, &mut self.negative, most, index, count)
+        } else if value.0 < -threshold {
+            let index = index_of(self.depth, value.0.unsigned_abs());
+            let most = config.max_buckets();
+            place(alloc, &mut self.depth, &mut self.negative, &mut self.positive, most, index, count)
+        } else {
+            self.zeros = self.zeros.wrapping_add(u64::from(count));
+            Ok(())
+        }
+    }
+
+    /// The same buckets again.
+    pub fn duplicate(&self) -> Result<Buckets, Memory>
+        ensures { IfOk result (λ buckets. buckets_text buckets ≡ buckets_text self.now) }
+    {
+        Ok(Buckets {
+            depth: self.depth,
+            positive: self.positive.clone()?,
+            negative: self.negative.clone()?,
+            zeros: self.zeros,
+        })
+    }
+}
+
 /// The index of a magnitude in billionths at a depth: the least j with the magnitude at most 2^(j * 2^depth).
-pub(crate) fn index_of(depth: u32, magnitude: u64) -> i32
+fn index_of(depth: u32, magnitude: u64) -> i32
     requires least { 1 ≤ magnitude }
     requires most { magnitude ≤ 2 ^ 63 }
     ensures { result ≡ index_of depth magnitude }
@@ -113,7 +181,7 @@ fn is_full(
 
 /// Puts so many values of an index in the buckets of their sign, beside those of the other sign. Where that opens a bucket
 /// over the greatest number and the depth is under 4, the depth rises by one and all indices are halved upwards.
-pub(crate) fn place(
+fn place(
     alloc: Global,
     depth: &mut u32,
     side: &mut BTreeMap<i32, u64>,
@@ -124,6 +192,7 @@ pub(crate) fn place(
 ) -> Result<(), Memory>
     requires { 0 < count }
     ensures placed { OnOk result (Places max_buckets (record { depth = depth.old; side = side.old.entries; other = other.old.entries }) (index, count) (record { depth = depth.new; side = side.new.entries; other = other.new.entries })) }
+    ensures depth { depth.old ≤ 4 → depth.new ≤ 4 }
     ensures refused_depth { OnErr result (depth.new ≡ depth.old) }
     ensures refused_side { OnErr result (side.new.entries ≡ side.old.entries) }
     ensures refused_other { OnErr result (other.new.entries ≡ other.old.entries) }

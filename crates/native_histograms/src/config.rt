@@ -1,7 +1,7 @@
 //! The settings of a native histogram.
 
 ghost use Rattle.std.specs.Prelude.{◌≡◌, ◌≤◌, IfOk, IfErr, IfSome, Some};
-ghost use Rattle.native_histograms.specs.Settings.{factor_of, depth_of, refusal, Accepts};
+ghost use Rattle.native_histograms.specs.Settings.{factor_of, depth_of, refusal, Accepts, IsInRange};
 
 use metrics_core::Fixed;
 use std::marker::Model;
@@ -81,9 +81,18 @@ impl NativeHistogramConfig {
 
     /// A value is a zero where its magnitude is at most this, in billionths.
     pub fn zero_threshold(&self) -> Fixed
-        ensures { result.0 ≡ self.now.threshold }
+        ensures threshold { result.0 ≡ self.now.threshold }
+        ensures in_range { IsInRange self.now }
     {
         self.zero_threshold
+    }
+
+    /// Minus the schema at the start.
+    pub(crate) fn depth(&self) -> u32
+        ensures depth { result ≡ self.now.depth }
+        ensures in_range { IsInRange self.now }
+    {
+        self.depth
     }
 }
 

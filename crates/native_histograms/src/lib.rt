@@ -3,5 +3,9 @@
 
 mod buckets;
 mod config;
+mod histogram;
+mod laws;
 
 pub use config::NativeHistogramConfig;
+pub use histogram::NativeHistogram;
+pub use laws::same_in_any_cuts;
