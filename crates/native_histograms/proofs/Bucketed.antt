@@ -240,6 +240,10 @@ pub same_buckets : (es : List (ℤ × ℕ)) (found : List ℤ) → AllByRecursio
     → ((q : ℤ) → lookup (λ k. int_eq q k) es ≡ held (count found q)) → es ≡ buckets_of found
 same_buckets es found all sorted same = same_entries es (buckets_of found) sorted (sorted-buckets_of found) (λ q. same q ∙ sym (lookup-buckets_of found all q))
 
+pub buckets_of-none : buckets_of [] ≡ []
+unfolding buckets_of indices
+buckets_of-none = refl
+
 -- ---- more of an index
 
 pub count-more : (found : List ℤ) (q k : ℤ) (n : ℕ) → count (found ++ replicate n k) q ≡ count found q + cond (int_eq q k) n 0
@@ -258,13 +262,13 @@ held-raised found q k n some = by (int_eq q k) ∙ ap held (sym (count-more foun
     by true = sym (added-some (held (count found q)) n some) ∙ added-added None (count found q) n
     by false = ap held (sym (add-zero (count found q)))
 
-all-append : (xs ys : List ℤ) → AllByRecursion IsIndex xs → AllByRecursion IsIndex ys → AllByRecursion IsIndex (xs ++ ys)
-all-append [] ys all more = more
-all-append (x ∷ xs) ys all more = (all.0, all-append xs ys all.1 more)
+pub all-append : (P : ℤ → Type 0) (xs ys : List ℤ) → AllByRecursion P xs → AllByRecursion P ys → AllByRecursion P (xs ++ ys)
+all-append P [] ys all more = more
+all-append P (x ∷ xs) ys all more = (all.0, all-append P xs ys all.1 more)
 
-all-replicate : (n : ℕ) (k : ℤ) → IsIndex k → AllByRecursion IsIndex (replicate n k)
-all-replicate zero k is = tt
-all-replicate (suc n) k is = (is, all-replicate n k is)
+pub all-replicate : (P : ℤ → Type 0) (n : ℕ) (k : ℤ) → P k → AllByRecursion P (replicate n k)
+all-replicate P zero k is = tt
+all-replicate P (suc n) k is = (is, all-replicate P n k is)
 
 pub all-map-half_up : (xs : List ℤ) → AllByRecursion IsIndex xs → AllByRecursion IsIndex (map half_up xs)
 all-map-half_up [] all = tt
@@ -273,7 +277,7 @@ all-map-half_up (x ∷ xs) all = (IsIndex-half_up x all.0, all-map-half_up xs al
 pub raises : (old new : List (ℤ × ℕ)) (k : ℤ) (n : ℕ) → 0 < n → IsStrictlySortedBy int_cmp (keys_of new)
     → ((q : ℤ) → lookup (λ i. int_eq q i) new ≡ raised_at k n q (lookup (λ i. int_eq q i) old)) → Raises old (k, n) new
 raises old new k n some sorted raised found all is stands =
-    same_buckets new (found ++ replicate n k) (all-append found (replicate n k) all (all-replicate n k is)) sorted (λ q.
+    same_buckets new (found ++ replicate n k) (all-append IsIndex found (replicate n k) all (all-replicate IsIndex n k is)) sorted (λ q.
     raised q
     ∙ ap (λ es. raised_at k n q (lookup (λ i. int_eq q i) es)) stands
     ∙ ap (raised_at k n q) (lookup-buckets_of found all q)

@@ -1,6 +1,6 @@
 -- Buckets of lists of values, a value more.
 use Rattle.std.proofs.Common.{◌≡◌, ℕ, zero, suc, ◌+◌, ◌*◌, ◌<◌, ◌≤◌, ◌^◌, Bool, true, false, cond, ◌&&◌, ◌||◌, not, List, [], ◌∷◌, ◌++◌, map, length, refl, sym, ap, subst, ◌∙◌, arith, append_assoc, append-nil, add-one, add-zero}
-use Rattle.std.specs.Prelude.{ℤ, pos, ◌≤ℤ◌, ◌==◌, nat_lt, int_lt, neg_ℤ, unsigned_abs, FitsSigned, count_by, filter, replicate}
+use Rattle.std.specs.Prelude.{ℤ, pos, ◌≤ℤ◌, ◌<ℤ◌, ◌==◌, nat_lt, int_lt, neg_ℤ, unsigned_abs, FitsSigned, count_by, filter, replicate}
 use Rattle.std.specs.Int.{w64}
 use Rattle.std.specs.List.{AllByRecursion}
 use Rattle.std.specs.Ordering.{int_eq}
@@ -17,6 +17,12 @@ use Rattle.native_histograms.specs.Settings.{IsInRange}
 use Rattle.native_histograms.specs.Placed.{half_up, IsIndex, Sides, sides_behind, is_full, Places, BucketsText, parts_of, Adds}
 use Rattle.native_histograms.proofs.Indices.{IsIndex-index_of, index_of-halved}
 use Rattle.native_histograms.proofs.Bucketed.{count, count-more, not_zero, length-buckets_of-push}
+
+pub lt-int_lt : (a b : ℤ) → a <ℤ b → int_lt a b ≡ true
+lt-int_lt a b lt = grind (arith, ints)
+
+pub le-int_lt : (a b : ℤ) → b ≤ℤ a → int_lt a b ≡ false
+le-int_lt a b le = grind (arith, ints)
 
 -- ---- indices of values
 
