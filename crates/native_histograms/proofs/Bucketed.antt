@@ -1,6 +1,6 @@
 -- Buckets as maps from indices to counts.
-use Rattle.std.proofs.Common.{◌≡◌, ℕ, zero, suc, ◌+◌, ◌-◌, ◌*◌, ◌<◌, ◌≤◌, Bool, true, false, cond, ◌&&◌, ◌||◌, not, eqb, List, [], ◌∷◌, ◌++◌, map, length, Option, Some, None, refl, sym, ap, subst, ◌∙◌, inl, inr, arith, zero-add, add-zero}
-use Rattle.std.specs.Prelude.{ℤ, pos, is_none, nat_lt, ◌<ℤ◌, ◌==◌, count_by, sum_by, fold, filter_map, replicate, unwrap_or}
+use Rattle.std.proofs.Common.{◌≡◌, ℕ, zero, suc, ◌+◌, ◌*◌, ◌<◌, ◌≤◌, Bool, true, false, cond, ◌&&◌, ◌||◌, not, List, [], ◌∷◌, ◌++◌, map, length, Option, Some, None, refl, sym, ap, subst, ◌∙◌, inl, inr, arith, zero-add, add-zero}
+use Rattle.std.specs.Prelude.{ℤ, is_none, nat_lt, ◌<ℤ◌, ◌==◌, count_by, sum_by, fold, filter_map, replicate, unwrap_or}
 use Rattle.std.specs.List.{AllByRecursion, range_with_len, list_any, cons_option}
 use Rattle.std.specs.List.Sorted.{IsStrictlySortedBy}
 use Rattle.std.specs.Map.{lookup, keys_of}
@@ -89,14 +89,14 @@ once_from : (b n k : ℕ) (g : ℤ → ℕ) → b ≤ k → k < b + n → sum_by
 once_from b zero k g least most = absurd (omega arith)
 once_from b (suc n) k g least most = elim (cases_lt b k) [
   | inl lt ↦
-    sum_by-cons (λ i. cond (int_eq i (place k)) (g i) 0) (place b) (map place (range_with_len (b + 1) n))
-    ∙ (λ j. cond ((int_eq_equiv.symm (place b) (place k) ∙ places_apart k b lt) j) (g (place b)) 0 + once_from (b + 1) n k g (omega arith) (omega arith) j)
-    ∙ zero-add (g (place k))
+      sum_by-cons (λ i. cond (int_eq i (place k)) (g i) 0) (place b) (map place (range_with_len (b + 1) n))
+      ∙ (λ j. cond ((int_eq_equiv.symm (place b) (place k) ∙ places_apart k b lt) j) (g (place b)) 0 + once_from (b + 1) n k g (omega arith) (omega arith) j)
+      ∙ zero-add (g (place k))
   | inr ge ↦
-    let same : b ≡ k = omega arith in
-    sum_by-cons (λ i. cond (int_eq i (place k)) (g i) 0) (place b) (map place (range_with_len (b + 1) n))
-    ∙ (λ j. cond ((ap (λ x. int_eq (place x) (place k)) same ∙ itself (place k)) j) (g (place (same j))) 0 + apart_below (b + 1) n (place k) g (λ x le. places_apart x k (omega arith)) j)
-    ∙ add-zero (g (place k))
+      let same : b ≡ k = omega arith in
+      sum_by-cons (λ i. cond (int_eq i (place k)) (g i) 0) (place b) (map place (range_with_len (b + 1) n))
+      ∙ (λ j. cond ((ap (λ x. int_eq (place x) (place k)) same ∙ itself (place k)) j) (g (place (same j))) 0 + apart_below (b + 1) n (place k) g (λ x le. places_apart x k (omega arith)) j)
+      ∙ add-zero (g (place k))
 ]
 
 -- an index is there once
@@ -117,6 +117,7 @@ lookup-among found q (i ∷ is) =
         → lookup (λ k. int_eq q k) (cons_option (cond none None (Some (i, in_64_bits n))) es) ≡ cond (not none && int_eq q i) (Some (in_64_bits n)) (lookup (λ k. int_eq q k) es)
     first_bucket q i n es true is = refl
     first_bucket q i n es false is = refl
+
     with_rest : (n m : ℕ) (none : Bool) → (n == 0) ≡ none → (own : Bool) → (own ≡ true → n ≡ m) → (any : Bool)
         → cond (not none && own) (Some (in_64_bits n)) (cond any (held m) None) ≡ cond (own || any) (held m) None
     with_rest n m true is true same true = refl
@@ -226,8 +227,10 @@ same_entries (x ∷ xs) (y ∷ ys) sorted sorted' same =
     by Greater is ranks =
         let lt = below y.0 x.0 ranks in
         absurd (is_there y.1 (sym (at_head y ys) ∙ sym (same y.0) ∙ lookup-below y.0 (x ∷ xs) (lt, all_below y.0 x.0 (keys_of xs) lt sorted.0)))
+
     past : (q : ℤ) (e : ℤ × ℕ) (es : List (ℤ × ℕ)) → int_eq q e.0 ≡ false → lookup (λ k. int_eq q k) (e ∷ es) ≡ lookup (λ k. int_eq q k) es
     past q e es apart = ap (λ b. cond b (Some e.1) (lookup (λ k. int_eq q k) es)) apart
+
     tails : (q : ℤ) → x.0 ≡ y.0 → (b : Bool) → int_eq q x.0 ≡ b → lookup (λ k. int_eq q k) xs ≡ lookup (λ k. int_eq q k) ys
     tails q heads true is =
         let own = same_index q x.0 is in
@@ -305,6 +308,7 @@ length-buckets_of-push found k is =
     either : (b : Bool) → cond b 0 1 + cond b 1 0 ≡ 1
     either true = refl
     either false = refl
+
     by : (n : ℕ) (own : Bool) (m : ℕ) → m ≡ n + cond own 1 0 → cond (m == 0) 0 1 ≡ cond (n == 0) 0 1 + cond own (cond (n == 0) 1 0) 0
     by n true m is = ap (λ b. cond b 0 1) (not_zero m (omega arith)) ∙ sym (either (n == 0))
     by n false m is = let f : ℕ → ℕ = λ x. cond (x == 0) 0 1 in let same : m ≡ n = omega arith in ap f same ∙ sym (add-zero (f n))
@@ -342,11 +346,13 @@ fold_halved found q (i ∷ is) before =
     none_more : (own : Bool) → before ≡ added before (cond own 0 0)
     none_more true = refl
     none_more false = refl
+
     some_more : (n : ℕ) (own : Bool) → 0 < n → cond own (Some (in_64_bits (unwrap_or before 0 + in_64_bits n))) before ≡ added before (cond own n 0)
     some_more n true some =
         let wrapped : in_64_bits (unwrap_or before 0 + in_64_bits n) ≡ in_64_bits (unwrap_or before 0 + n) = omega arith in
         ap (λ x. Some x) wrapped ∙ sym (added-some before n some)
     some_more n false some = refl
+
     first_bucket : (n : ℕ) (none : Bool) → (n == 0) ≡ none
         → fold (λ o e. raised_at (half_up e.0) e.1 q o) before (cons_option (cond none None (Some (i, in_64_bits n))) (filter_map (bucket_at found) is))
         ≡ fold (λ o e. raised_at (half_up e.0) e.1 q o) (added before (cond (int_eq q (half_up i)) n 0)) (filter_map (bucket_at found) is)

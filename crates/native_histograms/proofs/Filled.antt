@@ -1,9 +1,8 @@
 -- Buckets of lists of values, a value more.
 use Rattle.std.proofs.Common.{◌≡◌, ℕ, zero, suc, ◌+◌, ◌*◌, ◌<◌, ◌≤◌, ◌^◌, Bool, true, false, cond, ◌&&◌, ◌||◌, not, List, [], ◌∷◌, ◌++◌, map, length, refl, sym, ap, subst, ◌∙◌, arith, append_assoc, append-nil, add-one, add-zero}
-use Rattle.std.specs.Prelude.{ℤ, pos, ◌≤ℤ◌, ◌<ℤ◌, ◌==◌, nat_lt, int_lt, neg_ℤ, unsigned_abs, FitsSigned, count_by, filter, replicate}
+use Rattle.std.specs.Prelude.{ℤ, ◌≤ℤ◌, ◌<ℤ◌, ◌==◌, nat_lt, int_lt, unsigned_abs, FitsSigned, count_by, filter, replicate}
 use Rattle.std.specs.Int.{w64}
 use Rattle.std.specs.List.{AllByRecursion}
-use Rattle.std.specs.Ordering.{int_eq}
 use Rattle.std.specs.Cmp.{signed_Decides}
 use Rattle.std.proofs.lemmas.Int.{ints}
 use Rattle.std.proofs.lemmas.Bool.{lt-ltb, le-ltb}
@@ -14,7 +13,7 @@ use Rattle.std.proofs.lemmas.List.Sums.{sum_by-append}
 use Rattle.metrics_core.specs.Numbers.{in_64_bits}
 use Rattle.native_histograms.specs.Native.{NativeText, index_of, is_positive, is_negative, indices_where, buckets_of, bucket_total, opens_too_many, depth_behind, depth_after, native_depth, zero_count}
 use Rattle.native_histograms.specs.Settings.{IsInRange}
-use Rattle.native_histograms.specs.Placed.{half_up, IsIndex, Sides, sides_behind, is_full, Places, BucketsText, parts_of, Adds}
+use Rattle.native_histograms.specs.Placed.{half_up, IsIndex, Sides, sides_behind, is_full, Places, BucketsText, Adds}
 use Rattle.native_histograms.proofs.Indices.{IsIndex-index_of, index_of-halved}
 use Rattle.native_histograms.proofs.Bucketed.{count, count-more, not_zero, length-buckets_of-push}
 
@@ -90,14 +89,14 @@ sides_at : (test other : ℤ → Bool) → IsSound test → IsSound other → (d
 sides_at test other sound sound' d values v n true fit fits is not = λ j. record {
   depth = d + 1;
   side = buckets_of (
-    (ap (λ l. l ++ replicate n (half_up (index_of d (unsigned_abs v)))) (sym (indices-halved test sound d values fit))
-    ∙ ap (λ i. indices_where test (suc d) values ++ replicate n i) (sym (index_of-halved d (unsigned_abs v) (sound v is) (magnitude v fits)))
-    ∙ sym (indices-more test (suc d) values v n is)
-    ∙ ap (λ e. indices_where test e (values ++ replicate n v)) (sym (add-one d))) j);
+      (ap (λ l. l ++ replicate n (half_up (index_of d (unsigned_abs v)))) (sym (indices-halved test sound d values fit))
+      ∙ ap (λ i. indices_where test (suc d) values ++ replicate n i) (sym (index_of-halved d (unsigned_abs v) (sound v is) (magnitude v fits)))
+      ∙ sym (indices-more test (suc d) values v n is)
+      ∙ ap (λ e. indices_where test e (values ++ replicate n v)) (sym (add-one d))) j);
   other = buckets_of (
-    (sym (indices-halved other sound' d values fit)
-    ∙ sym (indices-same other (suc d) values v n not)
-    ∙ ap (λ e. indices_where other e (values ++ replicate n v)) (sym (add-one d))) j);
+      (sym (indices-halved other sound' d values fit)
+      ∙ sym (indices-same other (suc d) values v n not)
+      ∙ ap (λ e. indices_where other e (values ++ replicate n v)) (sym (add-one d))) j);
 }
 sides_at test other sound sound' d values v n false fit fits is not = λ j. record {
   depth = d;
@@ -127,6 +126,7 @@ length-again test d values v true is fits =
   where
     once_more : (k : ℤ) (found : List ℤ) → 1 ≤ count (found ++ replicate 1 k) k
     once_more k found = omega (arith, count-more found k k 1, ap (λ b. cond {A = ℕ} b 1 0) ((signed_Decides k k).1 refl))
+
     more : 1 ≤ count (indices_where test d (values ++ v ∷ [])) (index_of d (unsigned_abs v))
     more = subst (λ l. 1 ≤ count l (index_of d (unsigned_abs v))) (sym (indices-more test d values v 1 is)) (once_more (index_of d (unsigned_abs v)) (indices_where test d values))
 length-again test d values v false under fits = length-other test d (values ++ v ∷ []) v under
@@ -208,6 +208,7 @@ zeros-more config values v n =
     by : (b : Bool) → n * cond b 1 0 ≡ cond b n 0
     by true = omega arith
     by false = omega arith
+
     wrapped : (a m : ℕ) → in_64_bits (a + m) ≡ in_64_bits (in_64_bits a + m)
     wrapped a m = omega arith
 

@@ -1,12 +1,12 @@
 -- The bucket of a magnitude at one schema lower is that with its index halved upwards.
-use Rattle.std.proofs.Common.{◌≡◌, ℕ, zero, suc, ◌+◌, ◌-◌, ◌*◌, ◌/◌, ◌^◌, ◌<◌, ◌≤◌, Bool, true, false, cond, ltb, leb, List, [], ◌∷◌, map, Some, None, refl, sym, ap, subst, ◌∙◌, inl, inr, arith}
+use Rattle.std.proofs.Common.{◌≡◌, ℕ, zero, suc, ◌+◌, ◌-◌, ◌*◌, ◌/◌, ◌^◌, ◌<◌, ◌≤◌, Bool, true, false, cond, map, Some, None, refl, sym, ap, subst, ◌∙◌, inl, inr, arith}
 use Rattle.std.specs.Prelude.{ℤ, pos, negsuc, ◌+ℤ◌, ◌-ℤ◌, ◌≤ℤ◌, ◌<ℤ◌, nat_le, find, unwrap_or, Option}
 use Rattle.std.specs.List.{range_with_len}
 use Rattle.std.proofs.lemmas.Bool.{leb-true, le-leb, cases_lt, false≢true}
 use Rattle.std.proofs.lemmas.Int.{ints, by_lt_z}
 use Rattle.std.proofs.lemmas.Nat.{pow-add, pow_pos}
 use Rattle.std.proofs.Math.Pow.{pow_mono}
-use Rattle.std.proofs.Math.Nat.{pow-suc, mul_assoc, mul_comm, mul-one, mul-le-mul_left, mul-le-mul_right, le_of_mul-le-mul_right, le_trans}
+use Rattle.std.proofs.Math.Nat.{pow-suc, mul_assoc, mul_comm, mul-one, mul-le-mul_left, mul-le-mul_right, le_of_mul-le-mul_right}
 use Rattle.metrics_core.specs.Numbers.{one}
 use Rattle.native_histograms.specs.Native.{is_within, indices, index_of}
 use Rattle.native_histograms.specs.Placed.{half_up, IsIndex}
@@ -118,6 +118,7 @@ first_index d m most = first (is_within d m) 0 63 (le-leb m (one * 2 ^ (34 * 2 ^
   where
     least_power : 1 ≤ 2 ^ d
     least_power = let q = pow_pos d in omega arith
+
     top : one * 2 ^ 34 ≤ one * 2 ^ (34 * 2 ^ d)
     top = mul-le-mul_left one (pow_mono {i = 34} {j = 34 * 2 ^ d} (omega (arith, least_power)))
 
@@ -140,8 +141,8 @@ least-index_of d m least most = record { within = (first_index d m most).within;
         omega (arith, ints, same, (first_index d m most).least (i + 29) (omega arith) (ap (is_within d m) same ∙ within))
     by (negsuc i) within = elim (cases_lt i 29) [
       | inl lt ↦
-        let same : place (28 - i) ≡ negsuc i = omega (arith, ints) in
-        omega (arith, ints, same, (first_index d m most).least (28 - i) (omega arith) (ap (is_within d m) same ∙ within))
+          let same : place (28 - i) ≡ negsuc i = omega (arith, ints) in
+          omega (arith, ints, same, (first_index d m most).least (28 - i) (omega arith) (ap (is_within d m) same ∙ within))
       | inr ge ↦ absurd (under_all d m i least ge within)
     ]
 
@@ -160,32 +161,32 @@ IsIndex-half_up (negsuc j) is = let h : is.0 < 64 = is.1 in let same : negsuc j 
 within_from_start : (m k : ℕ) → m * 2 ^ 29 ≤ one * 2 ^ k → is_within 0 m (place k) ≡ true
 within_from_start m k le = elim (cases_lt k 29) [
   | inl lt ↦
-    let same : place k ≡ negsuc (28 - k) = omega (arith, ints) in
-    let sum : 29 ≡ (28 - k + 1) * 1 + k = omega arith in
-    let powers : 2 ^ 29 ≡ 2 ^ ((28 - k + 1) * 1) * 2 ^ k = ap (λ e. 2 ^ e) sum ∙ pow-add 2 ((28 - k + 1) * 1) k in
-    let more : m * 2 ^ ((28 - k + 1) * 1) * 2 ^ k ≤ one * 2 ^ k = subst (λ x. x ≤ one * 2 ^ k) (ap (λ p. m * p) powers ∙ sym (mul_assoc m (2 ^ ((28 - k + 1) * 1)) (2 ^ k))) le in
-    ap (is_within 0 m) same ∙ le-leb (m * 2 ^ ((28 - k + 1) * 1)) one (le_of_mul-le-mul_right more (pow_pos k))
+      let same : place k ≡ negsuc (28 - k) = omega (arith, ints) in
+      let sum : 29 ≡ (28 - k + 1) * 1 + k = omega arith in
+      let powers : 2 ^ 29 ≡ 2 ^ ((28 - k + 1) * 1) * 2 ^ k = ap (λ e. 2 ^ e) sum ∙ pow-add 2 ((28 - k + 1) * 1) k in
+      let more : m * 2 ^ ((28 - k + 1) * 1) * 2 ^ k ≤ one * 2 ^ k = subst (λ x. x ≤ one * 2 ^ k) (ap (λ p. m * p) powers ∙ sym (mul_assoc m (2 ^ ((28 - k + 1) * 1)) (2 ^ k))) le in
+      ap (is_within 0 m) same ∙ le-leb (m * 2 ^ ((28 - k + 1) * 1)) one (le_of_mul-le-mul_right more (pow_pos k))
   | inr ge ↦
-    let same : place k ≡ pos (k - 29) = omega (arith, ints) in
-    let sum : k ≡ 29 + (k - 29) * 1 = omega arith in
-    let powers : 2 ^ k ≡ 2 ^ 29 * 2 ^ ((k - 29) * 1) = ap (λ e. 2 ^ e) sum ∙ pow-add 2 29 ((k - 29) * 1) in
-    ap (is_within 0 m) same ∙ le-leb m (one * 2 ^ ((k - 29) * 1)) (omega arith)
+      let same : place k ≡ pos (k - 29) = omega (arith, ints) in
+      let sum : k ≡ 29 + (k - 29) * 1 = omega arith in
+      let powers : 2 ^ k ≡ 2 ^ 29 * 2 ^ ((k - 29) * 1) = ap (λ e. 2 ^ e) sum ∙ pow-add 2 29 ((k - 29) * 1) in
+      ap (is_within 0 m) same ∙ le-leb m (one * 2 ^ ((k - 29) * 1)) (omega arith)
 ]
 
 within_to_start : (m k : ℕ) → is_within 0 m (place k) ≡ true → m * 2 ^ 29 ≤ one * 2 ^ k
 within_to_start m k within = elim (cases_lt k 29) [
   | inl lt ↦
-    let same : place k ≡ negsuc (28 - k) = omega (arith, ints) in
-    let sum : 29 ≡ (28 - k + 1) * 1 + k = omega arith in
-    let powers : 2 ^ 29 ≡ 2 ^ ((28 - k + 1) * 1) * 2 ^ k = ap (λ e. 2 ^ e) sum ∙ pow-add 2 ((28 - k + 1) * 1) k in
-    let less : m * 2 ^ ((28 - k + 1) * 1) ≤ one = leb-true (m * 2 ^ ((28 - k + 1) * 1)) one (sym (ap (is_within 0 m) same) ∙ within) in
-    subst (λ x. x ≤ one * 2 ^ k) (sym (ap (λ p. m * p) powers ∙ sym (mul_assoc m (2 ^ ((28 - k + 1) * 1)) (2 ^ k)))) (mul-le-mul_right (2 ^ k) less)
+      let same : place k ≡ negsuc (28 - k) = omega (arith, ints) in
+      let sum : 29 ≡ (28 - k + 1) * 1 + k = omega arith in
+      let powers : 2 ^ 29 ≡ 2 ^ ((28 - k + 1) * 1) * 2 ^ k = ap (λ e. 2 ^ e) sum ∙ pow-add 2 ((28 - k + 1) * 1) k in
+      let less : m * 2 ^ ((28 - k + 1) * 1) ≤ one = leb-true (m * 2 ^ ((28 - k + 1) * 1)) one (sym (ap (is_within 0 m) same) ∙ within) in
+      subst (λ x. x ≤ one * 2 ^ k) (sym (ap (λ p. m * p) powers ∙ sym (mul_assoc m (2 ^ ((28 - k + 1) * 1)) (2 ^ k)))) (mul-le-mul_right (2 ^ k) less)
   | inr ge ↦
-    let same : place k ≡ pos (k - 29) = omega (arith, ints) in
-    let sum : k ≡ 29 + (k - 29) * 1 = omega arith in
-    let powers : 2 ^ k ≡ 2 ^ 29 * 2 ^ ((k - 29) * 1) = ap (λ e. 2 ^ e) sum ∙ pow-add 2 29 ((k - 29) * 1) in
-    let less : m ≤ one * 2 ^ ((k - 29) * 1) = leb-true m (one * 2 ^ ((k - 29) * 1)) (sym (ap (is_within 0 m) same) ∙ within) in
-    omega arith
+      let same : place k ≡ pos (k - 29) = omega (arith, ints) in
+      let sum : k ≡ 29 + (k - 29) * 1 = omega arith in
+      let powers : 2 ^ k ≡ 2 ^ 29 * 2 ^ ((k - 29) * 1) = ap (λ e. 2 ^ e) sum ∙ pow-add 2 29 ((k - 29) * 1) in
+      let less : m ≤ one * 2 ^ ((k - 29) * 1) = leb-true m (one * 2 ^ ((k - 29) * 1)) (sym (ap (is_within 0 m) same) ∙ within) in
+      omega arith
 ]
 
 -- the first place whose bound isn't under the magnitude
@@ -198,5 +199,6 @@ start_index m k least most within before = least-unique (record { within = withi
         let small = before j is in
         let large : m * 2 ^ 29 ≤ one * 2 ^ j = within_to_start m j (within-more 0 m i (place j) here (omega (arith, ints))) in
         omega arith
+
     by : (i : ℤ) → is_within 0 m i ≡ true → place k ≤ℤ i
     by i here = by_lt_z i (place k) (λ lt. absurd (under i here k refl lt)) (λ le. le)

@@ -2,7 +2,7 @@
 use Rattle.std.proofs.Common.{◌≡◌, ℕ, ◌+◌, List, [], ◌∷◌, ◌++◌, refl, sym, ap, subst, ◌∙◌, append-nil, append_assoc}
 use Rattle.std.specs.Prelude.{ℤ, pos, ◌*ℤ◌, FitsSigned, replicate}
 use Rattle.std.specs.Int.{w64, w128}
-use Rattle.std.specs.List.{AllByRecursion, FoldsTo}
+use Rattle.std.specs.List.{FoldsTo}
 use Rattle.metrics_core.specs.Numbers.{in_64_bits, add_128}
 use Rattle.metrics_registry.proofs.Observed.{sample_sum-more, sample_count-more}
 use Rattle.metrics_registry.specs.Cumulative.{sample_sum, sample_count}

@@ -1,5 +1,5 @@
 -- Settings of a native histogram (this project's rule): the factors are 2, 4, 16, 256 and 65536.
-use Rattle.std.specs.Prelude.{◌≡◌, ℕ, ◌+◌, ◌*◌, ◌^◌, ◌≤◌, ◌<◌, ◌≤ℤ◌, ◌==◌, List, [], ◌∷◌, codes, ℤ, pos, int_le, int_lt, Option, Some, None, is_none, find, if◌then◌else◌}
+use Rattle.std.specs.Prelude.{◌≡◌, ℕ, ◌^◌, ◌≤◌, ◌<◌, ◌≤ℤ◌, ◌==◌, List, [], ◌∷◌, codes, ℤ, pos, int_le, int_lt, Option, Some, None, is_none, find, if◌then◌else◌}
 use Rattle.std.specs.Ordering.{int_eq}
 use Rattle.metrics_core.specs.Numbers.{one, whole}
 use Rattle.native_histograms.specs.Native.{NativeText}

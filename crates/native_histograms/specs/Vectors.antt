@@ -1,5 +1,5 @@
 -- Worked examples, computed.
-use Rattle.std.specs.Prelude.{◌≡◌, ℕ, List, [], ◌∷◌, map, ℤ, pos, negsuc, Some, None, refl}
+use Rattle.std.specs.Prelude.{◌≡◌, [], ◌∷◌, map, pos, negsuc, Some, None, refl}
 use Rattle.metrics_core.specs.Numbers.{whole}
 use Rattle.native_histograms.specs.Native.{NativeText, indices, index_of, buckets_of, native_of}
 use Rattle.native_histograms.specs.Settings.{factor_of, depth_of}

@@ -55,11 +55,27 @@ impl Buckets {
         if value.0 > threshold {
             let index = index_of(self.depth, value.0.unsigned_abs());
             let most = config.max_buckets();
-            place(alloc, &mut self.depth, &mut self.positive, &mut self.negative, most, index, count)
+            place(
+                alloc,
+                &mut self.depth,
+                &mut self.positive,
+                &mut self.negative,
+                most,
+                index,
+                count,
+            )
         } else if value.0 < -threshold {
             let index = index_of(self.depth, value.0.unsigned_abs());
             let most = config.max_buckets();
-            place(alloc, &mut self.depth, &mut self.negative, &mut self.positive, most, index, count)
+            place(
+                alloc,
+                &mut self.depth,
+                &mut self.negative,
+                &mut self.positive,
+                most,
+                index,
+                count,
+            )
         } else {
             self.zeros = self.zeros.wrapping_add(u64::from(count));
             Ok(())

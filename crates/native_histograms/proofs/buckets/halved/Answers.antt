@@ -1,5 +1,5 @@
-use Rattle.std.proofs.Common.{◌≡◌, None, w32, sym, ap, ◌∙◌, rules}
-use Rattle.std.specs.Prelude.{ℤ, fold, FitsSigned}
+use Rattle.std.proofs.Common.{◌≡◌, w32, sym, ap, ◌∙◌, rules}
+use Rattle.std.specs.Prelude.{fold, FitsSigned}
 use Rattle.std.specs.Int.{cast_signed, cast_unsigned}
 use Rattle.std.specs.Map.{lookup}
 use Rattle.std.specs.Ordering.{int_eq}

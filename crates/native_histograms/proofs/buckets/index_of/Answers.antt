@@ -1,4 +1,4 @@
-use Rattle.std.proofs.Common.{suc, w32, sym, ap, ◌∙◌, add-one, rules}
+use Rattle.std.proofs.Common.{w32, sym, ap, ◌∙◌, add-one, rules}
 use Rattle.std.specs.Prelude.{FitsSigned}
 use Rattle.std.proofs.lemmas.Int.{to_z-of_z}
 use Rattle.native_histograms.specs.Native.{index_of}

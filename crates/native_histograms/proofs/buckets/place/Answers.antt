@@ -6,7 +6,7 @@ use Rattle.std.specs.List.{AllByRecursion}
 use Rattle.std.specs.Ordering.{int_eq}
 use Rattle.std.proofs.lemmas.Int.{to_z-of_z}
 use Rattle.native_histograms.specs.Native.{buckets_of}
-use Rattle.native_histograms.specs.Placed.{half_up, IsIndex, Sides, sides_behind, is_full, Raises, Places}
+use Rattle.native_histograms.specs.Placed.{half_up, IsIndex, Sides, sides_behind, Raises, Places}
 use Rattle.native_histograms.proofs.Indices.{IsIndex-half_up}
 use Rattle.native_histograms.proofs.Bucketed.{full_is, all-map-half_up}
 use Rattle.native_histograms.proofs.buckets.place.Goals as goal

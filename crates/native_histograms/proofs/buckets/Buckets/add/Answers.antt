@@ -1,12 +1,12 @@
 use Rattle.std.proofs.Common.{◌≡◌, ◌+◌, true, false, Result, Ok, Err, w32, w64, arith, sym, ap, subst, ◌∙◌, rules}
-use Rattle.std.specs.Prelude.{ℤ, pos, ◌-ℤ◌, int_lt, OnOk, FitsSigned, unsigned_abs, neg_ℤ, ◌<ℤ◌, ◌≤ℤ◌}
+use Rattle.std.specs.Prelude.{pos, ◌-ℤ◌, int_lt, OnOk, FitsSigned, unsigned_abs, neg_ℤ}
 use Rattle.std.specs.Int.{cast_signed, cast_unsigned}
 use Rattle.std.proofs.lemmas.Int.{ints, to_z-of_z}
 use Rattle.metrics_core.specs.Numbers.{in_64_bits}
 use Rattle.native_histograms.specs.Filled.{buckets_text}
 use Rattle.native_histograms.specs.Native.{index_of, is_positive, is_negative}
 use Rattle.native_histograms.specs.Placed.{Sides, Places, Adds}
-use Rattle.native_histograms.proofs.Filled.{lt-int_lt, le-int_lt, adds_positive, adds_negative, adds_zero}
+use Rattle.native_histograms.proofs.Filled.{lt-int_lt, adds_positive, adds_negative, adds_zero}
 use Rattle.native_histograms.proofs.buckets.Buckets.add.Goals as goal
 
 on_ok : {T E : Type 0} (r : Result T E) (P Q : Type 0) → OnOk r P → (P → Q) → OnOk r Q

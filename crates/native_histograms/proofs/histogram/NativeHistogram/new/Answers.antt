@@ -1,7 +1,7 @@
-use Rattle.std.proofs.Common.{◌≡◌, [], sym, ap, ◌∙◌}
+use Rattle.std.proofs.Common.{◌≡◌, [], sym, ◌∙◌}
 use Rattle.std.specs.Prelude.{pos}
 use Rattle.native_histograms.specs.Filled.{buckets_text}
-use Rattle.native_histograms.specs.Placed.{BucketsText, parts_of}
+use Rattle.native_histograms.specs.Placed.{parts_of}
 use Rattle.native_histograms.proofs.Bucketed.{buckets_of-none}
 use Rattle.native_histograms.proofs.Observed.{with_parts}
 use Rattle.native_histograms.proofs.histogram.NativeHistogram.new.Goals as goal

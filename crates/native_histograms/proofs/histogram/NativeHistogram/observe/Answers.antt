@@ -1,4 +1,4 @@
-use Rattle.std.proofs.Common.{◌≡◌, ◌+◌, sym, ap, subst, ◌∙◌, rules}
+use Rattle.std.proofs.Common.{◌+◌, sym, subst, rules}
 use Rattle.std.specs.Prelude.{FitsSigned, pos, ◌*ℤ◌}
 use Rattle.std.specs.Int.{w128}
 use Rattle.metrics_core.specs.Numbers.{in_64_bits, add_128}
