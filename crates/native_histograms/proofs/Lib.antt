@@ -1,0 +1,4 @@
+pub mod Indices
+pub mod Bucketed
+pub mod Filled
+pub mod Observed

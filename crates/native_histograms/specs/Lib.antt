@@ -1,0 +1,5 @@
+pub mod Native
+pub mod Settings
+pub mod Placed
+pub mod Filled
+pub mod Vectors
