@@ -1,16 +1,15 @@
 -- What the buckets of a summary hold of the samples that it stands for.
-use Rattle.std.proofs.Common.{◌≡◌, ℕ, zero, suc, ◌+◌, ◌-◌, ◌*◌, ◌/◌, ◌<◌, ◌≤◌, Bool, true, false, cond, List, [], ◌∷◌, ◌++◌, map, length, take, Some, None, refl, sym, ap, subst, ◌∙◌, arith, append-nil, append_assoc}
-use Rattle.std.specs.Prelude.{ℤ, Option, count_by, replicate, filter, flat_map, zip}
+use Rattle.std.proofs.Common.{◌≡◌, ℕ, ◌+◌, ◌*◌, ◌<◌, ◌≤◌, Bool, true, false, cond, List, [], ◌∷◌, ◌++◌, map, length, refl, sym, ap, subst, ◌∙◌, arith}
+use Rattle.std.specs.Prelude.{ℤ, count_by, filter}
 use Rattle.std.specs.List.{All}
 use Rattle.std.specs.Ordering.{int_eq}
 use Rattle.std.proofs.lemmas.Bool.Decides.{nat_tests}
-use Rattle.std.proofs.lemmas.Grind.{flat_map-append}
-use Rattle.std.proofs.lemmas.List.Elements.{filter-append, All-head, All-tail, All-cons, All-nil, All-append, All-weaker, All-filter, All-replicate, filter_passes}
+use Rattle.std.proofs.lemmas.List.Elements.{filter-append, All-head, All-tail, All-cons, All-append, All-weaker, All-filter}
 use Rattle.std.proofs.lemmas.List.Sums.{sum_by-append}
 use Rattle.metrics_registry.specs.Quantiles.{ascending}
-use Rattle.metrics_registry.specs.QuantileLaws.{same_ascending, count_by-ascending, ascending-left}
+use Rattle.metrics_registry.specs.QuantileLaws.{same_ascending, count_by-ascending}
 use Rattle.rolling_summaries.specs.declared.buckets.Bucket.{Bucket}
-use Rattle.rolling_summaries.specs.Window.{Sample, window, begin_behind, begins_behind, begins}
+use Rattle.rolling_summaries.specs.Window.{Sample, window}
 use Rattle.rolling_summaries.specs.Summaries.{Summary, in_window, kept_in_window, snapshot_at}
 use Rattle.rolling_summaries.specs.Standing.{NoneAfter, begun_samples, HasLast, Hold, StandsFor}
 use Rattle.rolling_summaries.proofs.Kept.{values_of}

@@ -1,17 +1,16 @@
 -- What the steps on the buckets of a summary leave.
-use Rattle.std.proofs.Common.{◌≡◌, ℕ, zero, suc, ◌+◌, ◌-◌, ◌*◌, ◌/◌, ◌<◌, ◌≤◌, Bool, true, false, cond, List, [], ◌∷◌, ◌++◌, length, get_or, take, drop, Some, None, refl, sym, ap, subst, ◌∙◌, arith, append-nil}
+use Rattle.std.proofs.Common.{◌≡◌, ℕ, zero, suc, ◌+◌, ◌*◌, ◌<◌, ◌≤◌, Bool, true, false, cond, List, [], ◌∷◌, ◌++◌, length, get_or, take, Some, None, refl, sym, ap, ◌∙◌, arith, append-nil}
 use Rattle.std.proofs.Math.Seq.{take-suc}
 use Rattle.std.proofs.lemmas.List.{length-take}
 use Rattle.std.proofs.lemmas.List.Elements.{filter-append}
 use Rattle.std.proofs.lemmas.Grind.{flat_map-append}
 use Rattle.std.proofs.lemmas.List.Sums.{length-filter, count_by-le-length}
-use Rattle.std.specs.Prelude.{ℤ, Option, ◌||◌, option_map, unwrap_or, slice_get, slice_set, position, filter, flat_map, nat_lt, nat_le}
+use Rattle.std.specs.Prelude.{ℤ, Option, option_map, unwrap_or, slice_get, slice_set, position, flat_map}
 use Rattle.std.proofs.lemmas.Option.{slice_get-get_or}
-use Rattle.std.proofs.lemmas.Bool.Decides.{nat_tests}
 use Rattle.metrics_registry.specs.Quantiles.{ascending}
 use Rattle.metrics_registry.specs.QuantileLaws.{ascending-left}
 use Rattle.rolling_summaries.specs.declared.buckets.Bucket.{Bucket}
-use Rattle.rolling_summaries.specs.Summaries.{in_window, kept_in_window, takes, ends_search, taker_at, taker_from, taker, joined, aligned, newest_begin, new_begin, begun_at, begun, kept_by, kept_after}
+use Rattle.rolling_summaries.specs.Summaries.{in_window, kept_in_window, takes, ends_search, taker_from, taker, joined, newest_begin, new_begin, begun_at, begun, kept_by, kept_after}
 
 -- values put to the bucket that stands at a place
 joined-set : (values : List ℤ) (place : ℕ) (kept : List Bucket) (d : Bucket) → place < length kept

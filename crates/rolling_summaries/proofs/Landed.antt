@@ -1,18 +1,18 @@
 -- Where samples land that are not before the others, and what the summary stands for then.
 use Rattle.std.proofs.Common.{◌≡◌, ℕ, zero, suc, ◌+◌, ◌-◌, ◌*◌, ◌/◌, ◌%◌, ◌<◌, ◌≤◌, Bool, true, false, cond, List, [], ◌∷◌, ◌++◌, map, length, take, Some, None, refl, sym, ap, subst, ◌∙◌, arith, append-nil, append_assoc, length-append}
-use Rattle.std.specs.Prelude.{ℤ, Option, ◌&&◌, nat_lt, nat_le, replicate, filter, zip, position}
+use Rattle.std.specs.Prelude.{ℤ, Option, ◌&&◌, nat_lt, nat_le, replicate, zip}
 use Rattle.std.specs.List.{All, position_from}
 use Rattle.std.proofs.lemmas.Bool.Decides.{nat_tests}
 use Rattle.std.proofs.lemmas.List.{length-replicate}
-use Rattle.std.proofs.lemmas.List.Elements.{All-head, All-tail, All-cons, All-nil, All-append, All-weaker, All-filter, All-replicate, filter_passes}
+use Rattle.std.proofs.lemmas.List.Elements.{All-head, All-tail, All-cons, All-nil, All-append, All-weaker, All-replicate, filter_passes}
 use Rattle.std.proofs.lemmas.Iterator.Adapters.{position_from-zero}
 use Rattle.metrics_core.specs.Numbers.{in_64_bits}
 use Rattle.metrics_registry.specs.Quantiles.{ascending}
 use Rattle.metrics_registry.specs.QuantileLaws.{ascending-left}
 use Rattle.rolling_summaries.specs.declared.buckets.Bucket.{Bucket}
 use Rattle.rolling_summaries.specs.Window.{Sample, begin_behind, begins_behind}
-use Rattle.rolling_summaries.specs.Summaries.{Summary, in_window, kept_in_window, takes, ends_search, taker, taker_from, joined, aligned, newest_begin, new_begin, begun, begun_at, kept_by, kept_after}
-use Rattle.rolling_summaries.specs.Standing.{NoneAfter, begun_samples, last_behind, last_begin, HasLast, Hold, StandsFor, same_samples}
+use Rattle.rolling_summaries.specs.Summaries.{in_window, kept_in_window, takes, ends_search, taker, taker_from, aligned, newest_begin, begun, begun_at, kept_by, kept_after}
+use Rattle.rolling_summaries.specs.Standing.{NoneAfter, begun_samples, last_behind, last_begin, Hold, StandsFor, same_samples}
 use Rattle.rolling_summaries.proofs.Held.{Begun, begun_values, in-late, none-left, held-left, held-later, apart-length}
 
 -- ---- the bucket that takes a sample

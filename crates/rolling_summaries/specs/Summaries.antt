@@ -1,5 +1,5 @@
 -- What a rolling summary keeps, sample by sample, at any moments (this project's rule).
-use Rattle.std.specs.Prelude.{ℕ, zero, suc, ◌+◌, ◌^◌, ◌<◌, ◌≤◌, length, ◌-◌, ◌*◌, ◌/◌, ◌&&◌, ◌||◌, Bool, false, nat_lt, nat_le, List, [], ◌∷◌, ◌++◌, take, map, filter, flat_map, replicate, position, slice_get, ℤ, Option, Some, None, option_map, unwrap_or, if◌then◌else◌}
+use Rattle.std.specs.Prelude.{ℕ, zero, suc, ◌+◌, ◌^◌, ◌<◌, ◌≤◌, length, ◌-◌, ◌*◌, ◌/◌, ◌&&◌, ◌||◌, Bool, false, nat_lt, nat_le, List, [], ◌∷◌, ◌++◌, take, filter, flat_map, replicate, position, slice_get, ℤ, Option, Some, None, option_map, unwrap_or, if◌then◌else◌}
 use Rattle.metrics_core.specs.Numbers.{in_64_bits}
 use Rattle.metrics_registry.specs.Quantiles.{ascending}
 use Rattle.rolling_summaries.specs.declared.buckets.Bucket.{Bucket}

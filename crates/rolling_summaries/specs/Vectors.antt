@@ -1,5 +1,5 @@
 -- Worked examples, computed.
-use Rattle.std.specs.Prelude.{◌≡◌, ℕ, ◌+◌, ◌*◌, refl, List, [], ◌∷◌, length, map, ℤ}
+use Rattle.std.specs.Prelude.{◌≡◌, ℕ, ◌*◌, refl, [], ◌∷◌, length, map}
 use Rattle.metrics_core.specs.Numbers.{whole}
 use Rattle.rolling_summaries.specs.Window.{Sample, window}
 use Rattle.rolling_summaries.specs.Summaries.{Summary, empty_summary, added, snapshot_at}

@@ -86,9 +86,9 @@ fn join(kept: &mut [Bucket], place: usize, value: Fixed, count: u32) -> Result<(
 fn newest_in_window(kept: &[Bucket], span: u64, now: u64) -> Option<u64>
     ensures { result ≡ newest_begin (kept_in_window span now kept.now) }
 {
-    for bucket in kept {
-        if is_in_window(span, now, bucket.begin) {
-            return Some(bucket.begin);
+    for newest in kept {
+        if is_in_window(span, now, newest.begin) {
+            return Some(newest.begin);
         }
     }
     None

@@ -1,7 +1,6 @@
-use Rattle.std.proofs.Common.{◌≤◌, length, ap, sym, subst, ◌∙◌, arith}
+use Rattle.std.proofs.Common.{length, ap, sym, subst, arith}
 use Rattle.std.specs.Prelude.{replicate}
-use Rattle.rolling_summaries.specs.Summaries.{Summary, added}
-use Rattle.rolling_summaries.specs.Standing.{StandsFor, same_samples}
+use Rattle.rolling_summaries.specs.Standing.{StandsFor}
 use Rattle.rolling_summaries.proofs.Kept.{within-kept_after}
 use Rattle.rolling_summaries.proofs.Landed.{stands-added}
 use Rattle.rolling_summaries.proofs.summary.RollingSummary.add.Goals as goal
