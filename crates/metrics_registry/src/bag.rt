@@ -1,6 +1,6 @@
 //! Bags of values, for quantiles.
 
-ghost use Rattle.std.specs.Prelude.{◌≡◌, ℤ, ◌+◌, ◌-◌, ◌^◌, ◌≤◌, ◌<◌, [], ◌++◌, length, replicate, slice_get, option_map, IsErr, OnOk, OnErr, if◌then◌else◌};
+ghost use Rattle.std.specs.Prelude.{◌≡◌, ℤ, ◌+◌, ◌-◌, ◌^◌, ◌≤◌, ◌<◌, [], ◌++◌, length, replicate, slice_get, option_map, IsErr, IfOk, OnOk, OnErr, if◌then◌else◌};
 ghost use Rattle.std.specs.Ordering.{int_cmp, int_eq};
 ghost use Rattle.std.specs.BTreeMap.{IsOrdered};
 ghost use Rattle.metrics_core.specs.Fixed.{of_billionths};
@@ -79,6 +79,28 @@ impl Bag {
         self.counts = merged;
         self.count = total;
         Ok(())
+    }
+
+    /// The bag with all values of another bag added in place. It takes time linear in the other bag's distinct values, and
+    /// memory for those that are new. It is refused, and the bag is gone, also where it would hold 2^64 values or more.
+    pub fn merged_with(self, other: &Bag) -> Result<Bag, Memory>
+        ensures merged { IfOk result (λ bag. bag ≡ ascending (self ++ other.now)) }
+        ensures full { 2 ^ 64 ≤ length self + length other.now → IsErr result }
+    {
+        let Bag {
+            mut counts,
+            count,
+            alloc,
+        } = self;
+        let Some(total) = count.checked_add(other.count) else {
+            return Err(Memory);
+        };
+        add_all(&mut counts, &other.counts)?;
+        Ok(Bag {
+            counts,
+            count: total,
+            alloc,
+        })
     }
 
     /// How many values there are.

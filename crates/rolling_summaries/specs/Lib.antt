@@ -1,0 +1,4 @@
+pub mod Window
+pub mod Summaries
+pub mod Standing
+pub mod Vectors

@@ -1,0 +1,135 @@
+//! Summaries over a window that moves on with time.
+
+ghost use Rattle.std.specs.Prelude.{◌≡◌, ℕ, ◌<◌, ◌≤◌, ◌*◌, ◌^◌, ◌==◌, ◌++◌, [], List, length, IfOk, OnOk, OnErr};
+ghost use Rattle.std.specs.Int.NonZero.{non_zero_u32_get};
+ghost use Rattle.metrics_registry.specs.Quantiles.{ascending};
+ghost use Rattle.rolling_summaries.specs.Window.{Sample, window};
+ghost use Rattle.rolling_summaries.specs.Summaries.{empty_summary, added, snapshot_at};
+ghost use Rattle.rolling_summaries.specs.Standing.{StandsFor, NoneAfter, same_samples};
+
+use crate::Bucket;
+use crate::buckets::{put, values_in_window};
+use metrics_core::{Fixed, Memory};
+use metrics_registry::Bag;
+use std::alloc::Global;
+use std::marker::Model;
+use std::num::NonZeroU32;
+
+/// How many buckets a summary has by default.
+const DEFAULT_BUCKETS: u32 = 3;
+
+/// How wide a bucket is by default, in nanoseconds: 20 seconds.
+const DEFAULT_BUCKET_DURATION: u64 = 20_000_000_000;
+
+/// The values of the samples in a window of time, for quantiles over what came lately. The samples fall into buckets of a
+/// width. A bucket leaves the window as a whole once its begin is a span old; the span is the number of buckets times
+/// their width. Moments are in nanoseconds of a clock of the caller's.
+///
+/// A contract sees how many buckets the summary was built for, their width, the buckets that it keeps, the newest first,
+/// and the number of its samples.
+#[derive(Drop)]
+pub struct RollingSummary {
+    limit: u32,
+    width: u64,
+    /// The newest bucket first.
+    kept: Vec<Bucket>,
+    count: u64,
+}
+
+impl Model for RollingSummary {
+    ghost use Rattle.rolling_summaries.specs.Summaries.{Summary, IsBuilt};
+
+    ghost Value = { Summary };
+
+    ghost view = { λ s. record { limit = s.limit; width = s.width; kept = s.kept.items; count = s.count } };
+
+    ghost invariant = { λ s. IsBuilt s.limit s.width s.kept.items };
+}
+
+impl RollingSummary {
+    /// A summary of no samples, for so many buckets of a width in nanoseconds. It takes no memory.
+    pub fn new(alloc: Global, buckets: NonZeroU32, bucket_duration: u64) -> Self
+        requires wide { 0 < bucket_duration }
+        requires fits { non_zero_u32_get buckets * bucket_duration < 2 ^ 64 }
+        ensures empty { result ≡ empty_summary (non_zero_u32_get buckets) bucket_duration }
+        ensures stands { StandsFor result [] }
+    {
+        RollingSummary {
+            limit: buckets.get(),
+            width: bucket_duration,
+            kept: Vec::new(alloc),
+            count: 0,
+        }
+    }
+
+    /// A summary of no samples, for 3 buckets of 20 seconds.
+    pub fn with_defaults(alloc: Global) -> Self
+        ensures empty { result ≡ empty_summary 3 20000000000 }
+        ensures stands { StandsFor result [] }
+    {
+        RollingSummary {
+            limit: DEFAULT_BUCKETS,
+            width: DEFAULT_BUCKET_DURATION,
+            kept: Vec::new(alloc),
+            count: 0,
+        }
+    }
+
+    /// Adds a value for so many samples at a moment. A count of 0 changes nothing. It is refused, and changes nothing, also
+    /// where the sample's bucket would hold 2^64 values or more.
+    ///
+    /// A sample before the newest bucket joins the one that it falls into, if that is kept. Otherwise it is counted and
+    /// forgotten.
+    pub fn add(&mut self, alloc: Global, value: Fixed, now: u64, count: u32) -> Result<(), Memory>
+        ensures added { OnOk result (self.new ≡ added now value.0 count self.old) }
+        ensures refused { OnErr result (self.new ≡ self.old) }
+        ensures stands { OnOk result ((samples : List Sample) → StandsFor self.old samples → NoneAfter now samples → StandsFor self.new (samples ++ same_samples value.0 now count)) }
+    {
+        if count == 0 {
+            return Ok(());
+        }
+        put(
+            alloc,
+            &mut self.kept,
+            self.limit,
+            self.width,
+            value,
+            now,
+            count,
+        )?;
+        self.count = self.count.wrapping_add(u64::from(count));
+        Ok(())
+    }
+
+    /// The values of the window at a moment. It takes time and memory by the distinct values of the window.
+    pub fn snapshot(&self, alloc: Global, now: u64) -> Result<Bag, Memory>
+        ensures snapshot { IfOk result (λ bag. bag ≡ snapshot_at now self.now) }
+        ensures window { IfOk result (λ bag. (samples : List Sample) → StandsFor self.now samples → NoneAfter now samples → bag ≡ ascending (window self.now.width (self.now.limit * self.now.width) now samples)) }
+    {
+        let span = u64::from(self.limit) * self.width;
+        values_in_window(alloc, self.kept.as_slice(), span, now)
+    }
+
+    /// Whether there was no sample so far. Since the number of samples is kept modulo 2^64, it is so too after each 2^64
+    /// samples.
+    pub fn is_empty(&self) -> bool
+        ensures { result ≡ (self.now.count == 0) }
+    {
+        self.count == 0
+    }
+
+    /// The number of samples so far, modulo 2^64.
+    pub fn count(&self) -> u64
+        ensures { result ≡ self.now.count }
+    {
+        self.count
+    }
+
+    /// The number of buckets that are kept: at most as many as the summary was built for.
+    pub fn bucket_len(&self) -> usize
+        ensures kept { result ≡ length self.now.kept }
+        ensures limit { result ≤ self.now.limit }
+    {
+        self.kept.len()
+    }
+}
