@@ -1,7 +1,10 @@
 -- The rule that counts for a name, in rules that stand in the order of their matchers.
 use Rattle.std.proofs.Common.{◌≡◌, ℕ, Bool, true, false, cond, List, [], ◌∷◌, ◌++◌, Option, Some, None, refl, sym, ap, ◌∙◌, subst}
-use Rattle.std.specs.Prelude.{map, fold, option_map}
-use Rattle.std.specs.List.{find, AllByRecursion}
+use Rattle.std.specs.Prelude.{fold, option_map}
+use Rattle.std.specs.Prelude.{◌&&◌}
+use Rattle.std.specs.List.{find, list_all, AllByRecursion}
+use Rattle.std.proofs.lemmas.Bool.{and_from, and_parts}
+use Rattle.std.proofs.lemmas.List.Folds.{list_all-append}
 use Rattle.std.specs.List.Sorted.{IsStrictlySortedBy}
 use Rattle.std.proofs.lemmas.List.{map-append}
 use Rattle.std.specs.Map.{keys_of}
@@ -180,3 +183,47 @@ moved (x ∷ before) y rest others e = ap (λ ys. x ∷ ys) (moved before y rest
 pub nothing_behind : {Y : Type 0} (before rest : List Y) → rest ≡ [] → before ++ rest ≡ before
 nothing_behind [] rest e = e
 nothing_behind (x ∷ before) rest e = ap (λ ys. x ∷ ys) (nothing_behind before rest e)
+
+module _ {X : Type 0} where
+  -- entries gathered from rules that were given: they stand in order, the first that fits a name is the rule for it, and what
+  -- passes of each given rule passes of each entry
+  abbrev pub Gathered : List (Matcher × X) → List (Matcher × X) → Type 0
+  Gathered es given =
+      IsStrictlySortedBy matcher_cmp (keys_of (rules_of es))
+      × ((name : List ℕ) → first_fit name (rules_of es) ≡ rule_for (rules_of given) name)
+      × ((test : X → Bool) → list_all (λ rule. test rule.1) given ≡ true → list_all (λ rule. test rule.1) (rules_of es) ≡ true)
+
+  placed_tests : (test : X → Bool) (R : Matcher → Matcher → Ordering) (m : Matcher) (x : X) (es : List (Matcher × X)) (k : Matcher) (v : X) (o : Ordering)
+      → (test x && list_all (λ rule. test rule.1) (rules_of es)) ≡ true → test v ≡ true → list_all (λ rule. test rule.1) (rules_of (insert_entry R es k v)) ≡ true
+      → list_all (λ rule. test rule.1) (rules_of (match_ordering o ((k, v) ∷ (m, x) ∷ es) ((m, v) ∷ es) ((m, x) ∷ insert_entry R es k v))) ≡ true
+  placed_tests test R m x es k v Less all passes rest = and_from _ _ passes all
+  placed_tests test R m x es k v Equal all passes rest = and_from _ _ passes (and_parts _ _ all).1
+  placed_tests test R m x es k v Greater all passes rest = and_from _ _ (and_parts _ _ all).0 rest
+
+  inserted_tests : (test : X → Bool) (R : Matcher → Matcher → Ordering) (es : List (Matcher × X)) (k : Matcher) (v : X)
+      → list_all (λ rule. test rule.1) (rules_of es) ≡ true → test v ≡ true → list_all (λ rule. test rule.1) (rules_of (insert_entry R es k v)) ≡ true
+  inserted_tests test R [] k v all passes = and_from _ _ passes refl
+  inserted_tests test R ((m, x) ∷ es) k v all passes =
+      placed_tests test R m x es k v (R k m) all passes (inserted_tests test R es k v (and_parts _ _ all).1 passes)
+
+  pub gathered-none : Gathered [] []
+  unfolding IsStrictlySortedBy
+  gathered-none = (tt, λ name. refl, λ test all. refl)
+
+  -- one more rule, inserted by an order of matchers that is that of what a contract sees of them
+  pub gathered-more : (R : Matcher → Matcher → Ordering) → ((a b : Matcher) → R a b ≡ matcher_cmp (matcher_text a) (matcher_text b))
+      → (es entries given : List (Matcher × X)) (k : Matcher) (v : X) → entries ≡ insert_entry R es k v → IsStrictlySortedBy R (keys_of entries)
+      → Gathered es given → Gathered entries (given ++ (k, v) ∷ [])
+  gathered-more R is es entries given k v inserted sorted gathered = (
+    rules_of-sorted R is entries sorted,
+    λ name.
+        ap (λ rules. first_fit name (rules_of rules)) inserted
+        ∙ ap (first_fit name) (rules_of-insert R is es k v)
+        ∙ insert-first_fit name (rules_of es) (matcher_text k) v gathered.0
+        ∙ ap (λ best. after name best (matcher_text k, v)) (gathered.1 name)
+        ∙ sym (rule_for-more name given k v),
+    λ test all.
+        let parts = and_parts (list_all (λ rule. test rule.1) given) (test v && true) (sym (list_all-append (λ rule. test rule.1) given ((k, v) ∷ [])) ∙ all) in
+        ap (λ rules. list_all (λ rule. test rule.1) (rules_of rules)) inserted
+        ∙ inserted_tests test R es k v (gathered.2 test parts.0) (and_parts (test v) true parts.1).0,
+  )

@@ -1,1 +1,4 @@
 pub mod Rules
+pub mod Kinds
+pub mod Recording
+pub mod Builders

@@ -1,5 +1,5 @@
 -- Rules for names, each under a matcher.
-use Rattle.std.specs.Prelude.{◌≡◌, List, map}
+use Rattle.std.specs.Prelude.{List, map}
 use Rattle.prom_format.specs.declared.matchers.Matcher.{Matcher}
 use Rattle.prom_format.specs.MatcherTexts.{matcher_text}
 use Rattle.prom_format.specs.Matchers.{MatcherText}

@@ -2,4 +2,9 @@
 //! kind.
 #![tactic(auto)]
 
+mod builder;
+mod distribution;
 mod rules;
+
+pub use builder::DistributionBuilder;
+pub use distribution::{Distribution, RecordSamplesFault};

@@ -1,6 +1,7 @@
 //! Rules for names: what holds for the names that a matcher fits.
 
-ghost use Rattle.std.specs.Prelude.{◌≡◌, List, ℕ, IfOk, option_map};
+ghost use Rattle.std.specs.Prelude.{◌≡◌, List, ℕ, Bool, true, IfOk, option_map};
+ghost use Rattle.std.specs.List.{list_all};
 ghost use Rattle.std.specs.Option.{option_copied};
 ghost use Rattle.prom_format.specs.Matchers.{rule_for};
 ghost use Rattle.distributions.specs.Rules.{rules_of};
@@ -32,6 +33,7 @@ impl<T> Rules<T> {
     pub(crate) fn new(alloc: Global, given: Vec<(Matcher, T)>) -> Result<Rules<T>, Memory>
     where
         T: Drop,
+        ensures among { IfOk result (λ rules. (test : T → Bool) → list_all (λ rule. test rule.1) given.items ≡ true → list_all (λ rule. test rule.1) rules ≡ true) }
         ensures same { IfOk result (λ rules. (name : List ℕ) → rule_for rules name ≡ rule_for (rules_of given.items) name) }
     {
         // The law of the order of matchers is called for the proof, which cites it.

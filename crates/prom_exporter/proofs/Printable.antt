@@ -15,7 +15,8 @@ use Rattle.prom_format.specs.declared.families.FamilyType.{FamilyType}
 use Rattle.prom_format.proofs.NameLaws.{sanitized_metric_name-is_name, sanitized_label_name-is_name, full_name-is_name}
 use Rattle.prom_format.proofs.PageText.{page_read}
 use Rattle.prom_exporter.specs.State.{Series, PrometheusState, live}
-use Rattle.prom_exporter.specs.Families.{ExporterSettings, families_at, family_of, row_of, one_label, shown_unit, counter_suffix, counter_rows, gauge_rows, histogram_rows, summary_rows, sum_and_count_rows, distinct, names_of_kind, series_named, distribution_of, distribution_family, Distribution, NativeHistogram, Histogram, Summary}
+use Rattle.prom_exporter.specs.Families.{ExporterSettings, families_at, family_of, row_of, one_label, shown_unit, counter_suffix, counter_rows, gauge_rows, histogram_rows, summary_rows, sum_and_count_rows, distinct, names_of_kind, series_named, distribution_of, distribution_family}
+use Rattle.distributions.specs.Kinds.{DistributionKind, NativeHistogram, Histogram, Summary}
 use Rattle.metrics_registry.specs.Quantiles.{clamped}
 
 -- ---- lists
@@ -159,10 +160,10 @@ all_mapped : {A B : Type 0} (P : A → Type 0) (Q : B → Type 0) (f : A → B) 
 all_mapped P Q f g [] h = tt
 all_mapped P Q f g (x ∷ xs) h = (g x h.0, all_mapped P Q f g xs h.1)
 
-distribution_printable : (settings : ExporterSettings) (s : PrometheusState) (t : ℕ) (name : List ℕ) (d : Distribution) → IsNameOf kinds.Histogram s name → IfSome (distribution_family settings s t name d) IsPrintable
+distribution_printable : (settings : ExporterSettings) (s : PrometheusState) (t : ℕ) (name : List ℕ) (d : DistributionKind) → IsNameOf kinds.Histogram s name → IfSome (distribution_family settings s t name d) IsPrintable
 distribution_printable settings s t name (NativeHistogram config) is = tt
 distribution_printable settings s t name (Histogram bounds) is = family_printable settings s kinds.Histogram name None _ (histogram_rows settings s bounds) tt (histogram_printable settings s bounds) is
-distribution_printable settings s t name Summary is = family_printable settings s kinds.Histogram name None _ (summary_rows settings s t) tt (summary_printable settings s t) is
+distribution_printable settings s t name (Summary summary) is = family_printable settings s kinds.Histogram name None _ (summary_rows settings s t) tt (summary_printable settings s t) is
 
 first_too : {B : Type 0} (Q : B → Type 0) (o : Option B) (ys : List B) → IfSome o Q → AllByRecursion Q ys → AllByRecursion Q (cons_option o ys)
 first_too Q None ys q rest = rest

@@ -10,15 +10,16 @@ use Rattle.prom_format.specs.Names.{sanitized_metric_name, full_name}
 use Rattle.prom_format.specs.Printed.{canonical_description}
 use Rattle.prom_format.specs.Lines.{shown_label_set}
 use Rattle.prom_format.specs.Pages.{Row, Family}
-use Rattle.prom_format.specs.Matchers.{MatcherText, rule_for}
+use Rattle.prom_format.specs.Matchers.{MatcherText}
 use Rattle.prom_format.specs.declared.families.FamilyType.{FamilyType}
 use Rattle.prom_format.specs.declared.families.FamilyType.TheVariants as types
 use Rattle.prom_exporter.specs.State.{Series, PrometheusState, live, description_of}
 use Rattle.metrics_registry.specs.Recency.{Idle}
 use Rattle.metrics_registry.specs.Quantiles.{clamped, quantile_of}
 use Rattle.metrics_registry.specs.Cumulative.{bucket_count, sample_count, sample_sum}
-use Rattle.prom_exporter.specs.Window.{timed_samples, window}
-use Rattle.prom_exporter.specs.Native.{NativeText}
+use Rattle.rolling_summaries.specs.Window.{timed_samples, window}
+use Rattle.native_histograms.specs.Native.{NativeText}
+use Rattle.distributions.specs.Kinds.{DistributionKind, NativeHistogram, Histogram, Summary, DistributionRules, kind_for}
 
 -- what the exporter was built with
 pub record ExporterSettings : Type 0 where
@@ -93,27 +94,18 @@ summary_rows settings s t series =
 
 -- ---- what kind of distribution a name has
 
-pub data Distribution : Type 0 where
-  NativeHistogram : NativeText → Distribution
-  Histogram : List ℤ → Distribution
-  Summary : Distribution
+-- what the kinds of distributions follow from
+abbrev pub rules_of_settings : ExporterSettings → DistributionRules
+rules_of_settings settings = record {
+  native_for = settings.native_for;
+  buckets_for = settings.buckets_for;
+  buckets = settings.buckets;
+  summary = record { quantiles = map clamped settings.quantiles; bucket_count = settings.bucket_count; bucket_duration = settings.bucket_duration };
+}
 
-abbrev pub general_distribution : Option (List ℤ) → Distribution
-general_distribution (Some bounds) = Histogram bounds
-general_distribution None = Summary
-
-abbrev pub bucket_distribution : Option (MatcherText × List ℤ) → Option (List ℤ) → Distribution
-bucket_distribution (Some (matcher, bounds)) general = Histogram bounds
-bucket_distribution None general = general_distribution general
-
-abbrev pub native_or : Option (MatcherText × NativeText) → Distribution → Distribution
-native_or (Some (matcher, config)) other = NativeHistogram config
-native_or None other = other
-
--- the first native matcher that fits the metric name, else the first bucket matcher, else the general buckets, else a summary
-abbrev pub distribution_of : ExporterSettings → List ℕ → Distribution
-distribution_of settings name =
-    native_or (rule_for settings.native_for name) (bucket_distribution (rule_for settings.buckets_for name) settings.buckets)
+-- the kind of a metric name
+abbrev pub distribution_of : ExporterSettings → List ℕ → DistributionKind
+distribution_of settings name = kind_for (rules_of_settings settings) name
 
 -- ---- families
 
@@ -140,11 +132,11 @@ family_of settings s kind name suffix type rows = record {
 }
 
 -- a distribution's family; a native histogram has none
-abbrev pub distribution_family : ExporterSettings → PrometheusState → ℕ → List ℕ → Distribution → Option Family
+abbrev pub distribution_family : ExporterSettings → PrometheusState → ℕ → List ℕ → DistributionKind → Option Family
 distribution_family settings s t name (NativeHistogram config) = None
 distribution_family settings s t name (Histogram bounds) =
     Some (family_of settings s kinds.Histogram name None types.Histogram (histogram_rows settings s bounds))
-distribution_family settings s t name Summary =
+distribution_family settings s t name (Summary summary) =
     Some (family_of settings s kinds.Histogram name None types.Summary (summary_rows settings s t))
 
 -- counters, then gauges, then distributions, each by metric name

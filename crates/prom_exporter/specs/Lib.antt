@@ -1,6 +1,4 @@
 pub mod State
-pub mod Window
-pub mod Native
 pub mod Families
 pub mod Shared
 pub mod Values

@@ -1,5 +1,5 @@
 -- Worked examples, computed.
-use Rattle.std.specs.Prelude.{◌≡◌, ℕ, ◌*◌, pos, codes, refl, List, [], ◌∷◌, ℤ, true, false, Some, None, map, length}
+use Rattle.std.specs.Prelude.{◌≡◌, ℕ, ◌*◌, pos, codes, refl, List, [], ◌∷◌, true, false, Some, None}
 use Rattle.std.specs.Fmt.{digits}
 use Rattle.std.specs.Str.{chars}
 use Rattle.metrics_core.specs.declared.kinds.MetricKind.TheVariants as kinds
@@ -9,9 +9,6 @@ use Rattle.metrics_core.specs.Keys.{LabelText, KeyText}
 use Rattle.metrics_core.specs.Calls.{Increment, Record}
 use Rattle.prom_format.specs.Pages.{page_text}
 use Rattle.prom_exporter.specs.State.{PrometheusState, empty_state, register, describe, call_on, page_step}
-use Rattle.metrics_registry.specs.Cumulative.{sample_sum}
-use Rattle.prom_exporter.specs.Window.{Sample, window}
-use Rattle.prom_exporter.specs.Native.{NativeText, Positive, native_depth, native_count, zero_count}
 use Rattle.prom_exporter.specs.Families.{ExporterSettings, families_at}
 use Rattle.prom_exporter.specs.Exporter.{default_settings, body_shown}
 
@@ -44,13 +41,6 @@ window_cutoff = refl
 pub window_before : page_of plain (seconds 3620) lat ≡ codes "# TYPE lat summary\nlat{quantile=\"0.5\"} 1\nlat_sum 3\nlat_count 2\n\n# EOF\n"
 unfolding digits chars
 window_before = refl
-
-abbrev at_seconds : ℕ → Sample
-at_seconds n = record { value = whole 42; moment = seconds n }
-
--- 42 at 3600, 3620, 3640 and 3660 s
-pub default_window : length (window (seconds 20) (seconds 60) (seconds 3660) (map at_seconds (3600 ∷ 3620 ∷ 3640 ∷ 3660 ∷ []))) ≡ 3
-default_window = refl
 
 pub helped_counter : page_of (record plain { units = true; total_suffix = true }) 0 (call_on kinds.Counter 0 (Increment 42) (register kinds.Counter (key (codes "foo_total") []) (describe (codes "foo_total") (Some Bytes) (codes "Some help") empty_state)))
     ≡ codes "# HELP foo_bytes_total Some help\n# TYPE foo_bytes_total counter\nfoo_bytes_total 42\n\n# EOF\n"
@@ -110,19 +100,6 @@ idle_removed = refl
 pub idle_stays_removed : page_of idle_change 7 (call_on kinds.Counter 0 (Increment 1) c6) ≡ codes "# EOF\n"
 unfolding digits chars
 idle_stays_removed = refl
-
-abbrev four : List ℤ
-four = map whole (1 ∷ 2 ∷ 4 ∷ 8 ∷ [])
-
-abbrev native : NativeText
-native = record { depth = 0; max_buckets = 2; threshold = pos 100000000 }
-
--- factor 2, at most 2 buckets, threshold 0.1, over 1, 2, 4, 8
-pub native_schema : native_depth native four ≡ 2
-native_schema = refl
-
-pub native_counts : (native_count native four (Positive (pos 0)) ≡ 1) × (native_count native four (Positive (pos 1)) ≡ 3) × (zero_count native four ≡ 0) × (sample_sum four ≡ whole 15)
-native_counts = (refl, refl, refl, refl)
 
 -- one counter, `basic_counter`, incremented by 42
 abbrev pub basic : PrometheusState

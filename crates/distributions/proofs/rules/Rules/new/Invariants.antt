@@ -1,14 +1,7 @@
-use Rattle.std.proofs.Common.{◌≡◌, List, ℕ, ◌++◌}
-use Rattle.std.specs.Map.{keys_of}
-use Rattle.std.specs.List.Sorted.{IsStrictlySortedBy}
-use Rattle.prom_format.specs.Matchers.{rule_for, matcher_cmp}
-use Rattle.distributions.specs.Rules.{rules_of}
-use Rattle.distributions.proofs.Fitting.{first_fit}
+use Rattle.std.proofs.Common.{◌≡◌, ◌++◌}
+use Rattle.distributions.proofs.Fitting.{Gathered}
 use Rattle.distributions.proofs.rules.Rules.new.Given as goal
 
--- the map is in order, and the first rule in it that fits is that of the rules so far
+-- the entries are gathered from the rules so far; these and the rules to come are all
 abbrev pub invariant-loop-matcher : goal.invariant-loop-matcher
-invariant-loop-matcher g l =
-    IsStrictlySortedBy matcher_cmp (keys_of (rules_of l.by_matcher.entries))
-    × ((name : List ℕ) → first_fit name (rules_of l.by_matcher.entries) ≡ rule_for (rules_of l.yielded) name)
-    × (l.yielded ++ l.matcher-iterator.rest.items ≡ l.fn.given.items)
+invariant-loop-matcher g l = Gathered l.by_matcher.entries l.yielded × (l.yielded ++ l.matcher-iterator.rest.items ≡ l.fn.given.items)

@@ -1,0 +1,119 @@
+//! The distributions of histogram series.
+
+ghost use Rattle.std.specs.Prelude.{◌≡◌, ◌<◌, ◌≤◌, ◌*◌, ◌^◌, ◌++◌, ◌∷◌, [], List, length, map, take, IfOk, IfErr, OnOk, OnErr};
+ghost use Rattle.std.specs.List.{FoldsTo};
+ghost use Rattle.std.specs.Arc.{arc_value};
+ghost use Rattle.std.specs.Int.NonZero.{non_zero_u32_get};
+ghost use Rattle.rolling_summaries.specs.Window.{Sample};
+ghost use Rattle.rolling_summaries.specs.Standing.{NoneAfter, NeverFall};
+ghost use Rattle.distributions.specs.Kinds.{DistributionKind};
+ghost use Rattle.distributions.specs.Kinds as kinds;
+ghost use Rattle.distributions.specs.Recording.{Records, StandsFor, sample_of, summed, done_of};
+
+use metrics_core::{Fixed, Memory};
+use metrics_registry::{CumulativeHistogram, Quantile};
+use native_histograms::{NativeHistogram, NativeHistogramConfig};
+use rolling_summaries::RollingSummary;
+use std::alloc::Global;
+use std::num::NonZeroU32;
+use std::sync::Arc;
+use thiserror::Error;
+
+/// What a histogram series keeps of its samples.
+#[derive(Drop)]
+pub enum Distribution {
+    /// The number of samples at most each bound.
+    Histogram(CumulativeHistogram),
+    /// The values of a window of time, the quantiles that are shown of them, and the sum of all samples in billionths, which
+    /// wraps in 128 bits.
+    Summary(RollingSummary, Arc<Vec<Quantile>>, i128),
+    /// Buckets by magnitude.
+    NativeHistogram(NativeHistogram),
+}
+
+/// Why samples were not all recorded.
+#[derive(Clone, Copy, Debug, PartialEq, Eq, Error)]
+pub enum RecordSamplesFault {
+    /// Memory was refused, when so many of the samples were recorded.
+    #[error("out of memory after {done} samples")]
+    Memory { done: usize },
+}
+
+impl Distribution {
+    /// A cumulative histogram of no samples, with these bounds.
+    pub fn new_histogram(alloc: Global, buckets: &[Fixed]) -> Result<Distribution, Memory>
+        requires { 0 < length buckets.now }
+        ensures { IfOk result (StandsFor (kinds.Histogram (map (λ bound. bound.0) buckets.now)) []) }
+    {
+        Ok(Distribution::Histogram(CumulativeHistogram::new(alloc, buckets)?))
+    }
+
+    /// A summary of no samples, over a window of so many buckets of a width in nanoseconds. It takes no memory.
+    pub fn new_summary(
+        alloc: Global,
+        quantiles: Arc<Vec<Quantile>>,
+        bucket_duration: u64,
+        bucket_count: NonZeroU32,
+    ) -> Distribution
+        requires wide { 0 < bucket_duration }
+        requires fits { non_zero_u32_get bucket_count * bucket_duration < 2 ^ 64 }
+        ensures { StandsFor (kinds.Summary (record { quantiles = (arc_value quantiles).items; bucket_count = non_zero_u32_get bucket_count; bucket_duration = bucket_duration })) [] result }
+    {
+        let window = RollingSummary::new(alloc, bucket_count, bucket_duration);
+        Distribution::Summary(window, quantiles, 0)
+    }
+
+    /// A native histogram of no samples. It takes no memory.
+    pub fn new_native_histogram(alloc: Global, config: NativeHistogramConfig) -> Distribution
+        ensures { StandsFor (kinds.NativeHistogram config) [] result }
+    {
+        Distribution::NativeHistogram(NativeHistogram::new(alloc, config))
+    }
+
+    /// Records samples in order, each a value and its moment in nanoseconds. Where memory is refused, the samples before are
+    /// recorded and no more.
+    pub fn record_samples(
+        &mut self,
+        alloc: Global,
+        samples: &[(Fixed, u64)],
+    ) -> Result<(), RecordSamplesFault>
+        ensures recorded { OnOk result (FoldsTo Records self.old (map sample_of samples.now) self.new) }
+        ensures stands { OnOk result ((kind : DistributionKind) (before : List Sample) → StandsFor kind before self.old → NeverFall (before ++ map sample_of samples.now) → StandsFor kind (before ++ map sample_of samples.now) self.new) }
+
+        // After a refusal the first `done` samples are recorded and no more.
+        ensures within { IfErr result (λ fault. done_of fault < length samples.now) }
+        ensures stopped { IfErr result (λ fault. FoldsTo Records self.old (map sample_of (take (done_of fault) samples.now)) self.new) }
+        ensures stands_so_far { IfErr result (λ fault. (kind : DistributionKind) (before : List Sample) → StandsFor kind before self.old → NeverFall (before ++ map sample_of (take (done_of fault) samples.now)) → StandsFor kind (before ++ map sample_of (take (done_of fault) samples.now)) self.new) }
+    {
+        for (done, (value, moment)) in samples.iter().enumerate() {
+            let Ok(()) = self.record(alloc, *value, *moment) else {
+                return Err(RecordSamplesFault::Memory { done });
+            };
+        }
+        Ok(())
+    }
+
+    /// Records one sample, or changes nothing.
+    fn record(&mut self, alloc: Global, value: Fixed, moment: u64) -> Result<(), Memory>
+        ensures recorded { OnOk result (Records self.old (record { value = value.0; moment = moment }) self.new) }
+        ensures stands { OnOk result ((kind : DistributionKind) (before : List Sample) → StandsFor kind before self.old → NoneAfter moment before → StandsFor kind (before ++ record { value = value.0; moment = moment } ∷ []) self.new) }
+        ensures refused { OnErr result (self.new ≡ self.old) }
+    {
+        match self {
+            Distribution::Histogram(histogram) => histogram.observe(value, 1),
+            Distribution::Summary(window, _, _) => window.add(alloc, value, moment, 1)?,
+            Distribution::NativeHistogram(histogram) => histogram.observe(alloc, value, 1)?,
+        }
+        self.add_to_sum(value);
+        Ok(())
+    }
+
+    /// Adds a value to the sum, where one is kept beside the window.
+    fn add_to_sum(&mut self, value: Fixed)
+        ensures { self.new ≡ summed value.0 self.old }
+    {
+        if let Distribution::Summary(_, _, sum) = self {
+            *sum = sum.wrapping_add(i128::from(value.0));
+        }
+    }
+}
