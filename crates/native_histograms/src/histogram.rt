@@ -54,7 +54,7 @@ impl NativeHistogram {
     pub fn observe(&mut self, alloc: Global, value: Fixed, count: u32) -> Result<(), Memory>
         ensures observed { OnOk result (Observes self.old (value.0, count) self.new) }
         ensures refused { OnErr result (self.new ≡ self.old) }
-        ensures none { count ≡ 0 → IsOk result }
+        ensures none { count ≡ 0 → IsOk result × (self.new ≡ self.old) }
     {
         if count == 0 {
             return Ok(());
