@@ -11,10 +11,6 @@ not_there : {X : Type 0} (o : Option X) → is_some o ≡ false → o ≡ None
 not_there None is = refl
 not_there (Some x) is = absurd (false≢true (sym is))
 
-one_there : {X : Type 0} (o : Option X) → is_some o ≡ false → is_none o ≡ true
-none_there None is = refl
-none_there (Some x) is = absurd (false≢true (sym is))
-
 one_there : {X : Type 0} (o : Option X) → is_some o ≡ true → is_none o ≡ false
 one_there None is = absurd (false≢true is)
 one_there (Some x) is = refl
