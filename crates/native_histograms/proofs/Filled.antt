@@ -1,8 +1,10 @@
 -- Buckets of lists of values, a value more.
 use Rattle.std.proofs.Common.{◌≡◌, ℕ, zero, suc, ◌+◌, ◌*◌, ◌<◌, ◌≤◌, ◌^◌, Bool, true, false, cond, ◌&&◌, ◌||◌, not, List, [], ◌∷◌, ◌++◌, map, length, refl, sym, ap, subst, ◌∙◌, arith, append_assoc, append-nil, add-one, add-zero}
-use Rattle.std.specs.Prelude.{ℤ, ◌≤ℤ◌, ◌<ℤ◌, ◌==◌, nat_lt, int_lt, unsigned_abs, FitsSigned, count_by, filter, replicate}
+use Rattle.std.specs.Prelude.{ℤ, ◌≤ℤ◌, ◌<ℤ◌, ◌==◌, nat_lt, int_lt, unsigned_abs, None, is_none, FitsSigned, count_by, filter, replicate}
 use Rattle.std.specs.Int.{w64}
 use Rattle.std.specs.List.{AllByRecursion}
+use Rattle.std.specs.Map.{lookup}
+use Rattle.std.specs.Ordering.{int_eq}
 use Rattle.std.specs.Cmp.{signed_Decides}
 use Rattle.std.proofs.lemmas.Int.{ints}
 use Rattle.std.proofs.lemmas.Bool.{lt-ltb, le-ltb}
@@ -11,7 +13,7 @@ use Rattle.std.proofs.lemmas.List.Elements.{filter-append}
 use Rattle.std.proofs.lemmas.List.Folds.{sum_by-replicate}
 use Rattle.std.proofs.lemmas.List.Sums.{sum_by-append}
 use Rattle.metrics_core.specs.Numbers.{in_64_bits}
-use Rattle.native_histograms.specs.Native.{NativeText, index_of, is_positive, is_negative, indices_where, buckets_of, bucket_total, opens_too_many, depth_behind, depth_after, native_depth, zero_count}
+use Rattle.native_histograms.specs.Native.{NativeText, opens_beside, index_of, is_positive, is_negative, indices_where, buckets_of, bucket_total, opens_too_many, depth_behind, depth_after, native_depth, zero_count}
 use Rattle.native_histograms.specs.Settings.{IsInRange}
 use Rattle.native_histograms.specs.Placed.{half_up, IsIndex, Sides, sides_behind, is_full, Places, BucketsText, Adds}
 use Rattle.native_histograms.proofs.Indices.{IsIndex-index_of, index_of-halved}
@@ -291,3 +293,20 @@ adds_zero config v n fits some over under old values fit stands =
     let zeros : in_64_bits (old.zeros + n) ≡ zero_count config vs =
     ap (λ z. in_64_bits (z + n)) (ap (λ b. b.zeros) stands) ∙ sym (zeros-more config values v n ∙ ap (λ b. in_64_bits (zero_count config values + cond (not b) n 0)) (λ j. (over j || under j))) in
     λ j. record { depth = (ap (λ b. b.depth) stands ∙ depth) j; positive = (ap (λ b. b.positive) stands ∙ positive) j; negative = (ap (λ b. b.negative) stands ∙ negative) j; zeros = zeros j }
+
+-- ---- whether a value opens a bucket
+
+pub opens_positive : (config : NativeText) (depth : ℕ) (positive negative : List (ℤ × ℕ)) (v k : ℤ) → is_positive config v ≡ true → k ≡ index_of depth (unsigned_abs v)
+    → lookup (int_eq k) positive ≡ None → opens_beside config depth positive negative v ≡ true
+opens_positive config depth positive negative v k is same absent =
+    ap (λ b. cond b (is_none (lookup (int_eq (index_of depth (unsigned_abs v))) positive)) (is_negative config v && is_none (lookup (int_eq (index_of depth (unsigned_abs v))) negative))) is
+    ∙ ap (λ i. is_none (lookup (int_eq i) positive)) (sym same)
+    ∙ ap is_none absent
+
+pub opens_negative : (config : NativeText) (depth : ℕ) (positive negative : List (ℤ × ℕ)) (v k : ℤ) → is_positive config v ≡ false → is_negative config v ≡ true
+    → k ≡ index_of depth (unsigned_abs v) → lookup (int_eq k) negative ≡ None → opens_beside config depth positive negative v ≡ true
+opens_negative config depth positive negative v k over is same absent =
+    ap (λ b. cond b (is_none (lookup (int_eq (index_of depth (unsigned_abs v))) positive)) (is_negative config v && is_none (lookup (int_eq (index_of depth (unsigned_abs v))) negative))) over
+    ∙ ap (λ b. b && is_none (lookup (int_eq (index_of depth (unsigned_abs v))) negative)) is
+    ∙ ap (λ i. is_none (lookup (int_eq i) negative)) (sym same)
+    ∙ ap is_none absent

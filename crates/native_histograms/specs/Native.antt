@@ -1,8 +1,9 @@
 -- Native histograms from scratch (Prometheus native histograms, standard exponential schemas 0 down to -4): the histogram
 -- of a list of values. A value is a whole number of billionths.
-use Rattle.std.specs.Prelude.{◌≡◌, ℕ, ◌+◌, ◌*◌, ◌^◌, ◌==◌, Bool, ◌&&◌, ◌||◌, not, nat_lt, nat_le, List, [], ◌∷◌, ◌++◌, map, length, replicate, flat_map, ℤ, pos, negsuc, ◌-ℤ◌, neg_ℤ, unsigned_abs, int_lt, FitsSigned, Option, Some, None, find, filter, filter_map, count_by, unwrap_or, if◌then◌else◌}
+use Rattle.std.specs.Prelude.{◌≡◌, ℕ, ◌+◌, ◌*◌, ◌^◌, ◌==◌, Bool, ◌&&◌, ◌||◌, not, nat_lt, nat_le, List, [], ◌∷◌, ◌++◌, map, length, replicate, flat_map, ℤ, pos, negsuc, ◌-ℤ◌, neg_ℤ, unsigned_abs, int_lt, FitsSigned, Option, Some, None, is_none, find, filter, filter_map, count_by, unwrap_or, if◌then◌else◌}
 use Rattle.std.specs.Int.{w64}
 use Rattle.std.specs.List.{range_with_len, FoldsTo, AllByRecursion}
+use Rattle.std.specs.Map.{lookup}
 use Rattle.std.specs.Ordering.{int_eq}
 use Rattle.metrics_core.specs.Numbers.{one, in_64_bits}
 use Rattle.metrics_registry.specs.Cumulative.{sample_sum, sample_count}
@@ -99,6 +100,15 @@ native_of config values = record {
   sum = sample_sum values;
   count = sample_count values;
 }
+
+-- whether a value opens a bucket: it is no zero, and its bucket isn't there
+abbrev pub opens_beside : NativeText → ℕ → List (ℤ × ℕ) → List (ℤ × ℕ) → ℤ → Bool
+opens_beside config depth positive negative v =
+    if is_positive config v then is_none (lookup (int_eq (index_of depth (unsigned_abs v))) positive)
+    else is_negative config v && is_none (lookup (int_eq (index_of depth (unsigned_abs v))) negative)
+
+abbrev pub opens_bucket : HistogramText → ℤ → Bool
+opens_bucket histogram v = opens_beside histogram.config histogram.depth histogram.positive histogram.negative v
 
 -- a histogram stands for the values, of 64 bits each, that were observed under its settings
 abbrev pub StandsFor : NativeText → List ℤ → HistogramText → Type 0

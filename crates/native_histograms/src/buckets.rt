@@ -1,10 +1,10 @@
 //! The buckets of a histogram: of each sign, from each index to how many values have it.
 
-ghost use Rattle.std.specs.Prelude.{◌≡◌, [], ℤ, ◌+◌, ◌*◌, ◌^◌, ◌<◌, ◌≤◌, IfOk, OnOk, OnErr, IsTrue, is_none, ◌&&◌, nat_lt, length};
+ghost use Rattle.std.specs.Prelude.{◌≡◌, [], ℤ, ◌+◌, ◌*◌, ◌^◌, ◌<◌, ◌≤◌, IfOk, OnOk, OnErr, IsTrue, None, is_none, ◌&&◌, nat_lt, length};
 ghost use Rattle.std.specs.Map.{lookup};
 ghost use Rattle.std.specs.Ordering.{int_cmp, int_eq};
 ghost use Rattle.std.specs.BTreeMap.{IsOrdered};
-ghost use Rattle.native_histograms.specs.Native.{index_of};
+ghost use Rattle.native_histograms.specs.Native.{index_of, opens_beside};
 ghost use Rattle.native_histograms.specs.Placed.{half_up, raised_at, Raises, Halves, Places, Adds};
 
 use crate::NativeHistogramConfig;
@@ -17,9 +17,11 @@ use std::collections::BTreeMap;
 pub(crate) struct Buckets {
     /// Minus the schema.
     pub depth: u32,
-    /// From each index to its count, modulo 2^64.
+    /// From each index of the values over the threshold to its count, modulo 2^64.
     pub positive: BTreeMap<i32, u64>,
+    /// The same of the values under minus the threshold.
     pub negative: BTreeMap<i32, u64>,
+    /// How many other values there are, modulo 2^64.
     pub zeros: u64,
 }
 
@@ -38,7 +40,7 @@ impl Buckets {
         }
     }
 
-    /// Adds a value so many times.
+    /// Adds a value so many times. It takes memory only where a bucket opens; refused that, nothing changes.
     pub fn add(
         &mut self,
         alloc: Global,
@@ -50,6 +52,7 @@ impl Buckets {
         ensures added { OnOk result (Adds config.now (buckets_text self.old) (value.0, count) (buckets_text self.new)) }
         ensures depth { self.old.depth ≤ 4 → self.new.depth ≤ 4 }
         ensures refused { OnErr result (buckets_text self.new ≡ buckets_text self.old) }
+        ensures opens { OnErr result (IsTrue (opens_beside config.now self.old.depth self.old.positive.entries self.old.negative.entries value.0)) }
     {
         let threshold = config.zero_threshold().0;
         if value.0 > threshold {
@@ -114,6 +117,7 @@ fn index_at_start(magnitude: u64) -> i32
     requires most { magnitude ≤ 2 ^ 63 }
     ensures { result ≡ index_of 0 magnitude }
 {
+    // Both sides are scaled by 2^29, so that the bound of the least index, -29, is a whole number.
     let scaled = u128::from(magnitude) * 536_870_912;
     let mut bound = 1_000_000_000u128;
     for place in 0..63u32 {
@@ -141,6 +145,7 @@ fn add(buckets: &mut BTreeMap<i32, u64>, index: i32, count: u64) -> Result<(), M
     ensures raised { OnOk result ((i : ℤ) → lookup (int_eq i) buckets.new.entries ≡ raised_at index count i (lookup (int_eq i) buckets.old.entries)) }
     ensures ordered { IsOrdered int_cmp buckets.new }
     ensures refused { OnErr result (buckets.new.entries ≡ buckets.old.entries) }
+    ensures absent { OnErr result (lookup (int_eq index) buckets.old.entries ≡ None) }
 {
     let held = buckets.get(&index).copied().unwrap_or(0);
     buckets.insert(index, held.wrapping_add(count))?;
@@ -152,6 +157,7 @@ fn raise(buckets: &mut BTreeMap<i32, u64>, index: i32, count: u32) -> Result<(),
     requires { 0 < count }
     ensures raised { OnOk result (Raises buckets.old.entries (index, count) buckets.new.entries) }
     ensures refused { OnErr result (buckets.new.entries ≡ buckets.old.entries) }
+    ensures absent { OnErr result (lookup (int_eq index) buckets.old.entries ≡ None) }
 {
     add(buckets, index, u64::from(count))
 }
@@ -176,13 +182,14 @@ fn opens_too_many(
     max_buckets: u32,
     index: i32,
 ) -> bool
-    ensures { result ≡ (is_none (lookup (int_eq index) side.now.entries) && nat_lt max_buckets (length side.now.entries + length other.now.entries + 1)) }
+    ensures absent { IsTrue result → lookup (int_eq index) side.now.entries ≡ None }
+    ensures opens { result ≡ (is_none (lookup (int_eq index) side.now.entries) && nat_lt max_buckets (length side.now.entries + length other.now.entries + 1)) }
 {
     !side.contains_key(&index)
         && side.len() as u128 + other.len() as u128 + 1 > u128::from(max_buckets)
 }
 
-/// Whether it does while the depth may rise.
+/// Whether an index opens a bucket over the greatest number while the depth may rise.
 fn is_full(
     depth: u32,
     side: &BTreeMap<i32, u64>,
@@ -190,7 +197,8 @@ fn is_full(
     max_buckets: u32,
     index: i32,
 ) -> bool
-    ensures { result ≡ (nat_lt depth 4 && (is_none (lookup (int_eq index) side.now.entries) && nat_lt max_buckets (length side.now.entries + length other.now.entries + 1))) }
+    ensures absent { IsTrue result → lookup (int_eq index) side.now.entries ≡ None }
+    ensures full { result ≡ (nat_lt depth 4 && (is_none (lookup (int_eq index) side.now.entries) && nat_lt max_buckets (length side.now.entries + length other.now.entries + 1))) }
 {
     depth < 4 && opens_too_many(side, other, max_buckets, index)
 }
@@ -212,6 +220,7 @@ fn place(
     ensures refused_depth { OnErr result (depth.new ≡ depth.old) }
     ensures refused_side { OnErr result (side.new.entries ≡ side.old.entries) }
     ensures refused_other { OnErr result (other.new.entries ≡ other.old.entries) }
+    ensures absent { OnErr result (lookup (int_eq index) side.old.entries ≡ None) }
 {
     if is_full(*depth, side, other, max_buckets, index) {
         let mut merged = halved(alloc, side)?;

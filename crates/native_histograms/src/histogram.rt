@@ -1,8 +1,8 @@
 //! Native histograms.
 
-ghost use Rattle.std.specs.Prelude.{◌≡◌, pos, neg_ℤ, [], IfOk, OnOk, OnErr, IsOk, FitsSigned, ◌*ℤ◌};
+ghost use Rattle.std.specs.Prelude.{◌≡◌, pos, neg_ℤ, [], IfOk, OnOk, OnErr, IsOk, IsTrue, FitsSigned, ◌*ℤ◌};
 ghost use Rattle.std.specs.Int.{w64, w128};
-ghost use Rattle.native_histograms.specs.Native.{native_of, StandsFor, Observes};
+ghost use Rattle.native_histograms.specs.Native.{StandsFor, Observes, opens_bucket};
 
 use crate::NativeHistogramConfig;
 use crate::buckets::Buckets;
@@ -49,12 +49,14 @@ impl NativeHistogram {
         }
     }
 
-    /// Observes a value so many times; none of it changes nothing. It takes memory where a bucket opens; refused that,
-    /// the histogram stays as it was. It takes logarithmic time, and linear time in the buckets where they are merged.
+    /// Observes a value so many times; to observe it no times changes nothing. It takes memory only where a bucket opens;
+    /// refused that, the histogram stays as it was. It takes logarithmic time, and linear time in the buckets where they
+    /// are merged.
     pub fn observe(&mut self, alloc: Global, value: Fixed, count: u32) -> Result<(), Memory>
         ensures observed { OnOk result (Observes self.old (value.0, count) self.new) }
         ensures refused { OnErr result (self.new ≡ self.old) }
-        ensures none { count ≡ 0 → IsOk result }
+        ensures opens { OnErr result (IsTrue (opens_bucket self.old value.0)) }
+        ensures none { count ≡ 0 → IsOk result × (self.new ≡ self.old) }
     {
         if count == 0 {
             return Ok(());

@@ -1,10 +1,11 @@
-use Rattle.std.proofs.Common.{◌≡◌, ◌+◌, ◌&&◌, nat_lt, length, Bool, true, false, List, map, Result, Ok, Err, w32, sym, ap, subst, ◌∙◌, rules}
-use Rattle.std.specs.Prelude.{ℕ, ℤ, OnOk, FitsSigned, is_none}
+use Rattle.std.proofs.Common.{◌≡◌, ◌+◌, ◌&&◌, nat_lt, length, Bool, true, false, List, map, w32, sym, ap, subst, ◌∙◌, rules}
+use Rattle.std.specs.Prelude.{ℕ, ℤ, FitsSigned, is_none}
 use Rattle.std.specs.Int.{cast_signed, cast_unsigned}
 use Rattle.std.specs.Map.{lookup}
 use Rattle.std.specs.List.{AllByRecursion}
 use Rattle.std.specs.Ordering.{int_eq}
 use Rattle.std.proofs.lemmas.Int.{to_z-of_z}
+use Rattle.std.proofs.lemmas.Result.{on_ok_weaker}
 use Rattle.native_histograms.specs.Native.{buckets_of}
 use Rattle.native_histograms.specs.Placed.{half_up, IsIndex, Sides, sides_behind, Raises, Places}
 use Rattle.native_histograms.proofs.Indices.{IsIndex-half_up}
@@ -20,10 +21,6 @@ places max_buckets depth side other k n full new is made found others all all' i
     made found others all all' index stands stands'
     ∙ ap (λ b. sides_behind b depth found others (k, n)) (is ∙ full_is max_buckets depth side other k found others all stands stands')
 
-on_ok : {T E : Type 0} (r : Result T E) (P Q : Type 0) → OnOk r P → (P → Q) → OnOk r Q
-on_ok (Ok x) P Q h f = f h
-on_ok (Err e) P Q h f = tt
-
 pub returns-in_ok-raise-clause-placed : goal.returns-in_ok-raise-clause-placed
 returns-in_ok-raise-clause-placed c =
     let k = c.args.index in
@@ -34,7 +31,7 @@ returns-in_ok-raise-clause-placed c =
     let fits : FitsSigned w32 c.half_up.result = search rules in
     let half : cast_signed w32 (cast_unsigned w32 c.half_up.result) ≡ half_up k = to_z-of_z w32 c.half_up.result fits ∙ c.half_up.ensures ∙ ap half_up own in
     let full : true ≡ (nat_lt depth 4 && (is_none (lookup (int_eq k) side) && nat_lt c.args.max_buckets (length side + length other + 1))) =
-    sym c.if-is_full.true ∙ c.is_full.ensures ∙ ap (λ i. nat_lt depth 4 && (is_none (lookup (int_eq i) side) && nat_lt c.args.max_buckets (length side + length other + 1))) own in
+    sym c.if-is_full.true ∙ c.is_full.ensures.full ∙ ap (λ i. nat_lt depth 4 && (is_none (lookup (int_eq i) side) && nat_lt c.args.max_buckets (length side + length other + 1))) own in
     places c.args.max_buckets depth side other k c.args.count true (record { depth = depth + 1; side = c.raise.new.buckets.entries; other = c.in_ok-others.others.entries }) full
     (λ found others all all' index stands stands'. λ j. record {
       depth = depth + 1;
@@ -50,12 +47,13 @@ returns-else-is_full-clause-placed c =
     let other = c.args.other.now.entries in
     let own : cast_signed w32 (cast_unsigned w32 k) ≡ k = to_z-of_z w32 k c.ranges.index in
     let full : false ≡ (nat_lt depth 4 && (is_none (lookup (int_eq k) side) && nat_lt c.args.max_buckets (length side + length other + 1))) =
-    sym c.if-is_full.false ∙ c.is_full.ensures ∙ ap (λ i. nat_lt depth 4 && (is_none (lookup (int_eq i) side) && nat_lt c.args.max_buckets (length side + length other + 1))) own in
+    sym c.if-is_full.false ∙ c.is_full.ensures.full ∙ ap (λ i. nat_lt depth 4 && (is_none (lookup (int_eq i) side) && nat_lt c.args.max_buckets (length side + length other + 1))) own in
     let new = c.raise-else-is_full.new.buckets.entries in
-    on_ok c.raise-else-is_full.result _ _ c.raise-else-is_full.ensures.raised (λ raised.
+    on_ok_weaker c.raise-else-is_full.result (λ raised.
     places c.args.max_buckets depth side other k c.args.count false (record { depth = depth; side = new; other = other }) full
     (λ found others all all' index stands stands'. λ j. record {
       depth = depth;
       side = subst (λ i. Raises side (i, c.args.count) new) own raised found all index stands j;
       other = stands' j;
     }))
+    c.raise-else-is_full.ensures.raised
