@@ -156,6 +156,23 @@ fn a_full_bag_refuses(rt: HostRuntime) -> Result<(), Fail> {
     Ok(())
 }
 
+/// A bag of one 8, with the 7 of another bag added.
+fn merged(alloc: Global) -> Result<Bag, Memory> {
+    let mut bag = Bag::new(alloc);
+    bag.add(Fixed(8), 1)?;
+    let mut other = Bag::new(alloc);
+    other.add(Fixed(7), 1)?;
+    bag.merged_with(&other)
+}
+
+#[test]
+fn a_bag_takes_in_another_one(rt: HostRuntime) -> Result<(), Fail> {
+    let bag = merged(rt.alloc())?;
+    let highest = bag.quantile(&Quantile::new(Fixed(1_000_000_000)));
+    assert_eq!(rt; (bag.count(), highest), (2, Some(Fixed(8))));
+    Ok(())
+}
+
 /// The histogram of 0.5, 1, 3 and 9 with the bounds 1 and 5.
 fn observed(alloc: Global) -> Result<CumulativeHistogram, Memory> {
     let bounds = [Fixed(1_000_000_000), Fixed(5_000_000_000)];

@@ -9,7 +9,7 @@ use Rattle.metrics_registry.specs.Quantiles.{ascending}
 use Rattle.metrics_registry.specs.QuantileLaws.{ascending-left}
 use Rattle.rolling_summaries.specs.declared.buckets.Bucket.{Bucket}
 use Rattle.rolling_summaries.specs.Window.{Sample}
-use Rattle.rolling_summaries.specs.Summaries.{Summary, empty_summary, kept_by, kept_after, added}
+use Rattle.rolling_summaries.specs.Summaries.{Summary, kept_by, kept_after, added}
 use Rattle.rolling_summaries.specs.Standing.{NoneAfter, StandsFor, same_samples, Addition, added_samples, added_all, NeverFall, SameInAnyCuts}
 use Rattle.rolling_summaries.proofs.Landed.{Lands, lands, taker-newest, stands-more}
 
@@ -82,12 +82,8 @@ calls-one_by_one [] summary samples some wide stands rising = refl
 calls-one_by_one (c ∷ calls) summary samples some wide stands rising =
     call-more c.samples c.value c.moment calls (calls-one_by_one calls) summary samples some wide stands rising
 
-stands-none : (limit width : ℕ) → StandsFor (empty_summary limit width) []
-stands-none limit width = record { count = refl; newest = refl; holds = λ t _. All-nil _ }
-
 pub same_in_any_cuts : SameInAnyCuts
-same_in_any_cuts limit width xs ys some wide rising same =
-    let none = empty_summary limit width in
-    calls-one_by_one xs none [] some wide (stands-none limit width) rising
-    ∙ ap (fold one_more none) same
-    ∙ sym (calls-one_by_one ys none [] some wide (stands-none limit width) (subst NeverFall same rising))
+same_in_any_cuts summary samples xs ys some wide stands rising same =
+    calls-one_by_one xs summary samples some wide stands rising
+    ∙ ap (fold one_more summary) same
+    ∙ sym (calls-one_by_one ys summary samples some wide stands (subst (λ more. NeverFall (samples ++ more)) same rising))

@@ -5,7 +5,7 @@ use Rattle.metrics_core.specs.Numbers.{in_64_bits}
 use Rattle.metrics_registry.specs.Quantiles.{ascending}
 use Rattle.rolling_summaries.specs.declared.buckets.Bucket.{Bucket}
 use Rattle.rolling_summaries.specs.Window.{Sample, begin_behind, begins}
-use Rattle.rolling_summaries.specs.Summaries.{Summary, empty_summary, newest_begin, added}
+use Rattle.rolling_summaries.specs.Summaries.{Summary, newest_begin, added}
 
 -- no sample is after t
 abbrev pub NoneAfter : ℕ → List Sample → Type 0
@@ -69,8 +69,9 @@ abbrev pub NeverFall : List Sample → Type 0
 NeverFall [] = Unit {0}
 NeverFall (s ∷ samples) = All (λ later. s.moment ≤ later.moment) samples × NeverFall samples
 
--- where moments never fall, the same samples in any cuts leave the same buckets and the same count
+-- Where moments never fall, the same samples in any cuts leave the same buckets and the same count: behind a summary that
+-- stands for earlier samples, so also behind a new one.
 abbrev pub SameInAnyCuts : Type 0
 SameInAnyCuts =
-    (limit width : ℕ) (xs ys : List Addition) → 0 < limit → 0 < width → NeverFall (added_samples xs) → added_samples xs ≡ added_samples ys
-    → added_all (empty_summary limit width) xs ≡ added_all (empty_summary limit width) ys
+    (summary : Summary) (samples : List Sample) (xs ys : List Addition) → 0 < summary.limit → 0 < summary.width → StandsFor summary samples
+    → NeverFall (samples ++ added_samples xs) → added_samples xs ≡ added_samples ys → added_all summary xs ≡ added_all summary ys

@@ -1,6 +1,6 @@
 //! The buckets of a summary: which of them takes a sample, where a new one begins, and which are in a window.
 
-ghost use Rattle.std.specs.Prelude.{◌≡◌, ◌<◌, ◌≤◌, ◌*◌, ◌^◌, length, flat_map, replicate, IfOk, IfSome, OnOk, OnErr, position};
+ghost use Rattle.std.specs.Prelude.{◌≡◌, ◌<◌, ◌≤◌, ◌*◌, ◌^◌, [], length, flat_map, replicate, IfOk, IsOk, IfSome, OnOk, OnErr, position};
 ghost use Rattle.metrics_registry.specs.Quantiles.{ascending};
 ghost use Rattle.rolling_summaries.specs.Summaries.{in_window, takes, ends_search, taker, joined, newest_begin, new_begin, begun, kept_in_window, kept_after};
 
@@ -8,7 +8,8 @@ use metrics_core::{Fixed, Memory};
 use metrics_registry::Bag;
 use std::alloc::Global;
 
-/// The values of the samples that fall into one bucket of time.
+/// The values of the samples that fall into one bucket of time. A contract sees the buckets that a summary keeps as a list
+/// of these.
 #[derive(Drop)]
 pub struct Bucket {
     /// The moment at which the bucket begins, in nanoseconds.
@@ -167,7 +168,8 @@ pub fn put(
 
 /// The values of the buckets in the window at a moment.
 pub fn values_in_window(alloc: Global, kept: &[Bucket], span: u64, now: u64) -> Result<Bag, Memory>
-    ensures { IfOk result (λ bag. bag ≡ ascending (flat_map (λ bucket. bucket.values) (kept_in_window span now kept.now))) }
+    ensures none { kept.now ≡ [] → IsOk result }
+    ensures values { IfOk result (λ bag. bag ≡ ascending (flat_map (λ bucket. bucket.values) (kept_in_window span now kept.now))) }
 {
     let mut bag = Bag::new(alloc);
     for bucket in kept {

@@ -1,6 +1,6 @@
 //! Summaries over a window that moves on with time.
 
-ghost use Rattle.std.specs.Prelude.{◌≡◌, ℕ, ◌<◌, ◌≤◌, ◌*◌, ◌^◌, ◌==◌, ◌++◌, [], List, length, IfOk, OnOk, OnErr};
+ghost use Rattle.std.specs.Prelude.{◌≡◌, ℕ, ◌<◌, ◌≤◌, ◌*◌, ◌^◌, ◌==◌, ◌++◌, [], List, length, IfOk, IsOk, OnOk, OnErr};
 ghost use Rattle.std.specs.Int.NonZero.{non_zero_u32_get};
 ghost use Rattle.metrics_registry.specs.Quantiles.{ascending};
 ghost use Rattle.rolling_summaries.specs.Window.{Sample, window};
@@ -64,7 +64,7 @@ impl RollingSummary {
 
     /// A summary of no samples, for 3 buckets of 20 seconds.
     pub fn with_defaults(alloc: Global) -> Self
-        ensures empty { result ≡ empty_summary 3 20000000000 }
+        ensures empty { result ≡ empty_summary 3 (20 * 10 ^ 9) }
         ensures stands { StandsFor result [] }
     {
         RollingSummary {
@@ -75,14 +75,15 @@ impl RollingSummary {
         }
     }
 
-    /// Adds a value for so many samples at a moment. A count of 0 changes nothing. It is refused, and changes nothing, also
-    /// where the sample's bucket would hold 2^64 values or more.
+    /// Adds a value for so many samples at a moment. A count of 0 changes nothing and is never refused. A refusal changes
+    /// nothing. It comes also where the sample's bucket would hold 2^64 values or more.
     ///
     /// A sample before the newest bucket joins the one that it falls into, if that is kept. Otherwise it is counted and
     /// forgotten.
     pub fn add(&mut self, alloc: Global, value: Fixed, now: u64, count: u32) -> Result<(), Memory>
         ensures added { OnOk result (self.new ≡ added now value.0 count self.old) }
         ensures refused { OnErr result (self.new ≡ self.old) }
+        ensures none { count ≡ 0 → IsOk result }
         ensures stands { OnOk result ((samples : List Sample) → StandsFor self.old samples → NoneAfter now samples → StandsFor self.new (samples ++ same_samples value.0 now count)) }
     {
         if count == 0 {
@@ -101,8 +102,10 @@ impl RollingSummary {
         Ok(())
     }
 
-    /// The values of the window at a moment. It takes time and memory by the distinct values of the window.
+    /// The values of the window at a moment. It takes memory for the distinct values of the window, and time by their number
+    /// and its logarithm. Where no bucket is kept, it is never refused.
     pub fn snapshot(&self, alloc: Global, now: u64) -> Result<Bag, Memory>
+        ensures none { self.now.kept ≡ [] → IsOk result }
         ensures snapshot { IfOk result (λ bag. bag ≡ snapshot_at now self.now) }
         ensures window { IfOk result (λ bag. (samples : List Sample) → StandsFor self.now samples → NoneAfter now samples → bag ≡ ascending (window self.now.width (self.now.limit * self.now.width) now samples)) }
     {

@@ -14,4 +14,4 @@ returns-clause-window c =
     ∙ (λ j. ascending (values_of (kept_in_window (c.from.ensures j * c.self.inside.width) c.args.now (c.as_slice.ensures.value j))))
     ∙ ap (snapshot_at c.args.now) c.self.view_is
     ∙ snapshot-window c.args.self.now c.args.now samples stands before)
-    c.values_in_window.ensures
+    c.values_in_window.ensures.values
