@@ -8,3 +8,6 @@ mod rules;
 
 pub use builder::DistributionBuilder;
 pub use distribution::{Distribution, RecordSamplesFault};
+
+#[cfg(test)]
+mod tests;
