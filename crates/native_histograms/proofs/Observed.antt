@@ -6,15 +6,15 @@ use Rattle.std.specs.List.{FoldsTo}
 use Rattle.metrics_core.specs.Numbers.{in_64_bits, add_128}
 use Rattle.metrics_registry.proofs.Observed.{sample_sum-more, sample_count-more}
 use Rattle.metrics_registry.specs.Cumulative.{sample_sum, sample_count}
-use Rattle.native_histograms.specs.Native.{NativeText, HistogramText, native_of, StandsFor, Observes, observed_values, SameInAnyCuts}
+use Rattle.native_histograms.specs.Native.{NativeText, NativeHistogramText, native_of, StandsFor, Observes, observed_values, SameInAnyCuts}
 use Rattle.native_histograms.specs.Placed.{BucketsText, parts_of, Adds}
 use Rattle.native_histograms.proofs.Bucketed.{all-append, all-replicate}
 
 -- the buckets of a histogram
-abbrev pub parts : HistogramText → BucketsText
+abbrev pub parts : NativeHistogramText → BucketsText
 parts h = record { depth = h.depth; positive = h.positive; negative = h.negative; zeros = h.zeros }
 
-abbrev pub with_parts : NativeText → BucketsText → ℤ → ℕ → HistogramText
+abbrev pub with_parts : NativeText → BucketsText → ℤ → ℕ → NativeHistogramText
 with_parts config b sum count = record { config = config; depth = b.depth; positive = b.positive; negative = b.negative; zeros = b.zeros; sum = sum; count = count }
 
 pub observes : (config : NativeText) (old new : BucketsText) (sum : ℤ) (count : ℕ) (v : ℤ) (n : ℕ) → FitsSigned w64 v → FitsSigned w128 v → FitsSigned w128 (v *ℤ pos n) → FitsSigned w128 sum
@@ -31,7 +31,7 @@ observes config old new sum count v n fits wide product_fits in_range adds confi
     (all-append (FitsSigned w64) values (replicate n v) stands.0 (all-replicate (FitsSigned w64) n v fits), λ j. with_parts (same j) (more j) (sums j) (counts j))
 
 -- a histogram after observations in turn stands for their values in turn
-stands_after : (config : NativeText) (values : List ℤ) (old new : HistogramText) (xs : List (ℤ × ℕ)) → StandsFor config values old → FoldsTo Observes old xs new → StandsFor config (values ++ observed_values xs) new
+stands_after : (config : NativeText) (values : List ℤ) (old new : NativeHistogramText) (xs : List (ℤ × ℕ)) → StandsFor config values old → FoldsTo Observes old xs new → StandsFor config (values ++ observed_values xs) new
 stands_after config values old new [] stands folds = subst (λ s. StandsFor config s new) (sym (append-nil values)) (stands.0, sym folds ∙ stands.1)
 stands_after config values old new (x ∷ xs) stands folds =
     subst (λ s. StandsFor config s new) (append_assoc values (replicate x.1 x.0) (observed_values xs))

@@ -80,7 +80,7 @@ native_depth config values = depth_after config config.depth [] values
 
 -- a histogram: its settings; the schema is minus the depth; the buckets, from index to count in ascending order; the counts
 -- of zeros and of all values, modulo 2 ^ 64; the sum, wrapped in 128 bits
-pub record HistogramText : Type 0 where
+pub record NativeHistogramText : Type 0 where
   pub config : NativeText
   pub depth : ℕ
   pub positive : List (ℤ × ℕ)
@@ -90,7 +90,7 @@ pub record HistogramText : Type 0 where
   pub count : ℕ
 
 -- the histogram of the values
-abbrev pub native_of : NativeText → List ℤ → HistogramText
+abbrev pub native_of : NativeText → List ℤ → NativeHistogramText
 native_of config values = record {
   config = config;
   depth = native_depth config values;
@@ -107,15 +107,15 @@ opens_beside config depth positive negative v =
     if is_positive config v then is_none (lookup (int_eq (index_of depth (unsigned_abs v))) positive)
     else is_negative config v && is_none (lookup (int_eq (index_of depth (unsigned_abs v))) negative)
 
-abbrev pub opens_bucket : HistogramText → ℤ → Bool
+abbrev pub opens_bucket : NativeHistogramText → ℤ → Bool
 opens_bucket histogram v = opens_beside histogram.config histogram.depth histogram.positive histogram.negative v
 
 -- a histogram stands for the values, of 64 bits each, that were observed under its settings
-abbrev pub StandsFor : NativeText → List ℤ → HistogramText → Type 0
+abbrev pub StandsFor : NativeText → List ℤ → NativeHistogramText → Type 0
 StandsFor config values histogram = AllByRecursion (FitsSigned w64) values × (histogram ≡ native_of config values)
 
 -- a value observed so many times: whatever the histogram stood for, it then stands for that with these values behind it
-abbrev pub Observes : HistogramText → ℤ × ℕ → HistogramText → Type 0
+abbrev pub Observes : NativeHistogramText → ℤ × ℕ → NativeHistogramText → Type 0
 Observes old observed new =
     (config : NativeText) (values : List ℤ) → StandsFor config values old → StandsFor config (values ++ replicate observed.1 observed.0) new
 
@@ -126,5 +126,5 @@ observed_values observations = flat_map (λ observed. replicate observed.1 obser
 -- the same values observed in any cuts give the same histogram
 abbrev pub SameInAnyCuts : Type 0
 SameInAnyCuts =
-    (config : NativeText) (xs ys : List (ℤ × ℕ)) (a b : HistogramText) → observed_values xs ≡ observed_values ys
+    (config : NativeText) (xs ys : List (ℤ × ℕ)) (a b : NativeHistogramText) → observed_values xs ≡ observed_values ys
     → FoldsTo Observes (native_of config []) xs a → FoldsTo Observes (native_of config []) ys b → a ≡ b

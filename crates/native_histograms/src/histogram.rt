@@ -26,9 +26,9 @@ pub struct NativeHistogram {
 impl Model for NativeHistogram {
     ghost use Rattle.std.specs.Prelude.{◌≤◌, FitsSigned};
     ghost use Rattle.std.specs.Int.{w128};
-    ghost use Rattle.native_histograms.specs.Native.{HistogramText};
+    ghost use Rattle.native_histograms.specs.Native.{NativeHistogramText};
 
-    ghost Value = { HistogramText };
+    ghost Value = { NativeHistogramText };
 
     ghost view = { λ h. record { config = h.config; depth = h.buckets.depth; positive = h.buckets.positive.entries; negative = h.buckets.negative.entries; zeros = h.buckets.zeros; sum = h.sum; count = h.count } };
 
