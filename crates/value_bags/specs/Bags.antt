@@ -2,6 +2,7 @@
 use Rattle.std.specs.Prelude.{ℕ, ◌+◌, ◌-◌, ◌≡◌, ◌<◌, Bool, true, false, not, nat_lt, nat_le, nat_eq, List, [], ◌∷◌, ◌++◌, map, filter, length, fold, sum_by, count_by, replicate, All, if◌then◌else◌, ◌&&◌}
 use Rattle.std.specs.Option.{option_map_or}
 use Rattle.std.specs.Map.{lookup, keys_of}
+use Rattle.std.specs.List.{IsDistinct}
 use Rattle.indexmap.specs.IndexMap.{swap_remove_entry}
 use Rattle.value_bags.specs.declared.bag.Bag.{Bag}
 use Rattle.value_bags.specs.declared.bag.Bag.TheVariants.{Short, Long}
@@ -86,6 +87,10 @@ module _ {V : Type 0} (eq : V → V → Bool) where
   abbrev pub reserved : ℕ → Bag V → Bag V
   reserved additional (Short vs) = if nat_lt (length vs + additional) long_length then Short vs else Long (counted vs)
   reserved additional (Long counts) = Long counts
+
+  -- each value is counted once, and at least to one
+  abbrev pub IsProper : List (V × ℕ) → Type 0
+  IsProper counts = All (λ c. 0 < c.1) counts × IsDistinct eq (keys_of counts)
 
   -- how often a value was counted
   abbrev pub counted_times : List (V × ℕ) → V → ℕ

@@ -2,6 +2,7 @@
 #![tactic(auto)]
 
 mod bag;
+mod counts;
 mod keep;
 mod values;
 
