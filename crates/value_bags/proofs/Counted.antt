@@ -1,21 +1,21 @@
 -- How the counts of a long bag change, value by value.
-use Rattle.std.proofs.Common.{◌≡◌, ℕ, ◌+◌, ◌-◌, ◌<◌, ◌≤◌, Bool, true, false, not, nat_lt, cond, List, [], ◌∷◌, ◌++◌, suc, length, map, take, get_or, fold, filter, count_by, sum_by, position, slice_get, sum, is_some, lt-ltb, le-ltb, Option, Some, None, refl, sym, ap, ◌∙◌, subst, true≢false, if◌then◌else◌, arith}
+use Rattle.std.proofs.Common.{◌≡◌, ℕ, ◌+◌, ◌-◌, ◌<◌, ◌≤◌, Bool, true, false, not, nat_lt, cond, List, [], ◌∷◌, ◌++◌, zero, suc, length, map, take, get_or, fold, filter, count_by, sum_by, position, slice_get, sum, is_some, lt-ltb, le-ltb, ◌||◌, ◌↔◌, IsTrue, IsNone, IfSome, Contains, Bor, option_map, replicate, Option, Some, None, refl, sym, ap, ◌∙◌, subst, true≢false, if◌then◌else◌, arith}
 use Rattle.std.proofs.lemmas.List.{take_more, map-append}
 use Rattle.std.proofs.lemmas.List.Sums.{sum_by-cons, sum_by-swap_remove, sum_by_push}
-use Rattle.std.proofs.lemmas.List.Elements.{All-nil, All-cons, All-head, All-tail, All-filter, All-get_or}
+use Rattle.std.proofs.lemmas.List.Elements.{All-nil, All-cons, All-head, All-tail, All-filter, All-get_or, Contains-append_left}
 use Rattle.std.proofs.lemmas.List.Sorted.{IsPermutation-map, All-permutation, sum_by-IsPermutation}
 use Rattle.std.proofs.lemmas.Bool.{ltb-true, ltb-false}
 use Rattle.std.proofs.lemmas.Map.Keys.{IsDistinct-tail, IsDistinct-head, IsDistinct-cons, IsDistinct-IsPermutation}
 use Rattle.std.proofs.lemmas.Map.Made.{IsDistinct-keys_filter}
-use Rattle.std.specs.List.{IsDistinct, All, AllByRecursion, swap_remove}
+use Rattle.std.specs.List.{list_any, IsDistinct, All, AllByRecursion, swap_remove}
 use Rattle.std.specs.List.Sorted.{IsPermutation}
 use Rattle.std.specs.Map.{lookup, keys_of, values_of}
-use Rattle.std.specs.Option.{option_map_or}
+use Rattle.std.specs.Option.{option_map_or, option_copied}
 use Rattle.std.specs.Cmp.{IsEquivalence}
 use Rattle.indexmap.specs.IndexMap.{swap_remove_entry}
 use Rattle.value_bags.specs.Entries.{change, alter, with_keys}
 use Rattle.value_bags.proofs.Removed.{goes}
-use Rattle.value_bags.specs.Bags.{total, count_up, count_down, counted, counted_times, IsProper, without_first}
+use Rattle.value_bags.specs.Bags.{total, repeated, count_up, count_down, counted, counted_times, IsProper, without_first}
 
 pub fold-append : {A B : Type 0} (f : A → B → A) (a : A) (xs ys : List B) → fold f a (xs ++ ys) ≡ fold f (fold f a xs) ys
 fold-append f a [] ys = refl
@@ -310,3 +310,62 @@ count_down-missing eq counts v missing = by (lookup (eq v) counts) refl
     by : (o : Option ℕ) → lookup (eq v) counts ≡ o → count_down eq counts v ≡ counts
     by None none = count_down-absent eq counts v none
     by (Some n) some = absurd (true≢false (sym (ap is_some some) ∙ missing))
+
+-- which values are there
+module _ {V : Type 0} (eq : V → V → Bool) where
+  pub list_any-counted : (counts : List (V × ℕ)) (v : V) → All (λ c. 0 < c.1) counts → list_any (eq v) (keys_of counts) ≡ nat_lt 0 (counted_times eq counts v)
+  list_any-counted [] v all = refl
+  list_any-counted (c ∷ counts) v all = by (eq v c.0) refl (list_any-counted counts v (All-tail (λ (x : V × ℕ). 0 < x.1) c counts all))
+    where
+      by : (b : Bool) → eq v c.0 ≡ b → list_any (eq v) (keys_of counts) ≡ nat_lt 0 (counted_times eq counts v) → list_any (eq v) (keys_of (c ∷ counts)) ≡ nat_lt 0 (counted_times eq (c ∷ counts) v)
+      by true t more =
+          let one = times-cons eq c counts v in
+          let here = ap (λ b. cond b c.1 0 + counted_times eq counts v) t in
+          let some = All-head (λ (x : V × ℕ). 0 < x.1) c counts all in
+          ap (λ b. b || list_any (eq v) (keys_of counts)) t ∙ sym (lt-ltb 0 (counted_times eq (c ∷ counts) v) (omega arith))
+      by false t more =
+          let here = ap (λ b. cond b c.1 0 + counted_times eq counts v) t in
+          let none : 0 + counted_times eq counts v ≡ counted_times eq counts v = omega arith in
+          ap (λ b. b || list_any (eq v) (keys_of counts)) t ∙ more ∙ ap (nat_lt 0) (sym (times-cons eq c counts v ∙ here ∙ none))
+
+  pub list_any-count : (vs : List V) (v : V) → list_any (eq v) vs ≡ nat_lt 0 (count_by (eq v) vs)
+  list_any-count [] v = refl
+  list_any-count (x ∷ vs) v = by (eq v x) refl (list_any-count vs v)
+    where
+      by : (b : Bool) → eq v x ≡ b → list_any (eq v) vs ≡ nat_lt 0 (count_by (eq v) vs) → list_any (eq v) (x ∷ vs) ≡ nat_lt 0 (count_by (eq v) (x ∷ vs))
+      by true t more =
+          let one = sum_by-cons (λ (y : V). cond (eq v y) 1 0) x vs in
+          let here = ap (λ b. cond b 1 0 + count_by (eq v) vs) t in
+          ap (λ b. b || list_any (eq v) vs) t ∙ sym (lt-ltb 0 (count_by (eq v) (x ∷ vs)) (omega arith))
+      by false t more =
+          let one = sum_by-cons (λ (y : V). cond (eq v y) 1 0) x vs in
+          let here = ap (λ b. cond b 1 0 + count_by (eq v) vs) t in
+          let none : 0 + count_by (eq v) vs ≡ count_by (eq v) vs = omega arith in
+          ap (λ b. b || list_any (eq v) vs) t ∙ more ∙ ap (nat_lt 0) (sym (one ∙ here ∙ none))
+
+-- an answer that computes a comparison
+pub says_less : (b : Bool) (m n : ℕ) → b ≡ nat_lt m n → IsTrue b ↔ (m < n)
+says_less b m n e = (λ t. ltb-true m n (sym e ∙ t), λ h. e ∙ lt-ltb m n h)
+
+-- the first of the counted values
+module _ {V : Type 0} where
+  pub none_counted : (counts : List (V × ℕ)) (r : Option (Bor V)) → option_copied r ≡ option_map (λ c. c.0) (slice_get counts 0) → All (λ c. 0 < c.1) counts → IsNone r ↔ (total counts ≡ 0)
+  none_counted [] None is all = (λ h. refl, λ h. refl)
+  none_counted [] (Some x) is all = absurd (let h : Some x.now ≡ None = is in cc)
+  none_counted (c ∷ counts) None is all = absurd (let h : None ≡ Some c.0 = is in cc)
+  none_counted (c ∷ counts) (Some x) is all =
+      let whole = total-cons c counts in
+      let some = All-head (λ (y : V × ℕ). 0 < y.1) c counts all in
+      (λ h. absurd (true≢false h), λ h. let k : ⊥ = omega arith in absurd k)
+
+  pub first_counted : (counts : List (V × ℕ)) (r : Option (Bor V)) → option_copied r ≡ option_map (λ c. c.0) (slice_get counts 0) → All (λ c. 0 < c.1) counts → IfSome r (λ v. Contains (repeated counts) v.now)
+  first_counted counts None is all = tt
+  first_counted [] (Some x) is all = absurd (let h : Some x.now ≡ None = is in cc)
+  first_counted (c ∷ counts) (Some x) is all =
+      let h : Some x.now ≡ Some c.0 = is in
+      let same : x.now ≡ c.0 = cc in
+      subst (Contains (repeated (c ∷ counts))) (sym same) (Contains-append_left (replicate c.1 c.0) (repeated counts) c.0 (several c.1 c.0 (All-head (λ (y : V × ℕ). 0 < y.1) c counts all)))
+    where
+      several : (n : ℕ) (v : V) → 0 < n → Contains (replicate n v) v
+      several zero v some = absurd (let k : ⊥ = omega arith in k)
+      several (suc n) v some = (0, omega arith, refl)

@@ -1,5 +1,5 @@
 -- Bags in two forms, and what each call makes of them. The rule of the forms is this project's.
-use Rattle.std.specs.Prelude.{ℕ, ◌+◌, ◌-◌, ◌≡◌, ◌<◌, Bool, true, false, not, nat_lt, nat_le, nat_eq, List, [], ◌∷◌, ◌++◌, map, filter, length, fold, sum_by, count_by, replicate, All, if◌then◌else◌, ◌&&◌}
+use Rattle.std.specs.Prelude.{ℕ, ◌+◌, ◌-◌, ◌≡◌, ◌<◌, Bool, true, false, not, nat_lt, nat_le, nat_eq, List, [], ◌∷◌, ◌++◌, map, filter, length, fold, sum_by, count_by, replicate, All, Option, None, Some, if◌then◌else◌, ◌&&◌}
 use Rattle.std.specs.Option.{option_map_or}
 use Rattle.std.specs.Map.{lookup, keys_of}
 use Rattle.std.specs.List.{IsDistinct}
@@ -72,6 +72,11 @@ module _ {V : Type 0} (eq : V → V → Bool) where
   -- the counts of these values
   abbrev pub counted : List V → List (V × ℕ)
   counted vs = fold count_up [] vs
+
+  -- the counts of a short bag that so many more values make long
+  abbrev pub lengthened : ℕ → Bag V → Option (List (V × ℕ))
+  lengthened additional (Short vs) = if nat_lt (length vs + additional) long_length then None else Some (counted vs)
+  lengthened additional (Long counts) = None
 
   -- a bag becomes long when a push brings its length to 32
   abbrev pub pushed : Bag V → V → Bag V

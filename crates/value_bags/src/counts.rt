@@ -1,12 +1,11 @@
 //! How often each distinct value of a bag is there.
-ghost use Rattle.std.specs.Prelude.{◌≡◌, ◌+◌, ◌-◌, ◌^◌, ◌<◌, ◌≤◌, [], ◌∷◌, nat_eq, map, filter, length, slice_get, sum, option_map, is_some, OnOk, OnErr, IfOk, IsErr};
-ghost use Rattle.std.specs.List.{list_any};
+ghost use Rattle.std.specs.Prelude.{◌≡◌, ◌+◌, ◌-◌, ◌^◌, ◌<◌, ◌≤◌, [], ◌∷◌, nat_eq, nat_lt, All, map, filter, length, slice_get, sum, option_map, is_some, OnOk, OnErr, IfOk, IsErr};
 ghost use Rattle.std.specs.Map.{lookup, keys_of};
 ghost use Rattle.std.specs.Option.{option_copied};
 ghost use Rattle.indexmap.specs.IndexMap.{values};
 ghost use Rattle.std.specs.Arc.{arc_value};
 ghost use Rattle.value_bags.specs.Entries.{with_keys};
-ghost use Rattle.value_bags.specs.Bags.{total, count_up, count_down, counted, IsProper};
+ghost use Rattle.value_bags.specs.Bags.{total, count_up, count_down, counted, counted_times, IsProper};
 
 use crate::Keep;
 use indexmap::IndexMap;
@@ -215,7 +214,7 @@ impl<V: Eq + Hash> Counts<V> {
 
     /// Whether a value is there.
     pub(crate) fn contains(&self, value: &V) -> bool
-        ensures { result ≡ list_any (V.eq value.now) (keys_of self.now) }
+        ensures { result ≡ nat_lt 0 (counted_times V.eq self.now value.now) }
     {
         for other in self.counts.keys() {
             if *value == **other {
@@ -227,7 +226,8 @@ impl<V: Eq + Hash> Counts<V> {
 
     /// One of the values.
     pub(crate) fn first(&self) -> Option<&V>
-        ensures { option_copied result ≡ option_map (λ c. c.0) (slice_get self.now 0) }
+        ensures first { option_copied result ≡ option_map (λ c. c.0) (slice_get self.now 0) }
+        ensures positive { All (λ c. 0 < c.1) self.now }
     {
         let (value, _) = self.counts.first()?;
         Some(value)

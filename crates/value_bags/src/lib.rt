@@ -3,6 +3,7 @@
 
 mod bag;
 mod counts;
+mod items;
 mod keep;
 mod values;
 
