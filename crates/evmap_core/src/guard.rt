@@ -1,9 +1,10 @@
 //! The guard of a reader, which reads one front for as long as it lives.
-ghost use Rattle.std.specs.Prelude.{◌≡◌, Some, length, is_some, nat_eq};
+ghost use Rattle.std.specs.Prelude.{◌≡◌, ◌<◌, ◌↔◌, Some, length, is_some, nat_eq, IsTrue};
 ghost use Rattle.std.specs.Map.{lookup};
 ghost use Rattle.std.specs.Option.{option_copied};
 ghost use Rattle.left_right.specs.Sides.{view};
 ghost use Rattle.evmap_contents.specs.Views.{contents};
+ghost use Rattle.evmap_core.specs.Asked.{IsOneOf, times_at};
 
 use crate::published::Published;
 use crate::reader::put_back;
@@ -116,7 +117,7 @@ impl<
     pub fn len(&self) -> usize
         ensures { result ≡ length (contents K.plain self.now.reading.part.value.inner).entries }
     {
-        self.reading.get().inner.map.len()
+        self.reading.get().len()
     }
 
     /// Whether there is no key.
@@ -130,20 +131,41 @@ impl<
     pub fn meta(&self) -> &M
         ensures { result.now ≡ (contents K.plain self.now.reading.part.value.inner).meta }
     {
-        &self.reading.get().inner.meta
+        self.reading.get().meta()
     }
 
     /// The bag of a key.
     pub fn get(&self, key: &K) -> Option<&Values<V>>
         ensures { option_copied result ≡ lookup (K.same (K.plain key.now)) (contents K.plain self.now.reading.part.value.inner).entries }
     {
-        self.reading.get().inner.map.get(key)
+        self.reading.get().get(key)
+    }
+
+    /// One value of the bag of a key. `None` where there is no such key, or its bag is empty.
+    pub fn get_one(&self, key: &K) -> Option<&V>
+        ensures { IsOneOf (lookup (K.same (K.plain key.now)) (contents K.plain self.now.reading.part.value.inner).entries) (option_copied result) }
+    {
+        self.reading.get().get_one(key)
     }
 
     /// Whether a key is there.
     pub fn contains_key(&self, key: &K) -> bool
         ensures { result ≡ is_some (lookup (K.same (K.plain key.now)) (contents K.plain self.now.reading.part.value.inner).entries) }
     {
-        self.reading.get().inner.map.contains_key(key)
+        self.reading.get().contains_key(key)
+    }
+
+    /// Whether a value is in the bag of a key.
+    pub fn contains_value(&self, key: &K, value: &V) -> bool
+        ensures { IsTrue result ↔ (0 < times_at V.eq (lookup (K.same (K.plain key.now)) (contents K.plain self.now.reading.part.value.inner).entries) value.now) }
+    {
+        self.reading.get().contains_value(key, value)
+    }
+
+    /// The keys with their bags, in order.
+    pub fn iter(&self) -> ReadGuardIter<'_, K, Values<V>>
+        ensures { map_iter_rest result ≡ self.now.reading.part.value.inner.map.entries }
+    {
+        self.reading.get().inner.map.iter()
     }
 }

@@ -1,7 +1,8 @@
 -- Bags in two forms, and what each call makes of them. The rule of the forms is this project's.
-use Rattle.std.specs.Prelude.{ℕ, ◌+◌, ◌-◌, ◌≡◌, ◌<◌, Bool, true, false, not, nat_lt, nat_le, nat_eq, List, [], ◌∷◌, ◌++◌, map, filter, length, fold, sum_by, count_by, replicate, All, if◌then◌else◌, ◌&&◌}
+use Rattle.std.specs.Prelude.{ℕ, ◌+◌, ◌-◌, ◌≡◌, ◌<◌, Bool, true, false, not, nat_lt, nat_le, nat_eq, List, [], ◌∷◌, ◌++◌, map, filter, length, fold, sum_by, count_by, replicate, All, Option, None, Some, if◌then◌else◌, ◌&&◌}
 use Rattle.std.specs.Option.{option_map_or}
 use Rattle.std.specs.Map.{lookup, keys_of}
+use Rattle.std.specs.List.{IsDistinct}
 use Rattle.indexmap.specs.IndexMap.{swap_remove_entry}
 use Rattle.value_bags.specs.declared.bag.Bag.{Bag}
 use Rattle.value_bags.specs.declared.bag.Bag.TheVariants.{Short, Long}
@@ -72,6 +73,11 @@ module _ {V : Type 0} (eq : V → V → Bool) where
   abbrev pub counted : List V → List (V × ℕ)
   counted vs = fold count_up [] vs
 
+  -- the counts of a short bag that so many more values make long
+  abbrev pub lengthened : ℕ → Bag V → Option (List (V × ℕ))
+  lengthened additional (Short vs) = if nat_lt (length vs + additional) long_length then None else Some (counted vs)
+  lengthened additional (Long counts) = None
+
   -- a bag becomes long when a push brings its length to 32
   abbrev pub pushed : Bag V → V → Bag V
   pushed (Short vs) v = if nat_lt (length vs + 1) long_length then Short (vs ++ v ∷ []) else Long (count_up (counted vs) v)
@@ -86,6 +92,10 @@ module _ {V : Type 0} (eq : V → V → Bool) where
   abbrev pub reserved : ℕ → Bag V → Bag V
   reserved additional (Short vs) = if nat_lt (length vs + additional) long_length then Short vs else Long (counted vs)
   reserved additional (Long counts) = Long counts
+
+  -- each value is counted once, and at least to one
+  abbrev pub IsProper : List (V × ℕ) → Type 0
+  IsProper counts = All (λ c. 0 < c.1) counts × IsDistinct eq (keys_of counts)
 
   -- how often a value was counted
   abbrev pub counted_times : List (V × ℕ) → V → ℕ

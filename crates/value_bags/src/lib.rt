@@ -2,6 +2,8 @@
 #![tactic(auto)]
 
 mod bag;
+mod counts;
+mod items;
 mod keep;
 mod values;
 
