@@ -1,6 +1,10 @@
 //! The guard of a reader, which reads one front for as long as it lives.
 ghost use Rattle.std.specs.Prelude.{◌≡◌, ◌<◌, ◌↔◌, Some, length, is_some, nat_eq, IsTrue};
 ghost use Rattle.std.specs.Map.{lookup};
+ghost use Rattle.std.specs.Map.Iter.{ShowsInOrder, deref, deref_pair};
+ghost use Rattle.indexmap.specs.IndexMap.{keys, values};
+ghost use Rattle.value_bags.specs.declared.bag.Bag.{Bag};
+ghost use Rattle.value_bags.specs.Entries.{with_keys};
 ghost use Rattle.std.specs.Option.{option_copied};
 ghost use Rattle.left_right.specs.Sides.{view};
 ghost use Rattle.evmap_contents.specs.Views.{contents};
@@ -11,6 +15,7 @@ use crate::reader::put_back;
 use crate::{ReadHandle, Store, View};
 use crossbeam_utils::rule::Protocol;
 use evmap_contents::KeyClone;
+use indexmap::map::{Iter, Keys, Values as BagsInOrder};
 use left_right::reader::{Reader, Reading};
 use std::hash::{BuildHasher, Hash};
 use std::marker::PhantomData;
@@ -163,9 +168,26 @@ impl<
     }
 
     /// The keys with their bags, in order.
-    pub fn iter(&self) -> ReadGuardIter<'_, K, Values<V>>
-        ensures { map_iter_rest result ≡ self.now.reading.part.value.inner.map.entries }
+    pub fn iter(&self) -> Iter<'_, K, Values<V>>
+        ensures rest { with_keys K.plain result ≡ (contents K.plain self.now.reading.part.value.inner).entries }
+        ensures runs { ShowsInOrder (deref_pair {K = K} {X = Bag V}) }
     {
         self.reading.get().inner.map.iter()
+    }
+
+    /// The keys, in order.
+    pub fn keys(&self) -> Keys<'_, K, Values<V>>
+        ensures rest { result ≡ keys self.now.reading.part.value.inner.map }
+        ensures runs { ShowsInOrder (deref {X = K}) }
+    {
+        self.reading.get().inner.map.keys()
+    }
+
+    /// The bags, in the order of their keys.
+    pub fn values(&self) -> BagsInOrder<'_, K, Values<V>>
+        ensures rest { result ≡ values self.now.reading.part.value.inner.map }
+        ensures runs { ShowsInOrder (deref {X = Bag V}) }
+    {
+        self.reading.get().inner.map.values()
     }
 }
