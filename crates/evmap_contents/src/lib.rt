@@ -2,6 +2,7 @@
 #![tactic(auto)]
 
 mod entries;
+mod fitting;
 mod inner;
 mod key;
 mod write;
