@@ -1,11 +1,15 @@
 -- The steps of fitting all bags.
-use Rattle.std.proofs.Common.{◌≡◌, ℕ, ◌+◌, ◌<◌, suc, zero, List, [], ◌∷◌, ◌++◌, map, length, slice_get, Option, Some, None, refl, sym, ap, ◌∙◌, subst, append_assoc, append-nil, arith}
+use Rattle.std.proofs.Common.{◌≡◌, ℕ, Bool, ◌+◌, ◌<◌, suc, zero, List, [], ◌∷◌, ◌++◌, map, length, slice_get, Option, Some, None, refl, sym, ap, ◌∙◌, subst, append_assoc, append-nil, arith}
 use Rattle.std.specs.List.{AllZip}
 use Rattle.std.specs.Option.{unwrap_or, option_copied_mut}
 use Rattle.std.specs.Map.{values_of}
 use Rattle.indexmap.specs.Layout.{set_value_at}
 use Rattle.value_bags.specs.declared.bag.Bag.{Bag}
 use Rattle.value_bags.specs.Bags.{fitted}
+use Rattle.value_bags.specs.Entries.{with_keys}
+use Rattle.evmap_contents.specs.declared.write.Write.TheVariants.{FitAll}
+use Rattle.evmap_contents.specs.declared.write.Contents.{Contents}
+use Rattle.evmap_contents.specs.Fold.{after}
 use Rattle.evmap_contents.specs.Fitting.{AreFitted, fit_entry}
 
 pub AllZip-snoc : {A B : Type 0} (R : A → B → Type 0) (xs : List A) (ys : List B) (x : A) (y : B) → AllZip R xs ys → R x y → AllZip R (xs ++ x ∷ []) (ys ++ y ∷ [])
@@ -97,3 +101,12 @@ module _ {K V : Type 0} where
 
   pub starts_whole : (es : List (K × Bag V)) (shorts : List (Option (Bag V))) → AreFitted (values_of es) shorts → IsFittedBehind es es shorts
   starts_whole es shorts h = record { front = es; back = []; whole = sym (append-nil es); after = sym (append-nil es); fits = h }
+
+fit-with_keys : {K L V : Type 0} (plain : K → L) (es : List (K × Bag V)) → with_keys plain (map fit_entry es) ≡ map fit_entry (with_keys plain es)
+fit-with_keys plain [] = refl
+fit-with_keys plain (e ∷ es) = ap (λ l. (plain e.0, fitted e.1) ∷ l) (fit-with_keys plain es)
+
+-- fitting all bags is the write that says so
+pub contents-fitted : {K L V M P : Type 0} (plain : K → L) (same : L → L → Bool) (eq : V → V → Bool) (keeps : P → V → Bool) (es new : List (K × Bag V)) (m : M) (r : Bool) → new ≡ map fit_entry es
+    → record { entries = with_keys plain new; meta = m; ready = r } ≡ after same eq keeps (record { entries = with_keys plain es; meta = m; ready = r }) FitAll
+contents-fitted plain same eq keeps es new m r is = λ j. record { entries = (ap (with_keys plain) is ∙ fit-with_keys plain es) j; meta = m; ready = r }

@@ -25,7 +25,9 @@ fn add_key<K: KeyClone + Drop, V: Eq + Hash + Drop, S: BuildHasher>(
     ensures added { OnOk result (with_keys K.plain map.new.entries ≡ with_keys K.plain map.old.entries ++ (K.plain key.now, bag) ∷ []) }
     ensures refused { OnErr result (map.new.entries ≡ map.old.entries) }
 {
-    let key = key.clone_key(*map.allocator())?;
+    let Ok(key) = key.clone_key(*map.allocator()) else {
+        return Err(AllocError);
+    };
     map.insert(key, bag)?;
     Ok(())
 }

@@ -4,7 +4,9 @@ ghost use Rattle.std.specs.Arc.{arc_value};
 ghost use Rattle.std.specs.Map.{lookup};
 ghost use Rattle.std.specs.Option.{option_copied};
 
-use crate::entries::{clear, fit, insert, remove_entry, remove_places, remove_value, reserve, retain, update};
+use crate::entries::{
+    clear, fit, insert, remove_entry, remove_places, remove_value, reserve, retain, update,
+};
 use crate::fitting::fit_all;
 use crate::{KeyClone, Write};
 use indexmap::IndexMap;
@@ -27,7 +29,10 @@ impl<K: KeyClone + Drop, V: Eq + Hash + Drop, M: Drop, S: BuildHasher> Inner<K, 
     ghost use Rattle.evmap_contents.specs.Views.{contents, write_of};
 
     /// Makes one write, whole or not at all.
-    pub fn write<P: Keep<V>>(&mut self, write: &Write<K, Arc<V>, Arc<M>, P>) -> Result<(), AllocError>
+    pub fn write<P: Keep<V>>(
+        &mut self,
+        write: &Write<K, Arc<V>, Arc<M>, P>,
+    ) -> Result<(), AllocError>
         ensures { MatchResult result
             (λ _. contents K.plain self.new ≡ after K.same V.eq P.keeps (contents K.plain self.old) (write_of K.plain write.now))
             (λ _. contents K.plain self.new ≡ contents K.plain self.old) }
