@@ -1,3 +1,4 @@
 pub mod Fold
 pub mod PlainFold
 pub mod Views
+pub mod Fitting

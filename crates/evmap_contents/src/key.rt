@@ -1,7 +1,8 @@
 //! What a key has to be.
 ghost use Rattle.std.specs.Prelude.{◌≡◌, Bool, IfOk};
 
-use std::alloc::{AllocError, Global};
+use metrics_core::Memory;
+use std::alloc::Global;
 use std::collections::LinkedList;
 use std::hash::Hash;
 
@@ -16,7 +17,7 @@ pub trait KeyClone: Hash {
     ghost same: { Self.Plain → Self.Plain → Bool };
 
     /// A copy of the key, which is equal to it.
-    fn clone_key(&self, alloc: Global) -> Result<Self, AllocError>
+    fn clone_key(&self, alloc: Global) -> Result<Self, Memory>
     where
         Self: Sized,
         ensures { IfOk result (λ copy. plain copy ≡ plain self.now) };
@@ -34,7 +35,7 @@ impl KeyClone for u32 {
 
     ghost same = { nat_eq };
 
-    fn clone_key(&self, _alloc: Global) -> Result<u32, AllocError> {
+    fn clone_key(&self, _alloc: Global) -> Result<u32, Memory> {
         Ok(*self)
     }
 
@@ -51,8 +52,8 @@ impl KeyClone for String {
 
     ghost same = { bytes_eq };
 
-    fn clone_key(&self, alloc: Global) -> Result<String, AllocError> {
-        String::from_str(alloc, self.as_str())
+    fn clone_key(&self, alloc: Global) -> Result<String, Memory> {
+        Ok(String::from_str(alloc, self.as_str())?)
     }
 
     ghost agrees = { λ a b. refl };

@@ -26,10 +26,16 @@ enum Form<V: Eq + Hash> {
 }
 
 /// A bag of shared values. It is short or long: a short bag lists its values, and a long bag counts each distinct one.
-#[derive(Drop)]
 pub struct Values<V: Eq + Hash> {
     form: Form<V>,
     alloc: Global,
+}
+
+// Written out, so that whoever lets go of a bag makes one call.
+impl<V: Eq + Hash + Drop> Drop for Values<V> {
+    fn drop(self) {
+        let Self { form: _, alloc: _ } = self;
+    }
 }
 
 impl<V: Eq + Hash> Model for Values<V> {
