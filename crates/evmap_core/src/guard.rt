@@ -39,10 +39,8 @@ impl<
     M: Drop,
     P: Keep<V> + Drop,
     S: BuildHasher + Drop,
-> Leaves<
-    Reader<Store<K, V, M, P, S>, View<K::Plain, V, M, P>, Published>,
-    View<K::Plain, V, M, P>,
-> for Reading<Store<K, V, M, P, S>, View<K::Plain, V, M, P>, Published> {
+> Leaves<Reader<Store<K, V, M, P, S>, View<K::Plain, V, M, P>, Published>, View<K::Plain, V, M, P>>
+    for Reading<Store<K, V, M, P, S>, View<K::Plain, V, M, P>, Published> {
     ghost last = { λ r. view r.place };
 
     ghost shows = { λ v r. view r.place ≡ v };
