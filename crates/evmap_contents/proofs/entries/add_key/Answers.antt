@@ -1,0 +1,11 @@
+use Rattle.std.proofs.Common.{◌≡◌, List, [], ◌∷◌, ◌++◌, refl, sym, ap, ◌∙◌}
+use Rattle.std.specs.Arc.{arc_value}
+use Rattle.std.specs.Option.{option_copied_mut}
+use Rattle.value_bags.specs.declared.bag.Bag.TheVariants.{Short}
+use Rattle.value_bags.specs.Bags as bags
+use Rattle.value_bags.proofs.Changes.{written, added, kept, copy-last, removed}
+use Rattle.evmap_contents.proofs.Altered.{on_err, altered, unaltered}
+use Rattle.evmap_contents.proofs.entries.add_key.Goals as goal
+
+pub returns-clause-added : goal.returns-clause-added
+returns-clause-added g c = copy-last g.K.PartialEq.eq g.K.KeyClone.plain g.K.KeyClone.same g.met.K.KeyClone.agrees c.args.key.now c.in-Ok.key c.args.bag c.args.map.now.entries c.insert.new.self.entries c.in_ok-insert.ensures.entries c.in-Ok.ensures c.requires

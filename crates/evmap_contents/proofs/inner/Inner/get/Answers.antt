@@ -1,0 +1,6 @@
+use Rattle.std.proofs.Common.{◌∙◌}
+use Rattle.value_bags.proofs.Changes.{lookup-plain}
+use Rattle.evmap_contents.proofs.inner.Inner.get.Goals as goal
+
+pub returns : goal.returns
+returns g c = c.get.ensures.value ∙ lookup-plain g.K.PartialEq.eq g.K.KeyClone.plain g.K.KeyClone.same g.met.K.KeyClone.agrees c.args.key.now c.args.self.now.map.entries

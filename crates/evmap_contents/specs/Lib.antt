@@ -1,0 +1,4 @@
+pub mod Fold
+pub mod PlainFold
+pub mod Views
+pub mod Fitting

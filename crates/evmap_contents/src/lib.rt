@@ -1,0 +1,12 @@
+//! What a list of writes leaves of a map from keys to bags of values, and one copy of such a map.
+#![tactic(auto)]
+
+mod entries;
+mod fitting;
+mod inner;
+mod key;
+mod write;
+
+pub use inner::Inner;
+pub use key::KeyClone;
+pub use write::{Contents, Write};

@@ -1,0 +1,38 @@
+-- What a reader has read.
+use Rattle.std.proofs.Common.{Some, None, Option, ◌≡◌, ◌⊎◌, inl, inr, Bool, true, false, cond, List, [], ◌∷◌, fold, refl, sym, ap, ◌∙◌, subst}
+use Rattle.std.specs.Arc.{arc_value}
+use Rattle.std.specs.Map.{lookup}
+use Rattle.std.specs.Option.{option_map}
+use Rattle.value_bags.specs.Entries.{with_keys}
+use Rattle.evmap_contents.specs.declared.write.Write.{Write}
+use Rattle.evmap_contents.specs.declared.write.Contents.{Contents}
+use Rattle.evmap_contents.specs.Fold.{made_with}
+use Rattle.evmap_contents.specs.Views.{contents}
+use Rattle.evmap_core.specs.declared.view.View.{View}
+use Rattle.evmap_core.specs.declared.store.Store.{Store}
+use Rattle.evmap_core.specs.Front.{Grows, Reads, NotYet, HasRead, HasNotRead, Answers, Sees}
+
+module _ {K L B : Type 0} (eq : K → K → Bool) (plain : K → L) (same : L → L → Bool) (agrees : (a b : K) → eq a b ≡ same (plain a) (plain b)) where
+  -- a look-up is seen through plain keys
+  pub lookup-plain : (k : K) (es : List (K × B)) → lookup (eq k) es ≡ lookup (same (plain k)) (with_keys plain es)
+  lookup-plain k [] = refl
+  lookup-plain k (e ∷ es) = λ j. cond (agrees k e.0 j) (Some e.1) (lookup-plain k es j)
+
+module _ {K L : Type 0} (plain : K → L) {V M P : Type 0} (step : Contents L V M → Write L V M P → Contents L V M) {S X H : Type 0} where
+  -- the copy that was seen is what the front leaves
+  pub reads : (v : View L V M P) (x : Store K V M P S X H) (w : View L V M P) → Sees plain step v x x w → Reads step v w (contents plain x.inner)
+  reads v x w h = (h.0, (λ j. option_map (λ (m : M). fold step (made_with m) (h.1 j)) (h.2 j)) ∙ ap (λ (c : Contents L V M). Some c) (sym h.3))
+
+  pub not-ready : (v : View L V M P) (x : Store K V M P S X H) (w u : View L V M P) → Sees plain step v x x w → u ≡ w → x.inner.ready ≡ false → NotYet step v u
+  not-ready v x w u h is early = inr (contents plain x.inner, subst (λ (z : View L V M P). Reads step v z (contents plain x.inner)) (sym is) (reads v x w h), early)
+
+  -- a front that was read, once the reader has left it
+  pub has-read : (found : Contents L V M → Type 0) (before after : Option (View L V M P)) (v : View L V M P) (x : Store K V M P S X H) (w u : View L V M P) → before ≡ Some v → after ≡ Some u → u ≡ w
+      → Sees plain step v x x w → x.inner.ready ≡ true → found (contents plain x.inner) → HasRead step found before after
+  has-read found before after v x w u b a is h late there =
+      (v, u, b, a, contents plain x.inner, subst (λ (z : View L V M P). Reads step v z (contents plain x.inner)) (sym is) (reads v x w h), late, there)
+
+  -- what a call answers of the front that it read, once the reader is back
+  pub answered : (found : Contents L V M → Type 0) (unread : Type 0) (before held after : Option (View L V M P)) (x : Store K V M P S X H) (w u : View L V M P) → held ≡ before
+      → (v : View L V M P) × (held ≡ Some v) × Sees plain step v x x w × (x.inner.ready ≡ true) → after ≡ Some u → u ≡ w → found (contents plain x.inner) → Answers step found unread before after
+  answered found unread before held after x w u same b a is there = inl (has-read found before after b.0 x w u (sym same ∙ b.1) a is b.2 b.3 there)

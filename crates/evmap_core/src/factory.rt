@@ -1,0 +1,97 @@
+//! What makes readers.
+ghost use Rattle.std.specs.Prelude.{◌≡◌, Some, IfOk, IfErr};
+ghost use Rattle.std.specs.Arc.{arc_value};
+ghost use Rattle.std.specs.Option.{option_map};
+ghost use Rattle.left_right.specs.Sides.{view};
+ghost use Rattle.evmap_core.specs.Front.{newcomer};
+ghost use Rattle.evmap_core.specs.declared.faults.EvmapFault.TheVariants.{NoPlace};
+
+use crate::published::Published;
+use crate::{EvmapFault, ReadHandle, Store, View};
+use crossbeam_utils::rule::Protocol;
+use evmap_contents::KeyClone;
+use left_right::reader::{Factory, Reader};
+use metrics_core::Memory;
+use std::alloc::AllocError;
+use std::hash::{BuildHasher, Hash};
+use value_bags::Keep;
+
+/// Makes readers of one map. Threads may share it.
+#[derive(Drop)]
+pub struct ReadHandleFactory<
+    K: KeyClone + Drop,
+    V: Eq + Hash + Drop,
+    M: Drop,
+    P: Keep<V> + Drop,
+    S: BuildHasher + Drop,
+>
+where
+    Published: Protocol<Store<K, V, M, P, S>, View<K::Plain, V, M, P>>,
+{
+    pub from: Factory<Store<K, V, M, P, S>, View<K::Plain, V, M, P>, Published>,
+}
+
+/// A handle of this reader, which keeps a factory too.
+pub(crate) fn keep_factory<
+    K: KeyClone + Drop,
+    V: Eq + Hash + Drop,
+    M: Drop,
+    P: Keep<V> + Drop,
+    S: BuildHasher + Drop,
+>(
+    from: &Factory<Store<K, V, M, P, S>, View<K::Plain, V, M, P>, Published>,
+    reader: Reader<Store<K, V, M, P, S>, View<K::Plain, V, M, P>, Published>,
+) -> Result<ReadHandle<K, V, M, P, S>, AllocError>
+    ensures { IfOk result (λ handle. handle.reader ≡ Some reader) }
+{
+    let factory = ReadHandleFactory {
+        from: from.another()?,
+    };
+    Ok(ReadHandle {
+        factory,
+        reader: Some(reader),
+    })
+}
+
+/// A reader that knows nothing yet.
+pub(crate) fn make_reader<
+    K: KeyClone + Drop,
+    V: Eq + Hash + Drop,
+    M: Drop,
+    P: Keep<V> + Drop,
+    S: BuildHasher + Drop,
+>(
+    from: &Factory<Store<K, V, M, P, S>, View<K::Plain, V, M, P>, Published>,
+) -> Result<ReadHandle<K, V, M, P, S>, AllocError>
+    ensures { IfOk result (λ handle. option_map (λ r. view r.place) handle.reader ≡ Some newcomer) }
+{
+    let reader = from.reader()?;
+    keep_factory(from, reader)
+}
+
+impl<
+    K: KeyClone + Drop,
+    V: Eq + Hash + Drop,
+    M: Drop,
+    P: Keep<V> + Drop,
+    S: BuildHasher + Drop,
+> ReadHandleFactory<K, V, M, P, S> {
+    /// A new reader, which knows nothing yet.
+    pub fn handle(&self) -> Result<ReadHandle<K, V, M, P, S>, EvmapFault>
+        ensures reader { IfOk result (λ handle. option_map (λ r. view r.place) handle.reader ≡ Some newcomer) }
+        ensures err { IfErr result (λ e. e ≡ NoPlace) }
+    {
+        match make_reader(&self.from) {
+            Ok(handle) => Ok(handle),
+            Err(_) => Err(EvmapFault::NoPlace),
+        }
+    }
+
+    /// Another factory of the same map.
+    pub fn clone(&self) -> Result<ReadHandleFactory<K, V, M, P, S>, Memory> {
+        match self.from.another() {
+            Ok(from) => Ok(ReadHandleFactory { from }),
+            Err(_) => Err(Memory),
+        }
+    }
+}

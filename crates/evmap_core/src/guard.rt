@@ -1,0 +1,191 @@
+//! The guard of a reader, which reads one front for as long as it lives.
+ghost use Rattle.std.specs.Prelude.{◌≡◌, ◌<◌, ◌↔◌, Some, length, is_some, nat_eq, IsTrue};
+ghost use Rattle.std.specs.Map.{lookup};
+ghost use Rattle.std.specs.Map.Iter.{ShowsInOrder, deref, deref_pair};
+ghost use Rattle.indexmap.specs.IndexMap.{keys, values};
+ghost use Rattle.value_bags.specs.declared.bag.Bag.{Bag};
+ghost use Rattle.value_bags.specs.Entries.{with_keys};
+ghost use Rattle.std.specs.Option.{option_copied};
+ghost use Rattle.left_right.specs.Sides.{view};
+ghost use Rattle.evmap_contents.specs.Views.{contents};
+ghost use Rattle.evmap_core.specs.Asked.{IsOneOf, times_at};
+
+use crate::published::Published;
+use crate::reader::put_back;
+use crate::{ReadHandle, Store, View};
+use crossbeam_utils::rule::Protocol;
+use evmap_contents::KeyClone;
+use indexmap::map::{Iter, Keys, Values as BagsInOrder};
+use left_right::reader::{Reader, Reading};
+use std::hash::{BuildHasher, Hash};
+use std::marker::PhantomData;
+use value_bags::{Keep, Values};
+
+/// What ends by giving back a reader. It stands in for `Reading`, whose raw pointer would hide what a guard writes when it
+/// ends.
+pub trait Leaves<R, X> {
+    ghost last: { Self → X };
+
+    ghost shows: { X → R → Type 0 };
+
+    /// Gives back the reader.
+    fn go(self) -> R
+        ensures { shows (last self) result };
+}
+
+impl<
+    K: KeyClone + Drop,
+    V: Eq + Hash + Drop,
+    M: Drop,
+    P: Keep<V> + Drop,
+    S: BuildHasher + Drop,
+> Leaves<Reader<Store<K, V, M, P, S>, View<K::Plain, V, M, P>, Published>, View<K::Plain, V, M, P>>
+    for Reading<Store<K, V, M, P, S>, View<K::Plain, V, M, P>, Published> {
+    ghost last = { λ r. view r.place };
+
+    ghost shows = { λ v r. view r.place ≡ v };
+
+    fn go(self) -> Reader<Store<K, V, M, P, S>, View<K::Plain, V, M, P>, Published> {
+        self.leave()
+    }
+}
+
+/// Where a guard puts the reader back.
+pub trait Home<R> {
+    ghost has: { Self → R → Type 0 };
+
+    /// Takes the reader back.
+    fn put(&mut self, reader: R)
+        ensures { has self.new reader };
+}
+
+impl<
+    K: KeyClone + Drop,
+    V: Eq + Hash + Drop,
+    M: Drop,
+    P: Keep<V> + Drop,
+    S: BuildHasher + Drop,
+> Home<Reader<Store<K, V, M, P, S>, View<K::Plain, V, M, P>, Published>>
+    for ReadHandle<K, V, M, P, S> {
+    ghost has = { λ h r. h.reader ≡ Some r };
+
+    fn put(&mut self, reader: Reader<Store<K, V, M, P, S>, View<K::Plain, V, M, P>, Published>) {
+        put_back(&mut self.reader, Some(reader));
+    }
+}
+
+/// A reading whose reader goes back when it ends.
+pub struct Guard<'a, H: Home<R>, R, X, G: Leaves<R, X>> {
+    pub home: &'a mut H,
+    pub reading: G,
+    pub of: PhantomData<(R, X)>,
+}
+
+impl<H: Home<R>, R, X, G: Leaves<R, X>> Drop for Guard<'_, H, R, X, G> {
+    fn drop(self)
+        ensures { (r : R) × H.has self.exit.0.now r × G.shows (G.last self.entry.reading) r }
+    {
+        let Self {
+            home,
+            reading,
+            of: _,
+        } = self;
+        home.put(reading.go());
+    }
+}
+
+/// A guard of a reader.
+pub type MapReadRef<'a, K, V, M, P, S> = Guard<
+    'a,
+    ReadHandle<K, V, M, P, S>,
+    Reader<Store<K, V, M, P, S>, View<<K as KeyClone>::Plain, V, M, P>, Published>,
+    View<<K as KeyClone>::Plain, V, M, P>,
+    Reading<Store<K, V, M, P, S>, View<<K as KeyClone>::Plain, V, M, P>, Published>,
+>;
+
+impl<
+    K: KeyClone + Drop,
+    V: Eq + Hash + Drop,
+    M: Drop,
+    P: Keep<V> + Drop,
+    S: BuildHasher + Drop,
+> Guard<
+    '_,
+    ReadHandle<K, V, M, P, S>,
+    Reader<Store<K, V, M, P, S>, View<K::Plain, V, M, P>, Published>,
+    View<K::Plain, V, M, P>,
+    Reading<Store<K, V, M, P, S>, View<K::Plain, V, M, P>, Published>,
+> {
+    /// How many keys there are.
+    pub fn len(&self) -> usize
+        ensures { result ≡ length (contents K.plain self.now.reading.part.value.inner).entries }
+    {
+        self.reading.get().len()
+    }
+
+    /// Whether there is no key.
+    pub fn is_empty(&self) -> bool
+        ensures { result ≡ nat_eq (length (contents K.plain self.now.reading.part.value.inner).entries) 0 }
+    {
+        self.len() == 0
+    }
+
+    /// The meta.
+    pub fn meta(&self) -> &M
+        ensures { result.now ≡ (contents K.plain self.now.reading.part.value.inner).meta }
+    {
+        self.reading.get().meta()
+    }
+
+    /// The bag of a key.
+    pub fn get(&self, key: &K) -> Option<&Values<V>>
+        ensures { option_copied result ≡ lookup (K.same (K.plain key.now)) (contents K.plain self.now.reading.part.value.inner).entries }
+    {
+        self.reading.get().get(key)
+    }
+
+    /// One value of the bag of a key. `None` where there is no such key, or its bag is empty.
+    pub fn get_one(&self, key: &K) -> Option<&V>
+        ensures { IsOneOf (lookup (K.same (K.plain key.now)) (contents K.plain self.now.reading.part.value.inner).entries) (option_copied result) }
+    {
+        self.reading.get().get_one(key)
+    }
+
+    /// Whether a key is there.
+    pub fn contains_key(&self, key: &K) -> bool
+        ensures { result ≡ is_some (lookup (K.same (K.plain key.now)) (contents K.plain self.now.reading.part.value.inner).entries) }
+    {
+        self.reading.get().contains_key(key)
+    }
+
+    /// Whether a value is in the bag of a key.
+    pub fn contains_value(&self, key: &K, value: &V) -> bool
+        ensures { IsTrue result ↔ (0 < times_at V.eq (lookup (K.same (K.plain key.now)) (contents K.plain self.now.reading.part.value.inner).entries) value.now) }
+    {
+        self.reading.get().contains_value(key, value)
+    }
+
+    /// The keys with their bags, in order.
+    pub fn iter(&self) -> Iter<'_, K, Values<V>>
+        ensures rest { with_keys K.plain result ≡ (contents K.plain self.now.reading.part.value.inner).entries }
+        ensures runs { ShowsInOrder (deref_pair {K = K} {X = Bag V}) }
+    {
+        self.reading.get().inner.map.iter()
+    }
+
+    /// The keys, in order.
+    pub fn keys(&self) -> Keys<'_, K, Values<V>>
+        ensures rest { result ≡ keys self.now.reading.part.value.inner.map }
+        ensures runs { ShowsInOrder (deref {X = K}) }
+    {
+        self.reading.get().inner.map.keys()
+    }
+
+    /// The bags, in the order of their keys.
+    pub fn values(&self) -> BagsInOrder<'_, K, Values<V>>
+        ensures rest { result ≡ values self.now.reading.part.value.inner.map }
+        ensures runs { ShowsInOrder (deref {X = Bag V}) }
+    {
+        self.reading.get().inner.map.values()
+    }
+}

@@ -1,0 +1,119 @@
+//! How a map is made.
+ghost use Rattle.std.specs.Prelude.{◌≡◌, ◌<◌, [], ◌∷◌, Some, IfOk, IfErr};
+ghost use Rattle.std.specs.Option.{option_map};
+ghost use Rattle.left_right.specs.Sides.{view};
+ghost use Rattle.evmap_contents.specs.declared.write.Write.TheVariants.{Ready};
+ghost use Rattle.evmap_core.specs.declared.faults.EvmapFault.TheVariants as faults;
+ghost use Rattle.evmap_core.specs.Front.{newcomer};
+ghost use Rattle.evmap_core.specs.Handles.{published, pending, made, told};
+
+use crate::{EvmapFault, ReadHandle, WriteHandle};
+use evmap_contents::KeyClone;
+use std::alloc::Global;
+use std::hash::{BuildHasher, BuildHasherDefault, FoldHasher, Hash};
+use std::sync::Wait;
+use value_bags::Keep;
+
+/// How many readers there is room for, where nothing else is asked.
+pub const PLACES: u32 = 64;
+
+/// How a map is made.
+#[derive(Drop)]
+pub struct Options<M, S> {
+    /// The first meta.
+    pub meta: M,
+    pub hasher: S,
+    /// For so many keys there is room at once.
+    pub capacity: usize,
+    /// For so many readers there is room, at least 1.
+    pub places: u32,
+    ghost placed: { 0 < places },
+}
+
+impl Options<(), BuildHasherDefault<FoldHasher>> {
+    /// No meta, room for 64 readers and for no key.
+    pub fn default() -> Options<(), BuildHasherDefault<FoldHasher>>
+        ensures { (result.capacity ≡ 0) × (result.places ≡ PLACES) }
+    {
+        Options {
+            meta: (),
+            hasher: BuildHasherDefault::new(),
+            capacity: 0,
+            places: PLACES,
+        }
+    }
+}
+
+impl<M: Drop, S: Drop> Options<M, S> {
+    /// With this meta.
+    pub fn with_meta<M2>(self, meta: M2) -> Options<M2, S>
+        ensures { (result.meta ≡ meta) × (result.hasher ≡ self.hasher) × (result.capacity ≡ self.capacity) × (result.places ≡ self.places) }
+    {
+        Options {
+            meta,
+            hasher: self.hasher,
+            capacity: self.capacity,
+            places: self.places,
+        }
+    }
+
+    /// With this hasher.
+    pub fn with_hasher<S2>(self, hasher: S2) -> Options<M, S2>
+        ensures { (result.meta ≡ self.meta) × (result.hasher ≡ hasher) × (result.capacity ≡ self.capacity) × (result.places ≡ self.places) }
+    {
+        Options {
+            meta: self.meta,
+            hasher,
+            capacity: self.capacity,
+            places: self.places,
+        }
+    }
+
+    /// With room for so many keys.
+    pub fn with_capacity(self, capacity: usize) -> Options<M, S>
+        ensures { (result.meta ≡ self.meta) × (result.hasher ≡ self.hasher) × (result.capacity ≡ capacity) × (result.places ≡ self.places) }
+    {
+        Options {
+            meta: self.meta,
+            hasher: self.hasher,
+            capacity,
+            places: self.places,
+        }
+    }
+
+    /// With room for so many readers.
+    pub fn with_places(self, places: u32) -> Options<M, S>
+        requires { 0 < places }
+        ensures { (result.meta ≡ self.meta) × (result.hasher ≡ self.hasher) × (result.capacity ≡ self.capacity) × (result.places ≡ places) }
+    {
+        Options {
+            meta: self.meta,
+            hasher: self.hasher,
+            capacity: self.capacity,
+            places,
+        }
+    }
+
+    /// An empty map that is not published: its writer, and a reader. It needs `rt`, since a writer whose first reader was
+    /// refused has to end. That reads nothing, so it waits for no one.
+    pub fn construct<K: KeyClone + Drop, V: Eq + Hash + Drop, P: Keep<V> + Drop, R: Wait>(
+        self,
+        rt: &R,
+        alloc: Global,
+    ) -> Result<(WriteHandle<K, V, M, P, S>, ReadHandle<K, V, M, P, S>), EvmapFault>
+    where
+        S: BuildHasher + Clone,
+        ensures made { IfOk result (λ t. (published K.plain t.0 ≡ []) × (pending K.plain t.0 ≡ Ready ∷ []) × (made t.0 ≡ self.meta) × (told t.0 ≡ []) × (option_map (λ r. view r.place) t.1.reader ≡ Some newcomer)) }
+        ensures err { IfErr result (λ e. e ≡ faults.Memory) }
+    {
+        let Ok(second) = self.hasher.clone() else {
+            return Err(EvmapFault::Memory);
+        };
+        let hashers = (self.hasher, second);
+        let places = self.places as usize;
+        match WriteHandle::construct(rt, alloc, self.meta, self.capacity, hashers, places) {
+            Ok(pair) => Ok(pair),
+            Err(_) => Err(EvmapFault::Memory),
+        }
+    }
+}

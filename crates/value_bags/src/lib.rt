@@ -1,0 +1,12 @@
+//! Bags of shared values, in a short form for few values and a long form for many.
+#![tactic(auto)]
+
+mod bag;
+mod counts;
+mod items;
+mod keep;
+mod values;
+
+pub use bag::Bag;
+pub use keep::{Keep, KeepAll};
+pub use values::Values;
