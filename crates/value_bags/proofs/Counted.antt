@@ -44,7 +44,7 @@ module _ {V : Type 0} where
           omega arith
 
 module _ {V : Type 0} (eq : V → V → Bool) where
-  times-cons : (c : V × ℕ) (counts : List (V × ℕ)) (w : V) → counted_times eq (c ∷ counts) w ≡ cond (eq w c.0) c.1 0 + counted_times eq counts w
+  pub times-cons : (c : V × ℕ) (counts : List (V × ℕ)) (w : V) → counted_times eq (c ∷ counts) w ≡ cond (eq w c.0) c.1 0 + counted_times eq counts w
   times-cons c counts w = sum_by-cons (λ (x : V × ℕ). cond (eq w x.0) x.1 0) c counts
 
   pub total-count_up : (counts : List (V × ℕ)) (v : V) → total (count_up eq counts v) ≡ total counts + 1

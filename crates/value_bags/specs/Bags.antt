@@ -97,6 +97,10 @@ module _ {V : Type 0} (eq : V → V → Bool) where
   abbrev pub IsProper : List (V × ℕ) → Type 0
   IsProper counts = All (λ c. 0 < c.1) counts × IsDistinct eq (keys_of counts)
 
+  abbrev pub IsProperBag : Bag V → Type 0
+  IsProperBag (Short vs) = Unit {0}
+  IsProperBag (Long counts) = IsProper counts
+
   -- how often a value was counted
   abbrev pub counted_times : List (V × ℕ) → V → ℕ
   counted_times counts v = sum_by (λ c. if eq v c.0 then c.1 else 0) counts

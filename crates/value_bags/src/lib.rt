@@ -5,8 +5,10 @@ mod bag;
 mod counts;
 mod items;
 mod keep;
+mod laws;
 mod values;
 
 pub use bag::Bag;
 pub use keep::{Keep, KeepAll};
+pub use laws::counts_of_values;
 pub use values::Values;

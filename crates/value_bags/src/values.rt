@@ -219,9 +219,10 @@ impl<V: Eq + Hash> Values<V> {
         }
     }
 
-    /// How many values there are.
+    /// How many values there are. A long bag counts each value once, and at least to one.
     pub fn len(&self) -> usize
-        ensures { result ≡ bags.bag_len self.now }
+        ensures len { result ≡ bags.bag_len self.now }
+        ensures proper { bags.IsProperBag V.eq self.now }
     {
         match &self.form {
             Form::Short(items) => items.len(),
