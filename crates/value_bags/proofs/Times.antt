@@ -34,7 +34,7 @@ module _ {V : Type 0} (eq : V → V → Bool) (laws : IsEquivalence eq) where
   count-cons : (x : V) (vs : List V) (w : V) → count_by (eq w) (x ∷ vs) ≡ cond (eq w x) 1 0 + count_by (eq w) vs
   count-cons x vs w = sum_by-cons (λ (y : V). cond (eq w y) 1 0) x vs
 
-  times-without_first : (vs : List V) (v w : V) → count_by (eq w) (without_first (eq v) vs) ≡ count_by (eq w) vs - cond (eq w v) 1 0
+  pub times-without_first : (vs : List V) (v w : V) → count_by (eq w) (without_first (eq v) vs) ≡ count_by (eq w) vs - cond (eq w v) 1 0
   times-without_first [] v w = omega arith
   times-without_first (x ∷ vs) v w = by (eq v x) refl (times-without_first vs v w)
     where
@@ -222,7 +222,7 @@ module _ {V : Type 0} (eq : V → V → Bool) (laws : IsEquivalence eq) where
         step true = times-cons eq c (filter (λ x. keeps x.0) counts) w
         step false = refl
 
-    count-filter : (vs : List V) (w : V) → count_by (eq w) (filter keeps vs) ≡ cond (keeps w) (count_by (eq w) vs) 0
+    pub count-filter : (vs : List V) (w : V) → count_by (eq w) (filter keeps vs) ≡ cond (keeps w) (count_by (eq w) vs) 0
     count-filter [] w = by (keeps w)
       where
         by : (b : Bool) → ◌≡◌ {A = ℕ} 0 (cond b 0 0)
