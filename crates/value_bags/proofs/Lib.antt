@@ -3,3 +3,4 @@ pub mod Counted
 pub mod Removed
 pub mod Listed
 pub mod Times
+pub mod Walked
