@@ -12,3 +12,6 @@ pub use inner::Inner;
 pub use key::KeyClone;
 pub use laws::forms_change_no_value;
 pub use write::{Contents, Write};
+
+#[cfg(test)]
+mod tests;
