@@ -1,12 +1,12 @@
 -- How often each value is in a bag after each call, whichever form holds it.
-use Rattle.std.proofs.Common.{◌≡◌, ℕ, ◌+◌, ◌-◌, ◌*◌, ◌<◌, ◌≤◌, zero, suc, Bool, true, false, nat_lt, nat_eq, ◌&&◌, cond, List, [], ◌∷◌, ◌++◌, length, map, filter, replicate, count_by, sum_by, Option, Some, None, refl, sym, ap, ◌∙◌, subst, true≢false, if◌then◌else◌, arith}
+use Rattle.std.proofs.Common.{◌≡◌, ℕ, ◌+◌, ◌-◌, ◌*◌, ◌<◌, ◌≤◌, Bool, true, false, nat_lt, nat_eq, ◌&&◌, cond, List, [], ◌∷◌, ◌++◌, length, filter, replicate, count_by, sum_by, Option, Some, None, refl, sym, ap, ◌∙◌, subst, true≢false, arith}
 use Rattle.std.specs.List.{IsDistinct, All}
 use Rattle.std.specs.Map.{lookup, keys_of}
 use Rattle.std.specs.Cmp.{IsEquivalence}
 use Rattle.std.proofs.lemmas.Bool.{ltb-true, ltb-false, eqb-true}
 use Rattle.std.proofs.lemmas.List.Sums.{sum_by-cons, sum_by_push, sum_by-append}
 use Rattle.std.proofs.lemmas.List.Folds.{sum_by-replicate}
-use Rattle.std.proofs.lemmas.List.Elements.{All-nil, All-head, All-tail, All-filter}
+use Rattle.std.proofs.lemmas.List.Elements.{All-head, All-tail, All-filter}
 use Rattle.std.proofs.lemmas.List.Sorted.{IsPermutation-map, All-permutation, sum_by-IsPermutation}
 use Rattle.std.proofs.lemmas.Map.Keys.{IsDistinct-tail, IsDistinct-IsPermutation}
 use Rattle.std.proofs.lemmas.Map.Made.{IsDistinct-keys_filter}
@@ -14,7 +14,7 @@ use Rattle.indexmap.specs.IndexMap.{swap_remove_entry}
 use Rattle.value_bags.specs.declared.bag.Bag.{Bag}
 use Rattle.value_bags.specs.declared.bag.Bag.TheVariants.{Short, Long}
 use Rattle.value_bags.specs.Entries.{alter}
-use Rattle.value_bags.specs.Bags.{total, bag_len, repeated, values_of, cleared, retained, fitted, roomy, without_first, count_up, count_down, counted, counted_times, pushed, removed, reserved, times, IsProper, IsProperBag, long_length}
+use Rattle.value_bags.specs.Bags.{total, repeated, values_of, cleared, retained, fitted, roomy, without_first, count_up, count_down, counted, counted_times, pushed, removed, reserved, times, IsProper, IsProperBag, long_length}
 use Rattle.value_bags.proofs.Removed.{goes}
 use Rattle.value_bags.proofs.Counted.{times-cons, total-cons, times-count_up, times-counted, proper-count_up, proper-counted, proper-nil, positive-count_down, count_down-absent, count_down-lowered, count_down-gone}
 

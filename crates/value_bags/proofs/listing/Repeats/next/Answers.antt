@@ -1,4 +1,4 @@
-use Rattle.std.proofs.Common.{refl, sym, ap, ◌∙◌, arith}
+use Rattle.std.proofs.Common.{refl, sym, ◌∙◌, arith}
 use Rattle.std.specs.Arc.{arc_value}
 use Rattle.value_bags.proofs.Walked.{first-positive, walked}
 use Rattle.value_bags.proofs.listing.Repeats.next.Goals as goal
