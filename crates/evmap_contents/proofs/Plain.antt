@@ -7,7 +7,7 @@ use Rattle.std.specs.Cmp.{IsEquivalence}
 use Rattle.std.proofs.lemmas.List.Sums.{sum_by_push}
 use Rattle.indexmap.specs.IndexMap.{swap_remove_entry}
 use Rattle.value_bags.specs.declared.bag.Bag.{Bag}
-use Rattle.value_bags.specs.declared.bag.Bag.TheVariants.{Short, Long}
+use Rattle.value_bags.specs.declared.bag.Bag.TheVariants.{Short}
 use Rattle.value_bags.specs.Entries.{change, alter}
 use Rattle.value_bags.specs.Bags.{pushed, removed, cleared, retained, fitted, reserved, roomy, without_first, times, IsProperBag}
 use Rattle.value_bags.proofs.Times as bags

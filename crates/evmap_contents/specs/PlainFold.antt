@@ -1,5 +1,5 @@
 -- What a list of writes leaves, where a bag is only the list of its values and has no form.
-use Rattle.std.specs.Prelude.{◌≡◌, ℕ, Bool, List, [], ◌∷◌, ◌++◌, fold, filter, count_by}
+use Rattle.std.specs.Prelude.{◌≡◌, Bool, List, [], ◌∷◌, ◌++◌, fold, filter, count_by}
 use Rattle.std.specs.List.{AllZip}
 use Rattle.indexmap.specs.IndexMap.{swap_remove_entry}
 use Rattle.value_bags.specs.declared.bag.Bag.{Bag}

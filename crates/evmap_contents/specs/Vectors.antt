@@ -3,7 +3,7 @@ use Rattle.std.specs.Prelude.{◌≡◌, ℕ, nat_eq, true, List, [], ◌∷◌,
 use Rattle.value_bags.specs.declared.bag.Bag.{Bag}
 use Rattle.value_bags.specs.declared.bag.Bag.TheVariants.{Short, Long}
 use Rattle.evmap_contents.specs.declared.write.Write.{Write}
-use Rattle.evmap_contents.specs.declared.write.Write.TheVariants.{Insert, Update, Clear, RemoveValue, RemoveEntry, Purge, Retain, Fit, FitAll, Reserve, RemovePlaces, SetMeta, Ready}
+use Rattle.evmap_contents.specs.declared.write.Write.TheVariants.{Insert, Update, Clear, RemoveValue, RemoveEntry, FitAll, Reserve, RemovePlaces}
 use Rattle.evmap_contents.specs.Fold.{made_with, after_all}
 
 -- the entries after these writes
