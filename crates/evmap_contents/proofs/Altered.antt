@@ -1,5 +1,5 @@
 -- One write on the entries of a map, seen through plain keys.
-use Rattle.std.proofs.Common.{◌≡◌, ℕ, ◌<◌, Bool, List, [], ◌∷◌, map, length, slice_get, get_or, Option, Some, None, Result, Ok, Err, OnErr, IfSome, IfNone, refl, sym, ap, ◌∙◌, arith}
+use Rattle.std.proofs.Common.{◌≡◌, ℕ, Bool, List, [], ◌∷◌, slice_get, Option, Some, None, Result, Ok, Err, OnErr, IfSome, IfNone, sym, ap, ◌∙◌, arith}
 use Rattle.std.specs.List.{swap_remove}
 use Rattle.std.specs.Option.{option_map, option_map_or}
 use Rattle.std.specs.Map.{lookup, set_value}

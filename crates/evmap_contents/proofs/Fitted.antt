@@ -1,14 +1,13 @@
 -- The steps of fitting all bags.
-use Rattle.std.proofs.Common.{◌≡◌, ℕ, Bool, ◌+◌, ◌<◌, suc, zero, List, [], ◌∷◌, ◌++◌, map, length, slice_get, Option, Some, None, refl, sym, ap, ◌∙◌, subst, append_assoc, append-nil, arith}
+use Rattle.std.proofs.Common.{◌≡◌, ℕ, Bool, suc, List, [], ◌∷◌, ◌++◌, map, length, slice_get, Option, Some, refl, sym, ap, ◌∙◌, subst, append_assoc, append-nil}
 use Rattle.std.specs.List.{AllZip}
-use Rattle.std.specs.Option.{unwrap_or, option_copied_mut}
+use Rattle.std.specs.Option.{unwrap_or}
 use Rattle.std.specs.Map.{values_of}
 use Rattle.indexmap.specs.Layout.{set_value_at}
 use Rattle.value_bags.specs.declared.bag.Bag.{Bag}
 use Rattle.value_bags.specs.Bags.{fitted}
 use Rattle.value_bags.specs.Entries.{with_keys}
 use Rattle.evmap_contents.specs.declared.write.Write.TheVariants.{FitAll}
-use Rattle.evmap_contents.specs.declared.write.Contents.{Contents}
 use Rattle.evmap_contents.specs.Fold.{after}
 use Rattle.evmap_contents.specs.Fitting.{AreFitted, fit_entry}
 

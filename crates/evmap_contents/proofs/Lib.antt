@@ -1,2 +1,3 @@
 pub mod Altered
 pub mod Fitted
+pub mod Plain

@@ -1,5 +1,5 @@
 -- What a list of writes leaves: the fold.
-use Rattle.std.specs.Prelude.{ℕ, Bool, true, false, List, [], ◌∷◌, ◌++◌, map, fold, slice_get, swap_remove}
+use Rattle.std.specs.Prelude.{ℕ, Bool, true, false, List, [], ◌∷◌, map, fold, slice_get, swap_remove}
 use Rattle.std.specs.Option.{option_map_or}
 use Rattle.indexmap.specs.IndexMap.{swap_remove_entry}
 use Rattle.value_bags.specs.declared.bag.Bag.{Bag}

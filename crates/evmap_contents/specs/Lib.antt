@@ -2,3 +2,4 @@ pub mod Fold
 pub mod PlainFold
 pub mod Views
 pub mod Fitting
+pub mod Vectors

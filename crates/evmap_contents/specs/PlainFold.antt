@@ -1,5 +1,6 @@
 -- What a list of writes leaves, where a bag is only the list of its values and has no form.
-use Rattle.std.specs.Prelude.{◌≡◌, ℕ, Bool, List, [], ◌∷◌, ◌++◌, fold, filter, count_by}
+use Rattle.std.specs.Prelude.{◌≡◌, Bool, List, [], ◌∷◌, ◌++◌, fold, filter, count_by}
+use Rattle.std.specs.List.{AllZip}
 use Rattle.indexmap.specs.IndexMap.{swap_remove_entry}
 use Rattle.value_bags.specs.declared.bag.Bag.{Bag}
 use Rattle.value_bags.specs.Entries.{change, alter}
@@ -31,7 +32,4 @@ module _ {K V M P : Type 0} (same : K → K → Bool) (eq : V → V → Bool) (k
 
 -- the same keys in the same order, and each key's bag holds each value as often as its list does
 abbrev pub HoldAlike : {K V : Type 0} → (V → V → Bool) → List (K × Bag V) → List (K × List V) → Type 0
-HoldAlike eq [] [] = Unit {0}
-HoldAlike {V = V} eq (e ∷ es) (p ∷ ps) = (e.0 ≡ p.0) × ((v : V) → times eq e.1 v ≡ count_by (eq v) p.1) × HoldAlike eq es ps
-HoldAlike eq [] (p ∷ ps) = ⊥
-HoldAlike eq (e ∷ es) [] = ⊥
+HoldAlike {V = V} eq es ps = AllZip (λ e p. (e.0 ≡ p.0) × ((v : V) → times eq e.1 v ≡ count_by (eq v) p.1)) es ps

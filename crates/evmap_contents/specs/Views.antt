@@ -1,9 +1,6 @@
 -- What a clause sees of the stored writes and of a copy of the map.
-use Rattle.std.specs.Prelude.{Bool, List, map}
 use Rattle.std.specs.Arc.{arc_value}
 use Rattle.std.specs.declared.sync.Arc.{Arc}
-use Rattle.std.specs.HashMap.{HashMap}
-use Rattle.value_bags.specs.declared.bag.Bag.{Bag}
 use Rattle.evmap_contents.specs.declared.write.Write.{Write}
 use Rattle.evmap_contents.specs.declared.write.Write.TheVariants.{Insert, Update, Clear, RemoveValue, RemoveEntry, Purge, Retain, Fit, FitAll, Reserve, RemovePlaces, SetMeta, Ready}
 use Rattle.evmap_contents.specs.declared.write.Contents.{Contents}

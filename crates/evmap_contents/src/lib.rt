@@ -5,8 +5,13 @@ mod entries;
 mod fitting;
 mod inner;
 mod key;
+mod laws;
 mod write;
 
 pub use inner::Inner;
 pub use key::KeyClone;
+pub use laws::forms_change_no_value;
 pub use write::{Contents, Write};
+
+#[cfg(test)]
+mod tests;

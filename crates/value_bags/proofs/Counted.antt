@@ -1,21 +1,19 @@
 -- How the counts of a long bag change, value by value.
-use Rattle.std.proofs.Common.{◌≡◌, ℕ, ◌+◌, ◌-◌, ◌<◌, ◌≤◌, Bool, true, false, not, nat_lt, cond, List, [], ◌∷◌, ◌++◌, zero, suc, length, map, take, get_or, fold, filter, count_by, sum_by, position, slice_get, sum, is_some, lt-ltb, le-ltb, ◌||◌, ◌↔◌, IsTrue, IsNone, IfSome, Contains, Bor, option_map, replicate, Option, Some, None, refl, sym, ap, ◌∙◌, subst, true≢false, if◌then◌else◌, arith}
+use Rattle.std.proofs.Common.{◌≡◌, ℕ, ◌+◌, ◌-◌, ◌<◌, ◌≤◌, Bool, true, false, nat_lt, cond, List, [], ◌∷◌, ◌++◌, zero, suc, length, map, take, get_or, fold, filter, count_by, slice_get, sum, is_some, lt-ltb, le-ltb, ◌||◌, ◌↔◌, IsTrue, IsNone, IfSome, Contains, Bor, option_map, replicate, Option, Some, None, refl, sym, ap, ◌∙◌, subst, true≢false, arith}
 use Rattle.std.proofs.lemmas.List.{take_more, map-append}
-use Rattle.std.proofs.lemmas.List.Sums.{sum_by-cons, sum_by-swap_remove, sum_by_push}
-use Rattle.std.proofs.lemmas.List.Elements.{All-nil, All-cons, All-head, All-tail, All-filter, All-get_or, Contains-append_left}
-use Rattle.std.proofs.lemmas.List.Sorted.{IsPermutation-map, All-permutation, sum_by-IsPermutation}
+use Rattle.std.proofs.lemmas.List.Sums.{sum_by-cons}
+use Rattle.std.proofs.lemmas.List.Elements.{All-nil, All-cons, All-head, All-tail, Contains-append_left}
+use Rattle.std.proofs.lemmas.List.Sorted.{All-permutation, sum_by-IsPermutation}
 use Rattle.std.proofs.lemmas.Bool.{ltb-true, ltb-false}
-use Rattle.std.proofs.lemmas.Map.Keys.{IsDistinct-tail, IsDistinct-head, IsDistinct-cons, IsDistinct-IsPermutation}
-use Rattle.std.proofs.lemmas.Map.Made.{IsDistinct-keys_filter}
-use Rattle.std.specs.List.{list_any, IsDistinct, All, AllByRecursion, swap_remove}
-use Rattle.std.specs.List.Sorted.{IsPermutation}
+use Rattle.std.proofs.lemmas.Map.Keys.{IsDistinct-tail, IsDistinct-head, IsDistinct-cons}
+use Rattle.std.specs.List.{list_any, IsDistinct, All, AllByRecursion}
 use Rattle.std.specs.Map.{lookup, keys_of, values_of}
 use Rattle.std.specs.Option.{option_map_or, option_copied}
 use Rattle.std.specs.Cmp.{IsEquivalence}
 use Rattle.indexmap.specs.IndexMap.{swap_remove_entry}
-use Rattle.value_bags.specs.Entries.{change, alter, with_keys}
+use Rattle.value_bags.specs.Entries.{alter, with_keys}
 use Rattle.value_bags.proofs.Removed.{goes}
-use Rattle.value_bags.specs.Bags.{total, repeated, count_up, count_down, counted, counted_times, IsProper, without_first}
+use Rattle.value_bags.specs.Bags.{total, repeated, count_up, count_down, counted, counted_times, IsProper}
 
 pub fold-append : {A B : Type 0} (f : A → B → A) (a : A) (xs ys : List B) → fold f a (xs ++ ys) ≡ fold f (fold f a xs) ys
 fold-append f a [] ys = refl
@@ -44,7 +42,7 @@ module _ {V : Type 0} where
           omega arith
 
 module _ {V : Type 0} (eq : V → V → Bool) where
-  times-cons : (c : V × ℕ) (counts : List (V × ℕ)) (w : V) → counted_times eq (c ∷ counts) w ≡ cond (eq w c.0) c.1 0 + counted_times eq counts w
+  pub times-cons : (c : V × ℕ) (counts : List (V × ℕ)) (w : V) → counted_times eq (c ∷ counts) w ≡ cond (eq w c.0) c.1 0 + counted_times eq counts w
   times-cons c counts w = sum_by-cons (λ (x : V × ℕ). cond (eq w x.0) x.1 0) c counts
 
   pub total-count_up : (counts : List (V × ℕ)) (v : V) → total (count_up eq counts v) ≡ total counts + 1

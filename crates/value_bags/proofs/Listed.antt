@@ -1,9 +1,8 @@
 -- What a short bag does with the list of its values.
-use Rattle.std.proofs.Common.{◌≡◌, ℕ, ◌+◌, ◌<◌, ◌≤◌, suc, Bool, true, false, not, nat_lt, cond, ◌||◌, List, [], ◌∷◌, ◌++◌, length, map, take, drop, remove, filter, count_by, position, Option, Some, None, refl, sym, ap, ◌∙◌, subst, true≢false, arith, lt-ltb, le-ltb}
+use Rattle.std.proofs.Common.{◌≡◌, ℕ, ◌+◌, ◌≤◌, suc, Bool, true, false, not, nat_lt, cond, ◌||◌, List, [], ◌∷◌, ◌++◌, length, map, remove, filter, position, Some, None, refl, sym, ap, ◌∙◌, arith}
 use Rattle.std.specs.List.{list_any, position_or_len}
-use Rattle.std.proofs.lemmas.Bool.{ltb-true, ltb-false}
+use Rattle.std.proofs.lemmas.Bool.{ltb-false}
 use Rattle.std.proofs.lemmas.List.{take_all, drop_all, append-nil}
-use Rattle.std.proofs.lemmas.List.Sums.{sum_by-cons}
 use Rattle.value_bags.specs.Bags.{without_first}
 
 remove-past : {X : Type 0} (xs : List X) (i : ℕ) → length xs ≤ i → remove xs i ≡ xs

@@ -1,5 +1,5 @@
 -- Bags in two forms, and what each call makes of them. The rule of the forms is this project's.
-use Rattle.std.specs.Prelude.{ℕ, ◌+◌, ◌-◌, ◌≡◌, ◌<◌, Bool, true, false, not, nat_lt, nat_le, nat_eq, List, [], ◌∷◌, ◌++◌, map, filter, length, fold, sum_by, count_by, replicate, All, Option, None, Some, if◌then◌else◌, ◌&&◌}
+use Rattle.std.specs.Prelude.{ℕ, ◌+◌, ◌-◌, ◌<◌, Bool, true, false, nat_lt, nat_eq, List, [], ◌∷◌, ◌++◌, filter, length, fold, sum_by, count_by, replicate, All, Option, None, Some, if◌then◌else◌, ◌&&◌}
 use Rattle.std.specs.Option.{option_map_or}
 use Rattle.std.specs.Map.{lookup, keys_of}
 use Rattle.std.specs.List.{IsDistinct}
@@ -96,6 +96,10 @@ module _ {V : Type 0} (eq : V → V → Bool) where
   -- each value is counted once, and at least to one
   abbrev pub IsProper : List (V × ℕ) → Type 0
   IsProper counts = All (λ c. 0 < c.1) counts × IsDistinct eq (keys_of counts)
+
+  abbrev pub IsProperBag : Bag V → Type 0
+  IsProperBag (Short vs) = Unit {0}
+  IsProperBag (Long counts) = IsProper counts
 
   -- how often a value was counted
   abbrev pub counted_times : List (V × ℕ) → V → ℕ

@@ -9,6 +9,7 @@ ghost use Rattle.value_bags.specs.Bags.{total, count_up, count_down, counted, co
 
 use crate::Keep;
 use indexmap::IndexMap;
+use indexmap::map::Slice;
 use std::alloc::{AllocError, Global};
 use std::hash::Hash;
 use std::marker::Model;
@@ -231,5 +232,13 @@ impl<V: Eq + Hash> Counts<V> {
     {
         let (value, _) = self.counts.first()?;
         Some(value)
+    }
+
+    /// The values with their counts.
+    pub(crate) fn as_slice(&self) -> Slice<'_, Arc<V>, u64>
+        ensures counts { with_keys arc_value result ≡ self.now }
+        ensures positive { All (λ c. 0 < c.1) self.now }
+    {
+        self.counts.as_slice()
     }
 }

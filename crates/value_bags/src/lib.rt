@@ -5,8 +5,15 @@ mod bag;
 mod counts;
 mod items;
 mod keep;
+mod laws;
+mod listing;
 mod values;
 
 pub use bag::Bag;
 pub use keep::{Keep, KeepAll};
+pub use laws::counts_of_values;
+pub use listing::ValuesIter;
 pub use values::Values;
+
+#[cfg(test)]
+mod tests;

@@ -8,6 +8,7 @@ ghost use Rattle.value_bags.specs.Bags as bags;
 use crate::Keep;
 use crate::counts::Counts;
 use crate::items::{is_among, remove_first};
+use crate::listing::{Repeats, Rest, ValuesIter};
 use std::alloc::{AllocError, Global};
 use std::hash::Hash;
 use std::marker::Model;
@@ -219,9 +220,10 @@ impl<V: Eq + Hash> Values<V> {
         }
     }
 
-    /// How many values there are.
+    /// How many values there are. A long bag counts each value once, and at least to one.
     pub fn len(&self) -> usize
-        ensures { result ≡ bags.bag_len self.now }
+        ensures len { result ≡ bags.bag_len self.now }
+        ensures proper { bags.IsProperBag V.eq self.now }
     {
         match &self.form {
             Form::Short(items) => items.len(),
@@ -276,5 +278,29 @@ impl<V: Eq + Hash> Values<V> {
             Form::Short(items) => is_among(items, value),
             Form::Long(counts) => counts.contains(value),
         }
+    }
+
+    /// The values, one by one.
+    pub fn iter(&self) -> ValuesIter<'_, V>
+        ensures { result ≡ bags.values_of self.now }
+    {
+        let left = self.len();
+        let rest = match &self.form {
+            Form::Short(items) => Rest::Short(items),
+            Form::Long(counts) => Rest::Long(Repeats::of(counts)),
+        };
+        ValuesIter { rest, left }
+    }
+}
+
+impl<'a, V: Eq + Hash> IntoIterator for &'a Values<V> {
+    type Item = &'a V;
+
+    type IntoIter = ValuesIter<'a, V>;
+
+    ghost into_iter_gives = { λ bag listing. listing ≡ bags.values_of bag.now };
+
+    fn into_iter(self) -> ValuesIter<'a, V> {
+        self.iter()
     }
 }

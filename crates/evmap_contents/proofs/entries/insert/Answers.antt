@@ -1,10 +1,10 @@
-use Rattle.std.proofs.Common.{◌≡◌, List, [], ◌∷◌, ◌++◌, refl, sym, ap, ◌∙◌}
+use Rattle.std.proofs.Common.{[], ◌∷◌, sym, ap, ◌∙◌}
 use Rattle.std.specs.Arc.{arc_value}
 use Rattle.std.specs.Option.{option_copied_mut}
 use Rattle.value_bags.specs.declared.bag.Bag.TheVariants.{Short}
 use Rattle.value_bags.specs.Bags as bags
-use Rattle.value_bags.proofs.Changes.{written, added, kept, copy-last, removed}
-use Rattle.evmap_contents.proofs.Altered.{on_err, altered, unaltered}
+use Rattle.value_bags.proofs.Changes.{written, added, kept}
+use Rattle.evmap_contents.proofs.Altered.{on_err}
 use Rattle.evmap_contents.proofs.entries.insert.Goals as goal
 
 pub returns-in_err-push-clause-refused : goal.returns-in_err-push-clause-refused

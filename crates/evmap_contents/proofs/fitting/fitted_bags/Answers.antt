@@ -1,4 +1,4 @@
-use Rattle.std.proofs.Common.{List, Option, ◌++◌, ◌∷◌, [], sym, ap, ◌∙◌, subst}
+use Rattle.std.proofs.Common.{sym, subst}
 use Rattle.indexmap.specs.IndexMap.{values}
 use Rattle.evmap_contents.proofs.Fitted.{IsDone, one_more}
 use Rattle.evmap_contents.proofs.fitting.fitted_bags.Goals as goal

@@ -1,6 +1,6 @@
-use Rattle.std.proofs.Common.{rules, ◌≡◌, length, Some, None, List, Option, ◌++◌, ◌∷◌, [], sym, ap, ◌∙◌, subst}
+use Rattle.std.proofs.Common.{rules, ◌≡◌, length, Some, None, ◌++◌, [], sym, ap, ◌∙◌}
 use Rattle.std.specs.Option.{option_copied_mut, option_to_list, unwrap_or}
-use Rattle.evmap_contents.proofs.Fitted.{Turn, turn, all_fitted, starts_whole}
+use Rattle.evmap_contents.proofs.Fitted.{turn, all_fitted}
 use Rattle.evmap_contents.proofs.fitting.put_fitted.Goals as goal
 
 pub loop-bag-preserved-in-Some-bag : goal.loop-bag-preserved-in-Some-bag

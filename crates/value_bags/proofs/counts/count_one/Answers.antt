@@ -1,10 +1,8 @@
-use Rattle.std.proofs.Common.{arith, ℕ, ◌+◌, ◌≤◌, refl, sym, ap, ◌∙◌}
+use Rattle.std.proofs.Common.{arith, ℕ, ◌+◌, refl, sym, ap, ◌∙◌}
 use Rattle.std.specs.Arc.{arc_value}
 use Rattle.std.specs.Map.{lookup}
 use Rattle.std.specs.Option.{option_copied_mut}
-use Rattle.std.specs.declared.sync.Arc.{Arc}
 use Rattle.value_bags.specs.Entries.{with_keys}
-use Rattle.value_bags.specs.Bags.{total}
 use Rattle.value_bags.proofs.Changes.{written, added, copy-last, lookup-plain}
 use Rattle.value_bags.proofs.Counted.{lookup-le-total}
 use Rattle.value_bags.proofs.counts.count_one.Goals as goal

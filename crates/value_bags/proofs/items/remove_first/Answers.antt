@@ -1,6 +1,5 @@
-use Rattle.std.proofs.Common.{sym, ap, ◌∙◌, map, position, remove}
+use Rattle.std.proofs.Common.{sym, ap, ◌∙◌, map, position}
 use Rattle.std.specs.Arc.{arc_value}
-use Rattle.value_bags.specs.Bags.{without_first}
 use Rattle.value_bags.proofs.Listed.{without_first-found, without_first-missing}
 use Rattle.value_bags.proofs.items.remove_first.Goals as goal
 

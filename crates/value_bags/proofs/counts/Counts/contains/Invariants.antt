@@ -1,4 +1,4 @@
-use Rattle.std.proofs.Common.{◌≡◌, ◌<◌, map, nat_lt}
+use Rattle.std.proofs.Common.{◌≡◌, map, nat_lt}
 use Rattle.std.specs.Arc.{arc_value}
 use Rattle.std.specs.List.{list_any}
 use Rattle.value_bags.specs.Bags.{counted_times}

@@ -1,4 +1,4 @@
-use Rattle.std.proofs.Common.{◌≡◌, List, ℕ, subst}
+use Rattle.std.proofs.Common.{subst}
 use Rattle.std.specs.Arc.{arc_value}
 use Rattle.value_bags.specs.Bags.{IsProper}
 use Rattle.value_bags.proofs.Counted.{distinct-with_keys}

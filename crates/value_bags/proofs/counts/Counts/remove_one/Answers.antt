@@ -1,4 +1,4 @@
-use Rattle.std.proofs.Common.{◌≡◌, ◌<◌, ◌+◌, ℕ, List, sym, ap, ◌∙◌, subst, arith}
+use Rattle.std.proofs.Common.{◌<◌, sym, ap, ◌∙◌, subst, arith}
 use Rattle.std.specs.Arc.{arc_value}
 use Rattle.std.specs.List.{All}
 use Rattle.value_bags.specs.Entries.{with_keys}

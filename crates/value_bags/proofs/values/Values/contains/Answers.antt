@@ -1,4 +1,4 @@
-use Rattle.std.proofs.Common.{◌<◌, ◌↔◌, nat_lt, IsTrue, sym, ap, ◌∙◌, map}
+use Rattle.std.proofs.Common.{nat_lt, sym, ap, ◌∙◌, map}
 use Rattle.std.specs.Arc.{arc_value}
 use Rattle.std.specs.List.{list_any}
 use Rattle.value_bags.specs.Bags.{times}
