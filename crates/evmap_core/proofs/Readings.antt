@@ -1,6 +1,5 @@
 -- What a reader has read.
-use Rattle.std.proofs.Common.{Some, None, Option, ◌≡◌, ◌⊎◌, inl, inr, Bool, true, false, cond, List, [], ◌∷◌, fold, refl, sym, ap, ◌∙◌, subst}
-use Rattle.std.specs.Arc.{arc_value}
+use Rattle.std.proofs.Common.{Some, Option, ◌≡◌, inl, inr, Bool, true, false, cond, List, [], ◌∷◌, fold, refl, sym, ap, ◌∙◌, subst}
 use Rattle.std.specs.Map.{lookup}
 use Rattle.std.specs.Option.{option_map}
 use Rattle.value_bags.specs.Entries.{with_keys}
@@ -10,7 +9,7 @@ use Rattle.evmap_contents.specs.Fold.{made_with}
 use Rattle.evmap_contents.specs.Views.{contents}
 use Rattle.evmap_core.specs.declared.view.View.{View}
 use Rattle.evmap_core.specs.declared.store.Store.{Store}
-use Rattle.evmap_core.specs.Front.{Grows, Reads, NotYet, HasRead, HasNotRead, Answers, Sees}
+use Rattle.evmap_core.specs.Front.{Reads, NotYet, HasRead, Answers, Sees}
 
 module _ {K L B : Type 0} (eq : K → K → Bool) (plain : K → L) (same : L → L → Bool) (agrees : (a b : K) → eq a b ≡ same (plain a) (plain b)) where
   -- a look-up is seen through plain keys

@@ -1,5 +1,5 @@
 -- What a call answers of the bag of a key.
-use Rattle.std.specs.Prelude.{◌≡◌, ℕ, Bool, List, Contains, Option, Some, None}
+use Rattle.std.specs.Prelude.{◌≡◌, ℕ, Bool, Contains, Option, Some, None}
 use Rattle.value_bags.specs.declared.bag.Bag.{Bag}
 use Rattle.value_bags.specs.Bags.{bag_len, values_of, times}
 

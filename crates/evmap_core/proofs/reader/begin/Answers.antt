@@ -1,4 +1,4 @@
-use Rattle.std.proofs.Common.{refl, sym, ap, ◌∙◌}
+use Rattle.std.proofs.Common.{ap}
 use Rattle.std.specs.Option.{option_map}
 use Rattle.left_right.specs.Sides.{view}
 use Rattle.evmap_core.proofs.reader.begin.Goals as goal

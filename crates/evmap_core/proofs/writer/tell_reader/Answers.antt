@@ -1,4 +1,4 @@
-use Rattle.std.proofs.Common.{rules, ap}
+use Rattle.std.proofs.Common.{rules}
 use Rattle.evmap_contents.specs.Fold.{after}
 use Rattle.evmap_core.proofs.Fronts.{admits, forks, merges}
 use Rattle.evmap_core.proofs.writer.tell_reader.Goals as goal

@@ -1,4 +1,4 @@
-use Rattle.std.proofs.Common.{◌<◌, ◌↔◌, IsTrue, sym, ap, subst}
+use Rattle.std.proofs.Common.{◌<◌, ◌↔◌, IsTrue, ap, subst}
 use Rattle.std.specs.Map.{lookup}
 use Rattle.std.specs.Option.{option_map}
 use Rattle.left_right.specs.Sides.{view}

@@ -1,4 +1,4 @@
-use Rattle.std.proofs.Common.{sym, ap, ◌∙◌, length}
+use Rattle.std.proofs.Common.{ap, ◌∙◌, length}
 use Rattle.std.specs.Option.{option_map}
 use Rattle.left_right.specs.Sides.{view}
 use Rattle.evmap_contents.specs.Fold.{after}

@@ -1,7 +1,6 @@
-use Rattle.std.proofs.Common.{sym, ap, ◌∙◌, is_some, length}
+use Rattle.std.proofs.Common.{ap, ◌∙◌, length}
 use Rattle.std.proofs.Math.Logic.{∥∥₁_elim}
 use base.Stored.{Coded-set}
-use Rattle.std.specs.Map.{lookup}
 use Rattle.evmap_contents.specs.contracts.write.Contents.{the_row}
 use Rattle.evmap_contents.specs.Views.{contents}
 use Rattle.evmap_core.proofs.writer.WriteHandle.len.Goals as goal
