@@ -8,7 +8,7 @@ ghost use Rattle.value_bags.specs.Entries.{with_keys};
 ghost use Rattle.std.specs.Option.{option_copied};
 ghost use Rattle.left_right.specs.Sides.{view};
 ghost use Rattle.evmap_contents.specs.Views.{contents};
-ghost use Rattle.evmap_core.specs.Asked.{IsOneOf, times_at};
+ghost use Rattle.evmap_core.specs.Asked.{IsOneOf, times_at, bag_at};
 
 use crate::published::Published;
 use crate::reader::put_back;
@@ -75,19 +75,22 @@ impl<
 }
 
 /// A reading whose reader goes back when it ends.
-pub struct Guard<'a, H: Home<R>, R, X, G: Leaves<R, X>> {
+pub struct Guard<'a, H: Home<R>, R, X, G: Leaves<R, X>, A> {
     pub home: &'a mut H,
     pub reading: G,
+    /// What is looked at: nothing more, or the place of a key.
+    pub at: A,
     pub of: PhantomData<(R, X)>,
 }
 
-impl<H: Home<R>, R, X, G: Leaves<R, X>> Drop for Guard<'_, H, R, X, G> {
+impl<H: Home<R>, R, X, G: Leaves<R, X>, A: Drop> Drop for Guard<'_, H, R, X, G, A> {
     fn drop(self)
         ensures { (r : R) × H.has self.exit.0.now r × G.shows (G.last self.entry.reading) r }
     {
         let Self {
             home,
             reading,
+            at: _,
             of: _,
         } = self;
         home.put(reading.go());
@@ -101,6 +104,17 @@ pub type MapReadRef<'a, K, V, M, P, S> = Guard<
     Reader<Store<K, V, M, P, S>, View<<K as KeyClone>::Plain, V, M, P>, Published>,
     View<<K as KeyClone>::Plain, V, M, P>,
     Reading<Store<K, V, M, P, S>, View<<K as KeyClone>::Plain, V, M, P>, Published>,
+    (),
+>;
+
+/// A guard of a reader that looks at one key, or at the meta alone. It copies no bag.
+pub type EntryRef<'a, K, V, M, P, S> = Guard<
+    'a,
+    ReadHandle<K, V, M, P, S>,
+    Reader<Store<K, V, M, P, S>, View<<K as KeyClone>::Plain, V, M, P>, Published>,
+    View<<K as KeyClone>::Plain, V, M, P>,
+    Reading<Store<K, V, M, P, S>, View<<K as KeyClone>::Plain, V, M, P>, Published>,
+    Option<usize>,
 >;
 
 impl<
@@ -115,6 +129,7 @@ impl<
     Reader<Store<K, V, M, P, S>, View<K::Plain, V, M, P>, Published>,
     View<K::Plain, V, M, P>,
     Reading<Store<K, V, M, P, S>, View<K::Plain, V, M, P>, Published>,
+    (),
 > {
     /// How many keys there are.
     pub fn len(&self) -> usize
@@ -187,5 +202,34 @@ impl<
         ensures runs { ShowsInOrder (deref {X = Bag V}) }
     {
         self.reading.get().inner.map.values()
+    }
+}
+
+impl<
+    K: KeyClone + Drop,
+    V: Eq + Hash + Drop,
+    M: Drop,
+    P: Keep<V> + Drop,
+    S: BuildHasher + Drop,
+> Guard<
+    '_,
+    ReadHandle<K, V, M, P, S>,
+    Reader<Store<K, V, M, P, S>, View<K::Plain, V, M, P>, Published>,
+    View<K::Plain, V, M, P>,
+    Reading<Store<K, V, M, P, S>, View<K::Plain, V, M, P>, Published>,
+    Option<usize>,
+> {
+    /// The bag of the key. `None` where the key isn't there, or the meta alone was asked for.
+    pub fn values(&self) -> Option<&Values<V>>
+        ensures { option_copied result ≡ bag_at (contents K.plain self.now.reading.part.value.inner) self.now.at }
+    {
+        self.reading.get().bag_at(self.at)
+    }
+
+    /// The meta.
+    pub fn meta(&self) -> &M
+        ensures { result.now ≡ (contents K.plain self.now.reading.part.value.inner).meta }
+    {
+        self.reading.get().meta()
     }
 }

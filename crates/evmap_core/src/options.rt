@@ -1,11 +1,10 @@
 //! How a map is made.
-ghost use Rattle.std.specs.Prelude.{◌≡◌, ◌<◌, [], ◌∷◌, Some, IfOk, IfErr};
+ghost use Rattle.std.specs.Prelude.{◌≡◌, ◌<◌, Some, IfOk, IfErr};
 ghost use Rattle.std.specs.Option.{option_map};
 ghost use Rattle.left_right.specs.Sides.{view};
-ghost use Rattle.evmap_contents.specs.declared.write.Write.TheVariants.{Ready};
 ghost use Rattle.evmap_core.specs.declared.faults.EvmapFault.TheVariants as faults;
 ghost use Rattle.evmap_core.specs.Front.{newcomer};
-ghost use Rattle.evmap_core.specs.Handles.{published, pending, made, told};
+ghost use Rattle.evmap_core.specs.Handles.{IsNew};
 
 use crate::{EvmapFault, ReadHandle, WriteHandle};
 use evmap_contents::KeyClone;
@@ -103,7 +102,7 @@ impl<M: Drop, S: Drop> Options<M, S> {
     ) -> Result<(WriteHandle<K, V, M, P, S>, ReadHandle<K, V, M, P, S>), EvmapFault>
     where
         S: BuildHasher + Clone,
-        ensures made { IfOk result (λ t. (published K.plain t.0 ≡ []) × (pending K.plain t.0 ≡ Ready ∷ []) × (made t.0 ≡ self.meta) × (told t.0 ≡ []) × (option_map (λ r. view r.place) t.1.reader ≡ Some newcomer)) }
+        ensures made { IfOk result (λ t. IsNew K.plain t.0 self.meta × (option_map (λ r. view r.place) t.1.reader ≡ Some newcomer)) }
         ensures err { IfErr result (λ e. e ≡ faults.Memory) }
     {
         let Ok(second) = self.hasher.clone() else {
@@ -116,4 +115,75 @@ impl<M: Drop, S: Drop> Options<M, S> {
             Err(_) => Err(EvmapFault::Memory),
         }
     }
+
+    /// The same as `construct`, which asks for the laws of `Eq` and `Hash` too.
+    pub fn assert_stable<K: KeyClone + Drop, V: Eq + Hash + Drop, P: Keep<V> + Drop, R: Wait>(
+        self,
+        rt: &R,
+        alloc: Global,
+    ) -> Result<(WriteHandle<K, V, M, P, S>, ReadHandle<K, V, M, P, S>), EvmapFault>
+    where
+        S: BuildHasher + Clone,
+        ensures made { IfOk result (λ t. IsNew K.plain t.0 self.meta × (option_map (λ r. view r.place) t.1.reader ≡ Some newcomer)) }
+        ensures err { IfErr result (λ e. e ≡ faults.Memory) }
+    {
+        self.construct(rt, alloc)
+    }
+}
+
+/// An empty map that is not published, without a meta, with room for 64 readers and for no key.
+pub fn new<K: KeyClone + Drop, V: Eq + Hash + Drop, P: Keep<V> + Drop, R: Wait>(
+    rt: &R,
+    alloc: Global,
+) -> Result<
+    (
+        WriteHandle<K, V, (), P, BuildHasherDefault<FoldHasher>>,
+        ReadHandle<K, V, (), P, BuildHasherDefault<FoldHasher>>,
+    ),
+    EvmapFault,
+>
+    ensures made { IfOk result (λ t. IsNew K.plain t.0 tt × (option_map (λ r. view r.place) t.1.reader ≡ Some newcomer)) }
+    ensures err { IfErr result (λ e. e ≡ faults.Memory) }
+{
+    Options::default().construct(rt, alloc)
+}
+
+/// The same as `new`, which asks for the laws of `Eq` and `Hash` too.
+pub fn new_assert_stable<K: KeyClone + Drop, V: Eq + Hash + Drop, P: Keep<V> + Drop, R: Wait>(
+    rt: &R,
+    alloc: Global,
+) -> Result<
+    (
+        WriteHandle<K, V, (), P, BuildHasherDefault<FoldHasher>>,
+        ReadHandle<K, V, (), P, BuildHasherDefault<FoldHasher>>,
+    ),
+    EvmapFault,
+>
+    ensures made { IfOk result (λ t. IsNew K.plain t.0 tt × (option_map (λ r. view r.place) t.1.reader ≡ Some newcomer)) }
+    ensures err { IfErr result (λ e. e ≡ faults.Memory) }
+{
+    new(rt, alloc)
+}
+
+/// An empty map that is not published, with this meta and this hasher, and with room for 64 readers and for no key.
+pub fn with_hasher<
+    K: KeyClone + Drop,
+    V: Eq + Hash + Drop,
+    M: Drop,
+    P: Keep<V> + Drop,
+    S: BuildHasher + Clone + Drop,
+    R: Wait,
+>(
+    rt: &R,
+    alloc: Global,
+    meta: M,
+    hasher: S,
+) -> Result<(WriteHandle<K, V, M, P, S>, ReadHandle<K, V, M, P, S>), EvmapFault>
+    ensures made { IfOk result (λ t. IsNew K.plain t.0 meta × (option_map (λ r. view r.place) t.1.reader ≡ Some newcomer)) }
+    ensures err { IfErr result (λ e. e ≡ faults.Memory) }
+{
+    Options::default()
+        .with_meta(meta)
+        .with_hasher(hasher)
+        .construct(rt, alloc)
 }
