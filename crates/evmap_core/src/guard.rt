@@ -233,3 +233,22 @@ impl<
         self.reading.get().meta()
     }
 }
+
+impl<
+    'a,
+    K: KeyClone + Drop,
+    V: Eq + Hash + Drop,
+    M: Drop,
+    P: Keep<V> + Drop,
+    S: BuildHasher + Drop,
+> IntoIterator for &'a MapReadRef<'_, K, V, M, P, S> {
+    type Item = (&'a K, &'a Values<V>);
+
+    type IntoIter = Iter<'a, K, Values<V>>;
+
+    ghost into_iter_gives = { λ guard rest. with_keys K.plain rest ≡ (contents K.plain guard.now.reading.part.value.inner).entries };
+
+    fn into_iter(self) -> Iter<'a, K, Values<V>> {
+        self.iter()
+    }
+}

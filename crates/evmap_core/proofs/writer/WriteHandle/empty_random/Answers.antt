@@ -18,8 +18,7 @@ pub returns : goal.returns
 returns g c =
     let w = c.mark_random.new.self in
     let front-is = ∥∥₁_elim w.current (Coded-set (the_row g.row.K-Plain g.row.V g.row.M).coded _ _) (λ h. h.0) in
-    let plain = g.K.KeyClone.plain in
-    (
+    let plain = g.K.KeyClone.plain in (
       (
         refl,
         λ _. tt,

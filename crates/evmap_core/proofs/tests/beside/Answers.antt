@@ -1,0 +1,7 @@
+use denote.Param.Send.{IsSend, IsSync, sendable, struct_send, struct_sync}
+use Rattle.std.proofs.Crossing.{crosses}
+use Rattle.evmap_core.proofs.Crossing.{Handle-send}
+use Rattle.evmap_core.proofs.tests.beside.Goals as goal
+
+pub join-requires-send-F : goal.join-requires-send-F
+join-requires-send-F g c κs within = search (sendable, crosses, Handle-send) depth 40
