@@ -92,6 +92,7 @@ impl<K: KeyClone, V: Eq + Hash, M, S: BuildHasher> Inner<K, V, M, S> {
         self.map.len()
     }
 
+    /// Whether there is no key.
     pub fn is_empty(&self) -> bool
         ensures { result ≡ nat_eq (length (contents K.plain self.now).entries) 0 }
     {

@@ -231,6 +231,7 @@ impl<V: Eq + Hash> Values<V> {
         }
     }
 
+    /// Whether there is no value.
     pub fn is_empty(&self) -> bool
         ensures { IsTrue result ↔ (bags.bag_len self.now ≡ 0) }
     {
@@ -247,6 +248,7 @@ impl<V: Eq + Hash> Values<V> {
         }
     }
 
+    /// Whether the bag lists its values, and doesn't count them.
     pub fn is_short(&self) -> bool
         ensures { result ≡ bags.is_short self.now }
     {

@@ -1,4 +1,4 @@
-use denote.Param.Send.{IsSend, IsSync, sendable, struct_send, struct_sync}
+use denote.Param.Send.{sendable}
 use Rattle.std.proofs.Crossing.{crosses}
 use Rattle.evmap_core.proofs.Crossing.{Handle-send}
 use Rattle.evmap_core.proofs.tests.beside.Goals as goal
