@@ -1,5 +1,5 @@
 -- What a reader has read.
-use Rattle.std.proofs.Common.{Some, Option, ◌≡◌, inl, inr, Bool, true, false, cond, List, [], ◌∷◌, fold, refl, sym, ap, ◌∙◌, subst}
+use Rattle.std.proofs.Common.{Some, None, Option, ◌≡◌, inl, inr, Bool, true, false, cond, List, [], ◌∷◌, fold, refl, sym, ap, ◌∙◌, subst}
 use Rattle.std.specs.Map.{lookup}
 use Rattle.std.specs.Option.{option_map}
 use Rattle.value_bags.specs.Entries.{with_keys}
@@ -9,13 +9,19 @@ use Rattle.evmap_contents.specs.Fold.{made_with}
 use Rattle.evmap_contents.specs.Views.{contents}
 use Rattle.evmap_core.specs.declared.view.View.{View}
 use Rattle.evmap_core.specs.declared.store.Store.{Store}
-use Rattle.evmap_core.specs.Front.{Reads, NotYet, HasRead, Answers, Sees}
+use Rattle.evmap_core.specs.Front.{Reads, NotYet, HasRead, HasNotRead, Answers, Sees, IsFrontFor}
 
 module _ {K L B : Type 0} (eq : K → K → Bool) (plain : K → L) (same : L → L → Bool) (agrees : (a b : K) → eq a b ≡ same (plain a) (plain b)) where
   -- a look-up is seen through plain keys
   pub lookup-plain : (k : K) (es : List (K × B)) → lookup (eq k) es ≡ lookup (same (plain k)) (with_keys plain es)
   lookup-plain k [] = refl
   lookup-plain k (e ∷ es) = λ j. cond (agrees k e.0 j) (Some e.1) (lookup-plain k es j)
+
+module _ {L V M P : Type 0} (step : Contents L V M → Write L V M P → Contents L V M) where
+  -- a reader that is as before has read nothing
+  pub unread-same : (before after : Option (View L V M P)) → after ≡ before → HasNotRead step before after
+  unread-same None after e = e
+  unread-same (Some v) after e = (v, e, inl refl)
 
 module _ {K L : Type 0} (plain : K → L) {V M P : Type 0} (step : Contents L V M → Write L V M P → Contents L V M) {S X H : Type 0} where
   -- the copy that was seen is what the front leaves
@@ -32,6 +38,10 @@ module _ {K L : Type 0} (plain : K → L) {V M P : Type 0} (step : Contents L V 
       (v, u, b, a, contents plain x.inner, subst (λ (z : View L V M P). Reads step v z (contents plain x.inner)) (sym is) (reads v x w h), late, there)
 
   -- what a call answers of the front that it read, once the reader is back
-  pub answered : (found : Contents L V M → Type 0) (unread : Type 0) (before held after : Option (View L V M P)) (x : Store K V M P S X H) (w u : View L V M P) → held ≡ before
-      → (v : View L V M P) × (held ≡ Some v) × Sees plain step v x x w × (x.inner.ready ≡ true) → after ≡ Some u → u ≡ w → found (contents plain x.inner) → Answers step found unread before after
-  answered found unread before held after x w u same b a is there = inl (has-read found before after b.0 x w u (sym same ∙ b.1) a is b.2 b.3 there)
+  pub answered : (found : Contents L V M → Type 0) (unread : Type 0) (before after : Option (View L V M P)) (x : Store K V M P S X H) (w : View L V M P) → IsFrontFor plain step before x w → x.inner.ready ≡ true → after ≡ Some w → found (contents plain x.inner)
+      → Answers step found unread before after
+  answered found unread before after x w front late a there = inl (has-read found before after front.0 x w w front.1 a refl front.2 late there)
+
+  -- nor has one that found a front from before the first publish
+  pub unread-early : (before after : Option (View L V M P)) (x : Store K V M P S X H) (w : View L V M P) → IsFrontFor plain step before x w → after ≡ Some w → x.inner.ready ≡ false → HasNotRead step before after
+  unread-early before after x w front a early = subst (λ o. HasNotRead step o after) (sym front.1) (w, a, not-ready front.0 x w w front.2 refl early)

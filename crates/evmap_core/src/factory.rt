@@ -1,9 +1,8 @@
 //! What makes readers.
 ghost use Rattle.std.specs.Prelude.{◌≡◌, Some, IfOk, IfErr};
 ghost use Rattle.std.specs.Arc.{arc_value};
-ghost use Rattle.std.specs.Option.{option_map};
-ghost use Rattle.left_right.specs.Sides.{view};
 ghost use Rattle.evmap_core.specs.Front.{newcomer};
+ghost use Rattle.evmap_core.specs.Known.{known, table_of};
 ghost use Rattle.evmap_core.specs.declared.faults.EvmapFault.TheVariants.{NoPlace};
 
 use crate::published::Published;
@@ -42,7 +41,7 @@ pub(crate) fn keep_factory<
     from: &Factory<Store<K, V, M, P, S>, View<K::Plain, V, M, P>, Published>,
     reader: Reader<Store<K, V, M, P, S>, View<K::Plain, V, M, P>, Published>,
 ) -> Result<ReadHandle<K, V, M, P, S>, AllocError>
-    ensures { IfOk result (λ handle. handle.reader ≡ Some reader) }
+    ensures { IfOk result (λ handle. (handle.reader ≡ Some reader) × (table_of handle.factory ≡ (arc_value from.now.board).shared.table_id)) }
 {
     let factory = ReadHandleFactory {
         from: from.another()?,
@@ -63,7 +62,7 @@ pub(crate) fn make_reader<
 >(
     from: &Factory<Store<K, V, M, P, S>, View<K::Plain, V, M, P>, Published>,
 ) -> Result<ReadHandle<K, V, M, P, S>, AllocError>
-    ensures { IfOk result (λ handle. option_map (λ r. view r.place) handle.reader ≡ Some newcomer) }
+    ensures { IfOk result (λ handle. (known handle ≡ Some newcomer) × (table_of handle.factory ≡ (arc_value from.now.board).shared.table_id)) }
 {
     let reader = from.reader()?;
     keep_factory(from, reader)
@@ -76,9 +75,12 @@ impl<
     P: Keep<V> + Drop,
     S: BuildHasher + Drop,
 > ReadHandleFactory<K, V, M, P, S> {
+    ghost use Rattle.evmap_core.specs.Known.{IsOfOneMap};
+
     /// A new reader, which knows nothing yet.
     pub fn handle(&self) -> Result<ReadHandle<K, V, M, P, S>, EvmapFault>
-        ensures reader { IfOk result (λ handle. option_map (λ r. view r.place) handle.reader ≡ Some newcomer) }
+        ensures reader { IfOk result (λ handle. known handle ≡ Some newcomer) }
+        ensures map { IfOk result (λ handle. IsOfOneMap handle.factory self.now) }
         ensures err { IfErr result (λ e. e ≡ NoPlace) }
     {
         match make_reader(&self.from) {
@@ -88,7 +90,9 @@ impl<
     }
 
     /// Another factory of the same map.
-    pub fn clone(&self) -> Result<ReadHandleFactory<K, V, M, P, S>, Memory> {
+    pub fn clone(&self) -> Result<ReadHandleFactory<K, V, M, P, S>, Memory>
+        ensures map { IfOk result (λ factory. IsOfOneMap factory self.now) }
+    {
         match self.from.another() {
             Ok(from) => Ok(ReadHandleFactory { from }),
             Err(_) => Err(Memory),

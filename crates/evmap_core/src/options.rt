@@ -1,10 +1,9 @@
 //! How a map is made.
 ghost use Rattle.std.specs.Prelude.{◌≡◌, ◌<◌, Some, IfOk, IfErr};
-ghost use Rattle.std.specs.Option.{option_map};
-ghost use Rattle.left_right.specs.Sides.{view};
 ghost use Rattle.evmap_core.specs.declared.faults.EvmapFault.TheVariants as faults;
 ghost use Rattle.evmap_core.specs.Front.{newcomer};
-ghost use Rattle.evmap_core.specs.Handles.{IsNew};
+ghost use Rattle.evmap_core.specs.Handles.{IsNew, IsReaderOf};
+ghost use Rattle.evmap_core.specs.Known.{known};
 
 use crate::{EvmapFault, ReadHandle, WriteHandle};
 use evmap_contents::KeyClone;
@@ -102,7 +101,7 @@ impl<M: Drop, S: Drop> Options<M, S> {
     ) -> Result<(WriteHandle<K, V, M, P, S>, ReadHandle<K, V, M, P, S>), EvmapFault>
     where
         S: BuildHasher + Clone,
-        ensures made { IfOk result (λ t. IsNew K.plain t.0 self.meta × (option_map (λ r. view r.place) t.1.reader ≡ Some newcomer)) }
+        ensures made { IfOk result (λ t. IsNew K.plain t.0 self.meta × (known t.1 ≡ Some newcomer) × IsReaderOf t.0 t.1) }
         ensures err { IfErr result (λ e. e ≡ faults.Memory) }
     {
         let Ok(second) = self.hasher.clone() else {
@@ -124,7 +123,7 @@ impl<M: Drop, S: Drop> Options<M, S> {
     ) -> Result<(WriteHandle<K, V, M, P, S>, ReadHandle<K, V, M, P, S>), EvmapFault>
     where
         S: BuildHasher + Clone,
-        ensures made { IfOk result (λ t. IsNew K.plain t.0 self.meta × (option_map (λ r. view r.place) t.1.reader ≡ Some newcomer)) }
+        ensures made { IfOk result (λ t. IsNew K.plain t.0 self.meta × (known t.1 ≡ Some newcomer) × IsReaderOf t.0 t.1) }
         ensures err { IfErr result (λ e. e ≡ faults.Memory) }
     {
         self.construct(rt, alloc)
@@ -142,7 +141,7 @@ pub fn new<K: KeyClone + Drop, V: Eq + Hash + Drop, P: Keep<V> + Drop, R: Wait>(
     ),
     EvmapFault,
 >
-    ensures made { IfOk result (λ t. IsNew K.plain t.0 tt × (option_map (λ r. view r.place) t.1.reader ≡ Some newcomer)) }
+    ensures made { IfOk result (λ t. IsNew K.plain t.0 tt × (known t.1 ≡ Some newcomer) × IsReaderOf t.0 t.1) }
     ensures err { IfErr result (λ e. e ≡ faults.Memory) }
 {
     Options::default().construct(rt, alloc)
@@ -159,7 +158,7 @@ pub fn new_assert_stable<K: KeyClone + Drop, V: Eq + Hash + Drop, P: Keep<V> + D
     ),
     EvmapFault,
 >
-    ensures made { IfOk result (λ t. IsNew K.plain t.0 tt × (option_map (λ r. view r.place) t.1.reader ≡ Some newcomer)) }
+    ensures made { IfOk result (λ t. IsNew K.plain t.0 tt × (known t.1 ≡ Some newcomer) × IsReaderOf t.0 t.1) }
     ensures err { IfErr result (λ e. e ≡ faults.Memory) }
 {
     new(rt, alloc)
@@ -179,7 +178,7 @@ pub fn with_hasher<
     meta: M,
     hasher: S,
 ) -> Result<(WriteHandle<K, V, M, P, S>, ReadHandle<K, V, M, P, S>), EvmapFault>
-    ensures made { IfOk result (λ t. IsNew K.plain t.0 meta × (option_map (λ r. view r.place) t.1.reader ≡ Some newcomer)) }
+    ensures made { IfOk result (λ t. IsNew K.plain t.0 meta × (known t.1 ≡ Some newcomer) × IsReaderOf t.0 t.1) }
     ensures err { IfErr result (λ e. e ≡ faults.Memory) }
 {
     Options::default()

@@ -1,4 +1,4 @@
-use Rattle.std.proofs.Common.{◌≡◌, IsPermutation, subst}
+use Rattle.std.proofs.Common.{IsPermutation, subst}
 use Rattle.evmap_core.proofs.Samples.{ordered-sample}
 use Rattle.evmap_core.proofs.random.random_places.Goals as goal
 

@@ -5,3 +5,6 @@ use Rattle.evmap_core.proofs.tests.beside.Goals as goal
 
 pub join-requires-send-F : goal.join-requires-send-F
 join-requires-send-F g c κs within = search (sendable, crosses, Handle-send) depth 40
+
+pub join-requires-send-A : goal.join-requires-send-A
+join-requires-send-A g c κs within = search (sendable, crosses, Handle-send) depth 40

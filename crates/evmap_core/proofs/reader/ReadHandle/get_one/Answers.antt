@@ -1,34 +1,19 @@
-use Rattle.std.proofs.Common.{◌≡◌, ◌<◌, Some, refl, sym, ap, ◌∙◌, subst}
+use Rattle.std.proofs.Common.{◌≡◌, refl, subst}
 use Rattle.std.specs.Map.{lookup}
-use Rattle.std.specs.Option.{option_map}
+use Rattle.evmap_core.specs.Asked.{count_at}
 use Rattle.left_right.specs.Sides.{view}
 use Rattle.evmap_contents.specs.Fold.{after}
 use Rattle.evmap_contents.specs.Views.{contents}
-use Rattle.evmap_core.specs.Asked.{bag_at, count_at}
 use Rattle.evmap_core.proofs.Readings.{answered}
 use Rattle.evmap_core.proofs.reader.ReadHandle.get_one.Goals as goal
 
-pub returns-in-Some : goal.returns-in-Some
-returns-in-Some g c = (
-  (refl, λ w. refl, tt),
-  record {
-    rests = tt;
-    same_reference = refl;
-    front = (c.in-Ok.ensures.0, sym (ap (option_map (λ r. view r.place)) c.take.ensures.value) ∙ c.in-Ok.ensures.1, c.in-Ok.ensures.2, c.in-Ok.ensures.3);
-    bag =
-        subst (λ s. let z = contents g.K.KeyClone.plain s.inner in let found = lookup (g.K.KeyClone.same (g.K.KeyClone.plain c.args.key.now)) z.entries in (bag_at z (Some c.in-Some.place) ≡ found) × (0 < count_at found)) c.get.ensures
-        c.in-Some.ensures;
-  },
-)
-
-pub returns-in-None : goal.returns-in-None
-returns-in-None g c = (
+pub returns-in-None-filled_place_of : goal.returns-in-None-filled_place_of
+returns-in-None-filled_place_of g c = (
   (
     refl,
     λ w. tt,
-    answered g.K.KeyClone.plain (after g.K.KeyClone.same g.V.PartialEq.eq g.P.Keep.keeps) _ _ _ _ _ c.in-Ok.reading.part.value (view c.in-Ok.reading.place) (view c.leave.result.place)
-        (ap (option_map (λ r. view r.place)) c.take.ensures.value) c.in-Ok.ensures (ap (option_map (λ r. view r.place)) c.put_back.ensures) c.leave.ensures.1
-        (subst (λ s. let z = contents g.K.KeyClone.plain s.inner in count_at (lookup (g.K.KeyClone.same (g.K.KeyClone.plain c.args.key.now)) z.entries) ≡ 0) c.get.ensures c.in-None.ensures),
+    answered g.K.KeyClone.plain (after g.K.KeyClone.same g.V.PartialEq.eq g.P.Keep.keeps) _ _ _ _ c.in-Some.reading.part.value (view c.in-Some.reading.place) c.in-Some.ensures.0 c.in-Some.ensures.1 c.leave.ensures
+        (subst (λ s. let z = contents g.K.KeyClone.plain s.inner in count_at (lookup (g.K.KeyClone.same (g.K.KeyClone.plain c.args.key.now)) z.entries) ≡ 0) c.get.ensures c.in-None-filled_place_of.ensures),
   ),
   record { rests = tt; same_reference = tt; front = tt; bag = tt },
 )
