@@ -1,5 +1,5 @@
 //! What a key has to be.
-ghost use Rattle.std.specs.Prelude.{◌≡◌, Bool, IfOk};
+ghost use Rattle.std.specs.Prelude.{◌≡◌, Bool, IfOk, IsOk};
 
 use metrics_core::Memory;
 use std::alloc::Global;
@@ -35,7 +35,11 @@ impl KeyClone for u32 {
 
     ghost same = { nat_eq };
 
-    fn clone_key(&self, _alloc: Global) -> Result<u32, Memory> {
+    // It takes no memory.
+    fn clone_key(&self, _alloc: Global) -> Result<u32, Memory>
+        ensures copied { IfOk result (λ copy. copy ≡ self.now) }
+        ensures no_memory { IsOk result }
+    {
         Ok(*self)
     }
 

@@ -85,7 +85,8 @@ impl<
     }
 
     /// Publishes, marks that many keys at random for removal, and gives them with their bags in the map's order. The next
-    /// publish removes them. All are marked where the map has fewer. At `Err` nothing is marked.
+    /// publish removes them. All are marked where the map has fewer. At `Err` nothing is marked, whether it has published or
+    /// not. It waits as `publish` does.
     pub fn empty_random<R: Rng, W: Wait>(
         &mut self,
         rt: &W,
