@@ -1,8 +1,6 @@
 -- What a reader has read.
-use Rattle.std.proofs.Common.{Some, None, Option, ◌≡◌, inl, inr, Bool, true, false, cond, List, [], ◌∷◌, fold, refl, sym, ap, ◌∙◌, subst}
-use Rattle.std.specs.Map.{lookup}
+use Rattle.std.proofs.Common.{Some, None, Option, ◌≡◌, inl, inr, true, false, fold, refl, sym, ap, ◌∙◌, subst}
 use Rattle.std.specs.Option.{option_map}
-use Rattle.value_bags.specs.Entries.{with_keys}
 use Rattle.evmap_contents.specs.declared.write.Write.{Write}
 use Rattle.evmap_contents.specs.declared.write.Contents.{Contents}
 use Rattle.evmap_contents.specs.Fold.{made_with}
@@ -10,12 +8,6 @@ use Rattle.evmap_contents.specs.Views.{contents}
 use Rattle.evmap_core.specs.declared.view.View.{View}
 use Rattle.evmap_core.specs.declared.store.Store.{Store}
 use Rattle.evmap_core.specs.Front.{Reads, NotYet, HasRead, HasNotRead, Answers, Sees, IsFrontFor}
-
-module _ {K L B : Type 0} (eq : K → K → Bool) (plain : K → L) (same : L → L → Bool) (agrees : (a b : K) → eq a b ≡ same (plain a) (plain b)) where
-  -- a look-up is seen through plain keys
-  pub lookup-plain : (k : K) (es : List (K × B)) → lookup (eq k) es ≡ lookup (same (plain k)) (with_keys plain es)
-  lookup-plain k [] = refl
-  lookup-plain k (e ∷ es) = λ j. cond (agrees k e.0 j) (Some e.1) (lookup-plain k es j)
 
 module _ {L V M P : Type 0} (step : Contents L V M → Write L V M P → Contents L V M) where
   -- a reader that is as before has read nothing
