@@ -55,9 +55,9 @@ impl Calls {
 }
 
 /// Moves bytes to the front of a buffer, as many as there are, as it has room for, and as are wanted.
-fn copy_front(from: &[u8], most: usize, into: &mut [u8]) -> usize
+fn copy_prefix(from: &[u8], most: usize, into: &mut [u8]) -> usize
     ensures count { result ≡ min (min (length from.now) most) (length into.old) }
-    ensures front { into.new ≡ take result from.now ++ drop result into.old }
+    ensures prefix { into.new ≡ take result from.now ++ drop result into.old }
 {
     let count = from.len().min(most).min(into.len());
     into[..count].copy_from_slice(&from[..count]);
@@ -133,7 +133,7 @@ impl Source for MemorySource {
             self.calls.fault();
             return Err(Failed);
         }
-        let count = copy_front(&self.bytes[self.at..], self.most, buf);
+        let count = copy_prefix(&self.bytes[self.at..], self.most, buf);
         self.at += count;
         Ok(count)
     }
@@ -168,7 +168,7 @@ impl<'a> Source for ByteSource<'a> {
     ghost faults = { λ _. 0 };
 
     fn read(&mut self, buf: &mut [u8]) -> Result<usize, Failed> {
-        let count = copy_front(self.rest, self.rest.len(), buf);
+        let count = copy_prefix(self.rest, self.rest.len(), buf);
         self.rest = &self.rest[count..];
         Ok(count)
     }

@@ -13,7 +13,7 @@ ghost use Rattle.std.specs.Prelude.{
   OnErr,
   OnOk,
 };
-ghost use Rattle.metrics_core.specs.Outside.{Rose, GrewBy, GrewByFront};
+ghost use Rattle.metrics_core.specs.Outside.{Rose, GrewBy, GrewByPrefix};
 
 use crate::Failed;
 
@@ -36,10 +36,10 @@ pub trait Sink {
         ensures never_falls { faults self.old ≤ faults self.new };
 }
 
-/// Writes a whole piece, in as many writes as the sink wants. Where a write fails, a front of the piece was written.
+/// Writes a whole piece, in as many writes as the sink wants. Where a write fails, a prefix of the piece was written.
 pub fn write_whole<K: Sink>(sink: &mut K, piece: &[u8]) -> Result<(), Failed>
     ensures whole { OnOk result (GrewBy (K.written sink.old) (K.written sink.new) piece.now) }
-    ensures front { OnErr result (GrewByFront (K.written sink.old) (K.written sink.new) piece.now) }
+    ensures prefix { OnErr result (GrewByPrefix (K.written sink.old) (K.written sink.new) piece.now) }
     ensures cause { OnErr result (Rose (K.faults sink.old) (K.faults sink.new)) }
     ensures never_falls { K.faults sink.old ≤ K.faults sink.new }
 {

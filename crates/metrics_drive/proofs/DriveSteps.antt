@@ -1,7 +1,7 @@
 -- From the parts of a run to what it says as a whole.
 use Rattle.std.proofs.Common.{◌≡◌, ℕ, ◌≤◌, ◌⊎◌, inl, inr, List, length, refl, subst, arith}
 use Rattle.std.specs.Prelude.{Option, Some, None, IfSome}
-use Rattle.metrics_core.specs.Outside.{Rose, GrewBy, GrewByFront}
+use Rattle.metrics_core.specs.Outside.{Rose, GrewBy, GrewByPrefix}
 use Rattle.drive_script.specs.Script.{ScriptText, lines_of}
 use Rattle.drive_script.specs.Valid.{IsScriptOf}
 use Rattle.drive_script.proofs.Laws.{beginnings}
@@ -10,7 +10,7 @@ use Rattle.drive_script.specs.declared.faults.DriveFault.{DriveFault}
 use Rattle.drive_script.specs.declared.faults.DriveFault.TheVariants as faults
 use Rattle.metrics_drive.specs.Headline.{IsPlayed, IsPlayedInPart, IsGoodScript, script_limit}
 use Rattle.metrics_drive.specs.Orders.{ForSomeRun, run_text}
-use Rattle.metrics_drive.specs.Answers.{IsComplete, IsBadScript, IsTooLong, IsPlayFault, LeavesFront, fault_status}
+use Rattle.metrics_drive.specs.Answers.{IsComplete, IsBadScript, IsTooLong, IsPlayFault, LeavesPrefix, fault_status}
 use Rattle.metrics_drive.specs.Reading.{IsReadFault}
 use Rattle.metrics_drive.proofs.RunPages.{run_is_pages}
 
@@ -73,23 +73,23 @@ played_whole (Some bytes) items script written written' whole within reading gre
     subst P whole (record { script = script; reading = (within, reading); text = run_text script grew.0; pages = run_is_pages script grew.0 grew.1; grew = grew.2 })
 
 -- a script read whole and played in part
-pub played_front : (left : Option (List ℕ)) (items : List ℕ) (script : ScriptText) (written written' : Option (List ℕ)) (K : Type 0) (fault : DriveFault)
-    → IfSome left (λ bytes. items ≡ bytes) → length items ≤ script_limit → IsScriptOf items script → ForSomeRun script (GrewByFront written written')
-    → IsPlayFault K fault → IfSome left (λ bytes. LeavesFront bytes written written' fault)
-played_front None items script written written' K fault whole within reading grew cause = tt
-played_front (Some bytes) items script written written' K fault whole within reading grew cause =
-    let P : List ℕ → Type 0 = λ b. LeavesFront b written written' fault in
+pub played_prefix : (left : Option (List ℕ)) (items : List ℕ) (script : ScriptText) (written written' : Option (List ℕ)) (K : Type 0) (fault : DriveFault)
+    → IfSome left (λ bytes. items ≡ bytes) → length items ≤ script_limit → IsScriptOf items script → ForSomeRun script (GrewByPrefix written written')
+    → IsPlayFault K fault → IfSome left (λ bytes. LeavesPrefix bytes written written' fault)
+played_prefix None items script written written' K fault whole within reading grew cause = tt
+played_prefix (Some bytes) items script written written' K fault whole within reading grew cause =
+    let P : List ℕ → Type 0 = λ b. LeavesPrefix b written written' fault in
     subst P whole (by fault cause)
   where
-    front : IsPlayedInPart items written written'
-    front = record { script = script; reading = (within, reading); text = run_text script grew.0; pages = run_is_pages script grew.0 grew.1; grew = grew.2 }
+    prefix : IsPlayedInPart items written written'
+    prefix = record { script = script; reading = (within, reading); text = run_text script grew.0; pages = run_is_pages script grew.0 grew.1; grew = grew.2 }
 
-    by : (f : DriveFault) → IsPlayFault K f → LeavesFront items written written' f
+    by : (f : DriveFault) → IsPlayFault K f → LeavesPrefix items written written' f
     by (faults.Script l) c = tt
     by faults.TooLong c = tt
     by faults.ReadFault c = tt
-    by faults.WriteFault c = front
-    by faults.Memory c = inr front
+    by faults.WriteFault c = prefix
+    by faults.Memory c = inr prefix
 
 -- completeness, where the script was found good
 pub good_answers : (left : Option (List ℕ)) (items : List ℕ) (S K : Type 0) (script : ScriptText) (status : ℕ)

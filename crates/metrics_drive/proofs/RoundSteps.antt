@@ -1,8 +1,8 @@
 -- A round from its parts, and the rounds of a script one after another.
 use Rattle.std.proofs.Common.{◌≡◌, ℕ, ◌+◌, ◌<◌, List, [], ◌∷◌, length, map, drop, drop-cons, get_or, suc, add-one, refl, sym, ap, subst, ◌∙◌}
 use Rattle.std.specs.Prelude.{Result, Ok, Err, OnOk, OnErr, Option}
-use Rattle.metrics_core.specs.Outside.{GrewBy, GrewByFront, GrewUpTo}
-use Rattle.metrics_core.proofs.Grown.{grew_none, grew_up_to-append, grew_up_to-end, grew_up_to-front, grew_up_to-start}
+use Rattle.metrics_core.specs.Outside.{GrewBy, GrewByPrefix, GrewUpTo}
+use Rattle.metrics_core.proofs.Grown.{grew_none, grew_up_to-append, grew_up_to-end, grew_up_to-prefix, grew_up_to-start}
 use Rattle.prom_format.specs.Pages.{page_text}
 use Rattle.prom_exporter.specs.State.{page_step}
 use Rattle.prom_exporter.specs.Families.{families_at}
@@ -45,13 +45,13 @@ round_ended (Err v) settings p x y round written written' page some stepped grew
 
 pub round_cut : {T E : Type 0} (r : Result T E) (settings : SettingsText) (p y : PlayState) (round : RoundText) (written written' : Option (List ℕ)) (page : List ℕ)
     → ForSomeOrders p round (λ orders. (y ≡ after_round settings p round orders) × (page ≡ round_text settings p round orders))
-    → OnErr r (GrewByFront written written' page)
-    → OnErr r (ForSomeOrders p round (λ orders. GrewByFront written written' (round_text settings p round orders)))
+    → OnErr r (GrewByPrefix written written' page)
+    → OnErr r (ForSomeOrders p round (λ orders. GrewByPrefix written written' (round_text settings p round orders)))
 round_cut (Ok v) settings p y round written written' page some grew = tt
-round_cut (Err v) settings p y round written written' page (orders, legal, (state, text)) grew = (orders, legal, subst (GrewByFront written written') text grew)
+round_cut (Err v) settings p y round written written' page (orders, legal, (state, text)) grew = (orders, legal, subst (GrewByPrefix written written') text grew)
 
 -- where no page was begun
-pub round_unbegun : (settings : SettingsText) (p : PlayState) (round : RoundText) (told : Option (List ℕ)) → ForSomeOrders p round (λ orders. GrewByFront told told (round_text settings p round orders))
+pub round_unbegun : (settings : SettingsText) (p : PlayState) (round : RoundText) (told : Option (List ℕ)) → ForSomeOrders p round (λ orders. GrewByPrefix told told (round_text settings p round orders))
 round_unbegun settings p round told = (orders_in_turn p round, (λ kind. orders_of_kind (after_setup p round) round kind), grew_none told _)
 
 -- ---- rounds
@@ -72,12 +72,12 @@ so_far-round script p q round rounds a b c so_far (orders, legal, (state, grew))
     (longer.0, longer.1, grew_up_to-append a b c (run_text script longer.0) (round_text script.settings p round orders) (rounds_text script.settings (after_round script.settings p round orders) rounds rest) longer.2 grew))
 
 pub so_far-cut : (script : ScriptText) (p : PlayState) (round : RoundText) (rounds : List RoundText) (a b c : Option (List ℕ)) → IsSoFar script p (round ∷ rounds) a b
-    → ForSomeOrders p round (λ orders. GrewByFront b c (round_text script.settings p round orders)) → ForSomeRun script (GrewByFront a c)
+    → ForSomeOrders p round (λ orders. GrewByPrefix b c (round_text script.settings p round orders)) → ForSomeRun script (GrewByPrefix a c)
 so_far-cut script p round rounds a b c so_far (orders, legal, grew) =
     let after = after_round script.settings p round orders in
     let rest = orders_along script.settings after rounds in
     let whole = so_far (orders ∷ rest) (legal, orders_legal script.settings after rounds) in
-    (whole.0, whole.1, grew_up_to-front a b c (run_text script whole.0) (round_text script.settings p round orders) (rounds_text script.settings after rounds rest) whole.2 grew)
+    (whole.0, whole.1, grew_up_to-prefix a b c (run_text script whole.0) (round_text script.settings p round orders) (rounds_text script.settings after rounds rest) whole.2 grew)
 
 pub so_far-end : (script : ScriptText) (p : PlayState) (rounds : List RoundText) (a b : Option (List ℕ)) → rounds ≡ [] → IsSoFar script p rounds a b → ForSomeRun script (GrewBy a b)
 so_far-end script p rounds a b none so_far =
@@ -85,7 +85,7 @@ so_far-end script p rounds a b none so_far =
     (whole.0, whole.1, grew_up_to-end a b (run_text script whole.0) [] refl whole.2)
 
 -- a run of which nothing was written
-pub unbegun : (script : ScriptText) (told : Option (List ℕ)) → ForSomeRun script (GrewByFront told told)
+pub unbegun : (script : ScriptText) (told : Option (List ℕ)) → ForSomeRun script (GrewByPrefix told told)
 unbegun script told = (orders_along script.settings play_start script.rounds, orders_legal script.settings play_start script.rounds, grew_none told _)
 
 -- a round and those behind it

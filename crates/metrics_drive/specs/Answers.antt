@@ -51,11 +51,11 @@ LeavesUnplayed written written' faults.TooLong = written' ≡ written
 LeavesUnplayed written written' faults.ReadFault = written' ≡ written
 LeavesUnplayed written written' _ = Unit {0}
 
--- a failed write leaves a front of the pages of a run, and want of memory such a front or nothing
-abbrev pub LeavesFront : List ℕ → Option (List ℕ) → Option (List ℕ) → DriveFault → Type 0
-LeavesFront bytes written written' faults.WriteFault = IsPlayedInPart bytes written written'
-LeavesFront bytes written written' faults.Memory = (written' ≡ written) ⊎ IsPlayedInPart bytes written written'
-LeavesFront bytes written written' _ = Unit {0}
+-- a failed write leaves a prefix of the pages of a run, and want of memory such a prefix or nothing
+abbrev pub LeavesPrefix : List ℕ → Option (List ℕ) → Option (List ℕ) → DriveFault → Type 0
+LeavesPrefix bytes written written' faults.WriteFault = IsPlayedInPart bytes written written'
+LeavesPrefix bytes written written' faults.Memory = (written' ≡ written) ⊎ IsPlayedInPart bytes written written'
+LeavesPrefix bytes written written' _ = Unit {0}
 
 -- ---- statuses
 

@@ -1,6 +1,6 @@
 -- What a run of a script writes.
 use Rattle.std.specs.Prelude.{◌≡◌, ℕ, ◌≤◌, List, [], ◌∷◌, ◌++◌, length, Option}
-use Rattle.metrics_core.specs.Outside.{GrewBy, GrewByFront}
+use Rattle.metrics_core.specs.Outside.{GrewBy, GrewByPrefix}
 use Rattle.prom_format.specs.Pages.{Family, IsPage}
 use Rattle.drive_script.specs.Script.{ScriptText}
 use Rattle.drive_script.specs.Valid.{IsScriptOf}
@@ -35,10 +35,10 @@ pub record IsPlayed (bytes : List ℕ) (written written' : Option (List ℕ)) : 
   pub pages : IsPagesOf script text
   pub grew : GrewBy written written' text
 
--- the bytes are a valid script, and what the sink tells grew by a front of the pages of its run
+-- the bytes are a valid script, and what the sink tells grew by a prefix of the pages of its run
 pub record IsPlayedInPart (bytes : List ℕ) (written written' : Option (List ℕ)) : Type 0 where
   pub script : ScriptText
   pub reading : IsGoodScript bytes script
   pub text : List ℕ
   pub pages : IsPagesOf script text
-  pub grew : GrewByFront written written' text
+  pub grew : GrewByPrefix written written' text

@@ -9,7 +9,7 @@ ghost use Rattle.metrics_drive.specs.Answers.{
   HasDeviceCause,
   HasRounds,
   IsComplete,
-  LeavesFront,
+  LeavesPrefix,
   LeavesUnplayed,
 };
 ghost use Rattle.metrics_drive.specs.Headline.{IsPlayed};
@@ -45,7 +45,7 @@ pub fn drive<R: Threads + Wait + Sync, S: Source, K: Sink, G: Gate + Sync>(
 
     // What each fault leaves.
     ensures unplayed { IfErr result (LeavesUnplayed (K.written out.old) (K.written out.new)) }
-    ensures front { IfErr result (λ fault. IfSome (S.left source.old) (λ bytes. LeavesFront bytes (K.written out.old) (K.written out.new) fault)) }
+    ensures prefix { IfErr result (λ fault. IfSome (S.left source.old) (λ bytes. LeavesPrefix bytes (K.written out.old) (K.written out.new) fault)) }
 
     // Each cause brings its answer.
     ensures complete { IfSome (S.left source.old) (λ bytes.

@@ -1,7 +1,7 @@
 //! The play of a script: what each round does to the exporter, and the page that it writes.
 
 ghost use Rattle.std.specs.Prelude.{◌≡◌, ◌≤◌, [], fold, map, length, IfOk, IfErr, OnOk, OnErr};
-ghost use Rattle.metrics_core.specs.Outside.{Rose, GrewBy, GrewByFront};
+ghost use Rattle.metrics_core.specs.Outside.{Rose, GrewBy, GrewByPrefix};
 ghost use Rattle.drive_script.specs.Texts.{script_of, settings_of, round_of};
 ghost use Rattle.metrics_drive.specs.Answers.{IsPlayFault, report_of};
 ghost use Rattle.metrics_drive.specs.Built.{AreBuiltRounds};
@@ -32,7 +32,7 @@ pub fn play<R: Threads + Wait + Sync, G: Gate + Sync, K: Sink>(
     requires fit { CallsFit [] (map round_of script.now.rounds.items) }
     ensures pages { OnOk result (ForSomeRun (script_of script.now) (GrewBy (K.written out.old) (K.written out.new))) }
     ensures counted { IfOk result (λ report. report ≡ report_of (length script.now.rounds.items)) }
-    ensures front { OnErr result (ForSomeRun (script_of script.now) (GrewByFront (K.written out.old) (K.written out.new))) }
+    ensures prefix { OnErr result (ForSomeRun (script_of script.now) (GrewByPrefix (K.written out.old) (K.written out.new))) }
     ensures cause { IfErr result (IsPlayFault (Rose (K.faults out.old) (K.faults out.new))) }
     ensures never_falls { K.faults out.old ≤ K.faults out.new }
 {
@@ -63,7 +63,7 @@ pub struct Player {
 
 impl Player {
     ghost use Rattle.std.specs.Prelude.{◌≡◌, ◌≤◌, ℕ, All, [], ◌∷◌, fold, map, IfOk, IfErr, OnOk, OnErr};
-    ghost use Rattle.metrics_core.specs.Outside.{Rose, GrewBy, GrewByFront};
+    ghost use Rattle.metrics_core.specs.Outside.{Rose, GrewBy, GrewByPrefix};
     ghost use Rattle.prom_format.specs.Pages.{page_text};
     ghost use Rattle.prom_exporter.specs.State.{page_step};
     ghost use Rattle.prom_exporter.specs.Exporter.{AllHome, page_families, state_of as prometheus_of};
@@ -111,9 +111,9 @@ impl Player {
             → OnOk result (ForSomeOrders (state_of self.old) (round_of round.now) (λ orders.
             (state_of self.new ≡ after_round settings (state_of self.old) (round_of round.now) orders)
             × GrewBy (K.written out.old) (K.written out.new) (round_text settings (state_of self.old) (round_of round.now) orders))) }
-        ensures front { (settings : SettingsText) → self.old.exporter.settings ≡ exporter_settings settings
+        ensures prefix { (settings : SettingsText) → self.old.exporter.settings ≡ exporter_settings settings
             → OnErr result (ForSomeOrders (state_of self.old) (round_of round.now) (λ orders.
-            GrewByFront (K.written out.old) (K.written out.new) (round_text settings (state_of self.old) (round_of round.now) orders))) }
+            GrewByPrefix (K.written out.old) (K.written out.new) (round_text settings (state_of self.old) (round_of round.now) orders))) }
         ensures cause { IfErr result (IsPlayFault (Rose (K.faults out.old) (K.faults out.new))) }
         ensures never_falls { K.faults out.old ≤ K.faults out.new }
     {
@@ -191,7 +191,7 @@ impl Player {
         ensures same { self.new.exporter ≡ self.old.exporter }
         ensures stepped { OnOk result (state_of self.new ≡ record (state_of self.old) { prometheus = page_step self.old.exporter.settings.idle moment (prometheus_of self.old.exporter) }) }
         ensures page { OnOk result (GrewBy (K.written out.old) (K.written out.new) (page_text (page_families moment self.old.exporter))) }
-        ensures front { OnErr result (GrewByFront (K.written out.old) (K.written out.new) (page_text (page_families moment self.old.exporter))) }
+        ensures prefix { OnErr result (GrewByPrefix (K.written out.old) (K.written out.new) (page_text (page_families moment self.old.exporter))) }
         ensures cause { IfErr result (IsPlayFault (Rose (K.faults out.old) (K.faults out.new))) }
         ensures never_falls { K.faults out.old ≤ K.faults out.new }
     {

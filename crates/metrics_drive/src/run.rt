@@ -50,9 +50,9 @@ pub fn run<R: Threads + Wait + Sync, S: Source, K: Sink, E: Sink, G: Gate + Sync
     ensures read_failed { result ≡ 6 → Rose (S.faults source.old) (S.faults source.new) }
     ensures write_failed { result ≡ 7 → Rose (K.faults out.old) (K.faults out.new) }
 
-    // After 2, 3, 5 and 6 nothing was written; after 7 a front of the pages; after 8 a front or nothing.
+    // After 2, 3, 5 and 6 nothing was written; after 7 a prefix of the pages; after 8 a prefix or nothing.
     ensures unplayed { IsUnplayed result → K.written out.new ≡ K.written out.old }
-    ensures front { result ≡ 7 → IfSome (S.left source.old) (λ bytes. IsPlayedInPart bytes (K.written out.old) (K.written out.new)) }
+    ensures prefix { result ≡ 7 → IfSome (S.left source.old) (λ bytes. IsPlayedInPart bytes (K.written out.old) (K.written out.new)) }
     ensures no_memory { result ≡ 8 → IfSome (S.left source.old) (λ bytes.
         (K.written out.new ≡ K.written out.old) ⊎ IsPlayedInPart bytes (K.written out.old) (K.written out.new)) }
 

@@ -47,8 +47,8 @@ no_socket_behind text behind e none (Socket.V6 a) (behind', e', h) =
     none a (subst (λ (t : List ℕ). IsSocketV6Behind t a) same h)
 
 pub no_socket : (text : List ℕ) → ((rest : List ℕ) → text ≢ 91 ∷ rest) → ((b : SocketAddrV4) → ¬ (IsSocketV4 text b)) → (a : SocketAddr) → ¬ (IsSocket text a)
-no_socket text no_front none (Socket.V4 a) h = none a h
-no_socket text no_front none (Socket.V6 a) (behind, e, _) = no_front behind e
+no_socket text no_prefix none (Socket.V4 a) h = none a h
+no_socket text no_prefix none (Socket.V6 a) (behind, e, _) = no_prefix behind e
 
 same_number : (most : ℕ) (text : List ℕ) (m n : ℕ) → most < 2 ^ 64 → IsNumber most text m → IsNumber most text n → m ≡ n
 same_number most text m n wide h k = decimal_injective m n (omega (arith, h.0)) (omega (arith, k.0)) (sym h.1 ∙ k.1)

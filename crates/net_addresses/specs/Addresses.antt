@@ -56,15 +56,15 @@ IsNetwork text network =
     ⊎ ((ip length : List ℕ) × (text ≡ ip ++ (codes "/" ++ length)) × IsNetworkOf ip length network)
 
 -- the first bits of a number of so many bits, as a number: what is left without the bits behind them
-abbrev pub front_bits : ℕ → ℕ → ℕ → ℕ
-front_bits width prefix bits = bits / 2 ^ (width - prefix)
+abbrev pub prefix_bits : ℕ → ℕ → ℕ → ℕ
+prefix_bits width prefix bits = bits / 2 ^ (width - prefix)
 
 -- two addresses of one family have the same first bits
-abbrev pub SameFront : ℕ → IpAddr → IpAddr → Type 0
-SameFront prefix (Ip.V4 a) (Ip.V4 b) = front_bits 32 prefix (ipv4_bits a) ≡ front_bits 32 prefix (ipv4_bits b)
-SameFront prefix (Ip.V6 a) (Ip.V6 b) = front_bits 128 prefix (ipv6_bits a) ≡ front_bits 128 prefix (ipv6_bits b)
-SameFront prefix _ _ = ⊥
+abbrev pub SamePrefix : ℕ → IpAddr → IpAddr → Type 0
+SamePrefix prefix (Ip.V4 a) (Ip.V4 b) = prefix_bits 32 prefix (ipv4_bits a) ≡ prefix_bits 32 prefix (ipv4_bits b)
+SamePrefix prefix (Ip.V6 a) (Ip.V6 b) = prefix_bits 128 prefix (ipv6_bits a) ≡ prefix_bits 128 prefix (ipv6_bits b)
+SamePrefix prefix _ _ = ⊥
 
 -- the network holds the address
 abbrev pub Holds : NetworkText → IpAddr → Type 0
-Holds network address = SameFront network.prefix network.address address
+Holds network address = SamePrefix network.prefix network.address address

@@ -2,7 +2,7 @@
 
 ghost use Rattle.std.specs.Prelude.{◌≡◌, ◌-◌, ◌/◌, ◌^◌, ◌<◌, ◌≤◌, ◌↔◌, IsTrue};
 ghost use Rattle.net_addresses.specs.Readings.{Reads, HasOneReading};
-ghost use Rattle.net_addresses.specs.Addresses.{IsNetwork, Holds, family_bits, front_bits};
+ghost use Rattle.net_addresses.specs.Addresses.{IsNetwork, Holds, family_bits, prefix_bits};
 
 use crate::numbers::read_number;
 use crate::parts::parts_round;
@@ -45,7 +45,7 @@ fn first_bits(width: u8, prefix: u8, bits: u128) -> u128
     requires prefix { prefix ≤ width }
     requires width { width ≤ 128 }
     requires bits { bits < 2 ^ width }
-    ensures { result ≡ front_bits width prefix bits }
+    ensures { result ≡ prefix_bits width prefix bits }
 {
     if prefix == 0 {
         0

@@ -1,10 +1,10 @@
 -- Bytes that go to a sink in pieces: what was sent, and what waits.
 use Rattle.std.proofs.Common.{◌≡◌, ℕ, List, [], ◌++◌, refl, sym, ap, subst, ◌∙◌, append-nil, append_assoc}
 use Rattle.std.specs.Prelude.{Option, Some, None, Result, Ok, Err, OnOk, OnErr}
-use Rattle.metrics_core.specs.Outside.{GrewBy, GrewByFront}
-use Rattle.metrics_core.proofs.Grown.{grew_none, grew-append, grew_front-append, grew_front-longer}
+use Rattle.metrics_core.specs.Outside.{GrewBy, GrewByPrefix}
+use Rattle.metrics_core.proofs.Grown.{grew_none, grew-append, grew_prefix-append, grew_prefix-longer}
 
--- of some bytes a front was sent, and the others wait
+-- of some bytes a prefix was sent, and the others wait
 pub record IsSent (before now : Option (List ℕ)) (waiting bytes : List ℕ) : Type 0 where
   pub sent : List ℕ
   pub grew : GrewBy before now sent
@@ -34,14 +34,14 @@ module _ (a b : Option (List ℕ)) (waiting bytes : List ℕ) (so_far : IsSent a
     pub sent-again : GrewBy b c waiting → IsSent a c [] bytes
     sent-again more = record { sent = bytes; grew = sent_all more; spelled = sym (append-nil bytes) }
 
-    -- a front of what waits was sent
-    pub sent_front : GrewByFront b c waiting → (rest : List ℕ) → GrewByFront a c (bytes ++ rest)
-    sent_front more rest =
-        grew_front-longer a c bytes rest (subst (GrewByFront a c) (sym so_far.spelled) (grew_front-append a b c so_far.sent waiting so_far.grew more))
+    -- a prefix of what waits was sent
+    pub sent_prefix : GrewByPrefix b c waiting → (rest : List ℕ) → GrewByPrefix a c (bytes ++ rest)
+    sent_prefix more rest =
+        grew_prefix-longer a c bytes rest (subst (GrewByPrefix a c) (sym so_far.spelled) (grew_prefix-append a b c so_far.sent waiting so_far.grew more))
 
   -- nothing of it was
-  pub sent_nothing : (rest : List ℕ) → GrewByFront a b (bytes ++ rest)
-  sent_nothing rest = sent_front b (grew_none b waiting) rest
+  pub sent_nothing : (rest : List ℕ) → GrewByPrefix a b (bytes ++ rest)
+  sent_nothing rest = sent_prefix b (grew_none b waiting) rest
 
 -- ---- two parts, one behind the other
 
@@ -53,6 +53,6 @@ pub ok_behind : {T E : Type 0} (r : Result T E) (a b c : Option (List ℕ)) (x y
 ok_behind (Ok v) a b c x y first rest = grew-append a b c x y first rest
 ok_behind (Err e) a b c x y first rest = tt
 
-pub err_behind : {T E : Type 0} (r : Result T E) (a b c : Option (List ℕ)) (x y : List ℕ) → GrewBy a b x → OnErr r (GrewByFront b c y) → OnErr r (GrewByFront a c (x ++ y))
+pub err_behind : {T E : Type 0} (r : Result T E) (a b c : Option (List ℕ)) (x y : List ℕ) → GrewBy a b x → OnErr r (GrewByPrefix b c y) → OnErr r (GrewByPrefix a c (x ++ y))
 err_behind (Ok v) a b c x y first rest = tt
-err_behind (Err e) a b c x y first rest = grew_front-append a b c x y first rest
+err_behind (Err e) a b c x y first rest = grew_prefix-append a b c x y first rest

@@ -2,7 +2,7 @@
 
 ghost use Rattle.std.specs.Prelude.{◌≡◌, ◌≤◌, ◌++◌, map, OnOk, OnErr, string_bytes};
 ghost use Rattle.std.specs.Map.Iter.{deref_pair};
-ghost use Rattle.metrics_core.specs.Outside.{Rose, GrewBy, GrewByFront};
+ghost use Rattle.metrics_core.specs.Outside.{Rose, GrewBy, GrewByPrefix};
 ghost use Rattle.prom_format.specs.LabelSets.{labels_of};
 ghost use Rattle.prom_format.specs.Pages.{row_text, block_text, body_text};
 ghost use Rattle.prom_exporter.specs.Values.{group_of, value_row, value_family};
@@ -18,7 +18,7 @@ use std::alloc::Global;
 /// Where so many bytes of a page are in memory they go to the sink.
 const PIECE: usize = 64 * 1024;
 
-/// Writes the blocks of families of one type. Where the sink or the memory fails a front of them was written.
+/// Writes the blocks of families of one type. Where the sink or the memory fails a prefix of them was written.
 pub(crate) fn write_families<C: Shown, K: Sink>(
     alloc: Global,
     family_type: FamilyType,
@@ -28,7 +28,7 @@ pub(crate) fn write_families<C: Shown, K: Sink>(
 ) -> Result<(), BuildError>
     ensures body { OnOk result (GrewBy (K.written sink.old) (K.written sink.new)
         (body_text (map (value_family family_type C.shown (labels_of globals.now.entries)) (map group_of families.now.entries)))) }
-    ensures front { OnErr result (GrewByFront (K.written sink.old) (K.written sink.new)
+    ensures prefix { OnErr result (GrewByPrefix (K.written sink.old) (K.written sink.new)
         (body_text (map (value_family family_type C.shown (labels_of globals.now.entries)) (map group_of families.now.entries)))) }
     ensures cause { result ≡ Err BuildError.WriteFault → Rose (K.faults sink.old) (K.faults sink.new) }
     ensures never_falls { K.faults sink.old ≤ K.faults sink.new }

@@ -3,7 +3,7 @@
 ghost use Rattle.std.specs.Prelude.{◌≡◌, ◌-◌, ◌^◌, ◌<◌, ◌≤◌, ◌⊎◌, length, set, All, IsOk, IfOk, OnErr, OnOk, true, false};
 ghost use Rattle.metrics_core.specs.declared.kinds.MetricKind.TheVariants.{Counter, Gauge};
 ghost use Rattle.metrics_registry.specs.Live.{IsNumbered};
-ghost use Rattle.metrics_core.specs.Outside.{Rose, GrewBy, GrewByFront};
+ghost use Rattle.metrics_core.specs.Outside.{Rose, GrewBy, GrewByPrefix};
 ghost use Rattle.prom_format.specs.LabelSets.{labels_of};
 ghost use Rattle.series_cells.specs.Values.{call_of};
 ghost use Rattle.series_cells.specs.Pass.{view_of};
@@ -303,7 +303,7 @@ impl PrometheusState {
 
     /// Writes the page's body at a moment, in nanoseconds (Prometheus text exposition format, version 0.0.4). It shows each
     /// series after a beginning of its cell's history that has all that the exporter had seen; where no pass is out, after
-    /// all calls ever made. Where the sink fails a front of it was written.
+    /// all calls ever made. Where the sink fails a prefix of it was written.
     pub fn render_to_write<K: Sink>(
         &mut self,
         alloc: Global,
@@ -315,7 +315,7 @@ impl PrometheusState {
         ensures stepped { state_of self.new ≡ page_step self.new.settings.idle moment (state_of self.new) }
 
         ensures body { OnOk result (GrewBy (K.written sink.old) (K.written sink.new) (page_body moment self.new)) }
-        ensures front { OnErr result (GrewByFront (K.written sink.old) (K.written sink.new) (page_body moment self.new)) }
+        ensures prefix { OnErr result (GrewByPrefix (K.written sink.old) (K.written sink.new) (page_body moment self.new)) }
 
         ensures cause { result ≡ Err BuildError.WriteFault → Rose (K.faults sink.old) (K.faults sink.new) }
         ensures never_falls { K.faults sink.old ≤ K.faults sink.new }

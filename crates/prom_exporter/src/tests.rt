@@ -143,7 +143,7 @@ fn a_lent_gauge_is_set(rt: HostRuntime) -> Result<(), Fail> {
 }
 
 #[test]
-fn a_sink_that_fails_leaves_a_front(rt: HostRuntime) -> Result<(), Fail> {
+fn a_sink_that_fails_leaves_a_prefix(rt: HostRuntime) -> Result<(), Fail> {
     let alloc = rt.alloc();
     let mut exporter = counted(alloc, &Key::from_static_name("basic_counter"), [42, 0])?;
     let mut sink = MemorySink::new(alloc, 16, Vec::from_slice(alloc, &[1])?);

@@ -1,4 +1,4 @@
-//! Matchers of metric names: by the whole name, its front or its end.
+//! Matchers of metric names: by the whole name, its prefix or its end.
 
 ghost use Rattle.std.specs.Prelude.{◌≡◌, IfOk, string_bytes};
 ghost use Rattle.prom_format.specs.Matchers.{fits, matcher_cmp, matcher_eq, sanitized_matcher, sanitized_or_empty};

@@ -4,7 +4,7 @@ use Rattle.metrics_core.specs.Outside.{Rose}
 use Rattle.drive_script.specs.Texts.{script_of}
 use Rattle.metrics_drive.specs.Headline.{script_limit}
 use Rattle.metrics_drive.proofs.BuiltRounds.{script_built}
-use Rattle.metrics_drive.proofs.DriveSteps.{played_whole, played_front, good_answers, play_faults, refused_answers}
+use Rattle.metrics_drive.proofs.DriveSteps.{played_whole, played_prefix, good_answers, play_faults, refused_answers}
 use Rattle.metrics_drive.proofs.drive.drive.Goals as goal
 
 pub play-requires-clause-built : goal.play-requires-clause-built
@@ -36,13 +36,13 @@ returns-in-Ok-play-clause-complete g c =
     (subst Whole (sym c.deref.ensures.value) c.in-Ok.ensures.whole) (subst Within (sym c.deref.ensures.value) c.in-Ok.ensures.within) c.in-Ok-read_script.ensures.valid
     (λ ok. inl refl)
 
-pub returns-clause-front : goal.returns-clause-front
-returns-clause-front g c =
+pub returns-clause-prefix : goal.returns-clause-prefix
+returns-clause-prefix g c =
     let Whole : List ℕ → Type 0 = λ items. IfSome (g.S.Source.left c.args.source.now) (λ bytes. items ≡ bytes) in
     let Within : List ℕ → Type 0 = λ items. length items ≤ script_limit in
-    played_front _ c.deref.result.now (script_of c.in-Ok-read_script.script) _ _ (Rose (g.K.Sink.faults c.args.out.now) (g.K.Sink.faults c.play.new.out)) c.in-Err-play.fault
+    played_prefix _ c.deref.result.now (script_of c.in-Ok-read_script.script) _ _ (Rose (g.K.Sink.faults c.args.out.now) (g.K.Sink.faults c.play.new.out)) c.in-Err-play.fault
     (subst Whole (sym c.deref.ensures.value) c.in-Ok.ensures.whole) (subst Within (sym c.deref.ensures.value) c.in-Ok.ensures.within) c.in-Ok-read_script.ensures.valid
-    c.in-Err-play.ensures.front c.in-Err-play.ensures.cause
+    c.in-Err-play.ensures.prefix c.in-Err-play.ensures.cause
 
 pub returns-clause-complete : goal.returns-clause-complete
 returns-clause-complete g c =

@@ -19,17 +19,17 @@ play_round-requires-clause-fit g c κs within =
 pub play_round-requires-clause-rest : goal.play_round-requires-clause-rest
 play_round-requires-clause-rest g c κs within = c.loop-round.invariant.rest
 
-pub returns-in-Err-clause-front : goal.returns-in-Err-clause-front
-returns-in-Err-clause-front g c = unbegun (script_of c.args.script.now) _
+pub returns-in-Err-clause-prefix : goal.returns-in-Err-clause-prefix
+returns-in-Err-clause-prefix g c = unbegun (script_of c.args.script.now) _
 
-pub returns-in-Err-play_round-clause-front : goal.returns-in-Err-play_round-clause-front
-returns-in-Err-play_round-clause-front g c =
+pub returns-in-Err-play_round-clause-prefix : goal.returns-in-Err-play_round-clause-prefix
+returns-in-Err-play_round-clause-prefix g c =
     let within : c.loop-round.round-index < length c.args.script.now.rounds.items = omega (arith, ap length c.deref-round-items.ensures.value) in
     let found : c.round-item.result ≡ get_or c.args.script.now.rounds.items c.loop-round.round-index c.round-item.result
     = c.round-item.is ∙ ap (λ rounds. get_or rounds c.loop-round.round-index c.round-item.result) c.deref-round-items.ensures.value in
     let P : List RoundText → Type 0 = λ rounds. IsSoFar (script_of c.args.script.now) (state_of c.loop-round.player) rounds (g.K.Sink.written c.args.out.now) (g.K.Sink.written c.loop-round.out) in
     let so_far = subst P (rounds_behind c.args.script.now.rounds.items c.loop-round.round-index c.round-item.result within found) c.loop-round.invariant.so_far in
-    so_far-cut (script_of c.args.script.now) (state_of c.loop-round.player) (round_of c.round-item.result) _ _ _ _ so_far (c.in-Err-play_round.ensures.front (settings_of c.args.script.now.settings) c.loop-round.invariant.settings)
+    so_far-cut (script_of c.args.script.now) (state_of c.loop-round.player) (round_of c.round-item.result) _ _ _ _ so_far (c.in-Err-play_round.ensures.prefix (settings_of c.args.script.now.settings) c.loop-round.invariant.settings)
 
 pub loop-round-preserved : goal.loop-round-preserved
 loop-round-preserved g c =
