@@ -10,6 +10,7 @@ use Rattle.std.proofs.lemmas.List.Quantifiers.{all_pairs_push}
 use Rattle.std.proofs.lemmas.List.Sorted.{IsNonDecreasingBy-push, IsNonDecreasingBy-short}
 use Rattle.std.proofs.lemmas.List.Sums.{sum_by-cons}
 use Rattle.metrics_core.specs.Keys.{LabelText, KeyText}
+use Rattle.metrics_core.proofs.Lists.{both_parts, AllZip-push}
 use Rattle.metrics_core.specs.declared.kinds.MetricKind.{MetricKind}
 use Rattle.drive_script.specs.Script.{ScriptText, RoundText, SetupLine, Register, Describe, Act, Inc, Abs, Add, Sub, Set, Rec, RecN, CallLine, ScriptLine, Global, Round, Setup, CallOf, IsLine, IsScript, AreActWords, header_lines, round_lines, only_globals, global_labels, SettingsText}
 use Rattle.drive_script.specs.Valid.{Registration, registration_of, registered_in, registered, HasHandle, HaveHandles, sample_count, PrintApart, IsValid, AreValidLines}
@@ -21,12 +22,6 @@ abbrev pub Valid : List (List ℕ) → ScriptText → Type 0
 Valid lines script = IsScript lines script × IsValid script
 
 -- ---- lists that pair up, seen from their ends
-
-zip_push : {A B : Type 0} (R : A → B → Type 0) (xs : List A) (ys : List B) (x : A) (y : B) → AllZip R xs ys → R x y → AllZip R (xs ++ x ∷ []) (ys ++ y ∷ [])
-zip_push R [] [] x y h r = (r, tt)
-zip_push R [] (b ∷ ys) x y h r = absurd h
-zip_push R (a ∷ xs) [] x y h r = absurd h
-zip_push R (a ∷ xs) (b ∷ ys) x y h r = (h.0, zip_push R xs ys x y h.1 r)
 
 zip_no_more : {A B : Type 0} (R : A → B → Type 0) (xs : List A) (x : A) → AllZip R (xs ++ x ∷ []) [] → ⊥
 zip_no_more R [] x h = h
@@ -126,10 +121,6 @@ lines_plain [] [] h = tt
 lines_plain [] (s ∷ says) h = absurd h
 lines_plain (l ∷ lines) [] h = absurd h
 lines_plain (l ∷ lines) (s ∷ says) h = (line_plain l s h.0, lines_plain lines says h.1)
-
-both_parts : {A : Type 0} (P : A → Type 0) (xs ys : List A) → AllByRecursion P (xs ++ ys) → AllByRecursion P xs × AllByRecursion P ys
-both_parts P [] ys h = (tt, h)
-both_parts P (x ∷ xs) ys h = let rest = both_parts P xs ys h.1 in ((h.0, rest.0), rest.1)
 
 no_samples : (calls : List CallLine) → AllByRecursion IsPlain (map CallOf calls) → sum_by (λ (c : CallLine). sample_count c.act) calls ≡ 0
 no_samples [] h = refl
@@ -326,7 +317,7 @@ next_handles old new (CallOf call) h handles =
 -- behind the lines of a valid script its next line makes a valid script
 pub next_valid : (lines : List (List ℕ)) (line : List ℕ) (old new : ScriptText) (says : ScriptLine) → Valid lines old → IsLine line says → IsNext old says new → Valid (lines ++ line ∷ []) new
 next_valid lines line old new says h is_line next =
-    let each : AllZip IsLine (lines ++ line ∷ []) (script_lines new) = subst (AllZip IsLine (lines ++ line ∷ [])) (sym (next_said old new says next)) (zip_push IsLine lines (script_lines old) line says h.0.each is_line) in
+    let each : AllZip IsLine (lines ++ line ∷ []) (script_lines new) = subst (AllZip IsLine (lines ++ line ∷ [])) (sym (next_said old new says next)) (AllZip-push IsLine lines (script_lines old) line says h.0.each is_line) in
     let script : IsScript (lines ++ line ∷ []) new = record { settings = next_settings old new says next h.0.settings; each = each } in (
       script,
       record {

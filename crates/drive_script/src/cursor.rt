@@ -46,12 +46,12 @@ ghost use Rattle.drive_script.specs.Texts.{act_of};
 
 use crate::Act;
 use crate::lines::Verb;
-use metrics_core::{Fixed, Label, Memory, MetricKind, SharedString};
+use metrics_core::{BILLIONTHS, Fixed, Label, Memory, MetricKind, SharedString};
 use std::alloc::Global;
 
-/// How many billionths one is, and how many places they have behind the point.
-const ONE: u64 = 1_000_000_000;
+const ONE: u64 = BILLIONTHS as u64;
 
+/// How many places billionths have behind the point.
 const PLACES: usize = 9;
 
 /// The greatest whole part of a value.

@@ -1,5 +1,4 @@
 pub mod CutLemmas
-pub mod Digits
 pub mod Fewest
 pub mod Tags
 pub mod Filling

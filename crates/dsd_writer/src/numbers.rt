@@ -5,11 +5,10 @@ ghost use Rattle.metrics_core.specs.Numbers.{dogstatsd_number, fraction_text};
 
 use crate::room::push;
 use itoa::Buffer;
-use metrics_core::Fixed;
+use metrics_core::{BILLIONTHS, Fixed};
 use std::marker::Model;
 
-/// How many billionths one is.
-const ONE: u64 = 1_000_000_000;
+const ONE: u64 = BILLIONTHS as u64;
 
 /// The text of a number, in four parts. A contract sees it whole.
 #[derive(Drop)]
@@ -91,7 +90,7 @@ fn fraction_digits(buffer: &mut Buffer, fraction: u64) -> &str
     if fraction == 0 {
         return "0";
     }
-    // The one in front keeps the zeros behind it.
+    // The one before them keeps their zeros.
     let padded = &buffer.format(ONE + fraction)[1..];
     padded.trim_end_matches('0')
 }

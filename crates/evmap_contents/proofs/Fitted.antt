@@ -1,8 +1,8 @@
 -- The steps of fitting all bags.
 use Rattle.std.proofs.Common.{◌≡◌, ℕ, Bool, suc, List, [], ◌∷◌, ◌++◌, map, length, slice_get, Option, Some, refl, sym, ap, ◌∙◌, subst, append_assoc, append-nil}
-use Rattle.std.specs.List.{AllZip}
 use Rattle.std.specs.Option.{unwrap_or}
 use Rattle.std.specs.Map.{values_of}
+use Rattle.metrics_core.proofs.Lists.{AllZip-push}
 use Rattle.indexmap.specs.Layout.{set_value_at}
 use Rattle.value_bags.specs.declared.bag.Bag.{Bag}
 use Rattle.value_bags.specs.Bags.{fitted}
@@ -10,12 +10,6 @@ use Rattle.value_bags.specs.Entries.{with_keys}
 use Rattle.evmap_contents.specs.declared.write.Write.TheVariants.{FitAll}
 use Rattle.evmap_contents.specs.Fold.{after}
 use Rattle.evmap_contents.specs.Fitting.{AreFitted, fit_entry}
-
-pub AllZip-snoc : {A B : Type 0} (R : A → B → Type 0) (xs : List A) (ys : List B) (x : A) (y : B) → AllZip R xs ys → R x y → AllZip R (xs ++ x ∷ []) (ys ++ y ∷ [])
-AllZip-snoc R [] [] x y h r = (r, tt)
-AllZip-snoc R (a ∷ xs) (b ∷ ys) x y h r = (h.0, AllZip-snoc R xs ys x y h.1 r)
-AllZip-snoc R [] (b ∷ ys) x y h r = absurd h
-AllZip-snoc R (a ∷ xs) [] x y h r = absurd h
 
 -- how far the first loop has come: these bags are done
 pub record IsDone {V : Type 0} (all rest : List (Bag V)) (shorts : List (Option (Bag V))) : Type 0 where
@@ -27,7 +21,7 @@ pub one_more : {V : Type 0} (all rest : List (Bag V)) (shorts : List (Option (Ba
 one_more all rest shorts b left s h step is = record {
   done = h.done ++ b ∷ [];
   whole = h.whole ∙ ap (λ l. h.done ++ l) step ∙ sym (append_assoc h.done (b ∷ []) left);
-  fits = AllZip-snoc (λ bag short. unwrap_or short bag ≡ fitted bag) h.done shorts b s h.fits is;
+  fits = AllZip-push (λ bag short. unwrap_or short bag ≡ fitted bag) h.done shorts b s h.fits is;
 }
 
 -- how far the second loop has come: the bags behind `front` are fitted

@@ -2,3 +2,6 @@ pub mod Grown
 pub mod KeyHasherSteps
 pub mod LeastDiffering
 pub mod ComparedLabels
+pub mod Digits
+pub mod KindTests
+pub mod Lists

@@ -4,7 +4,7 @@ ghost use Rattle.std.specs.Prelude.{◌≡◌, Some, pos};
 ghost use Rattle.std.specs.Duration.{as_nanos};
 ghost use Rattle.metrics_core.specs.Fixed.{fixed_of_whole, fixed_of_billionths};
 
-use crate::Fixed;
+use crate::{BILLIONTHS, Fixed};
 use std::time::Duration;
 
 /// A number or a span of time that stands for a value.
@@ -20,8 +20,7 @@ pub trait IntoFixed {
         ensures { result ≡ fixed self };
 }
 
-/// How many billionths one is.
-const ONE: i64 = 1_000_000_000;
+const ONE: i64 = BILLIONTHS as i64;
 
 impl IntoFixed for Fixed {
     ghost fixed = { Some };

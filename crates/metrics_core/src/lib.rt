@@ -38,7 +38,7 @@ pub use levels::{Level, LevelFault};
 pub use memory::Memory;
 pub use metadata::Metadata;
 pub use net_addresses::{Network, read_ip, read_socket};
-pub use numbers::Fixed;
+pub use numbers::{BILLIONTHS, Fixed};
 pub use sinks::{Sink, write_whole};
 pub use slices::CowSlice;
 pub use sources::{Failed, Source};

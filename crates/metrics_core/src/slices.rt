@@ -3,6 +3,7 @@
 ghost use Rattle.std.specs.Prelude.{◌≡◌, ◌⊎◌, [], IfOk, IsOk};
 ghost use Rattle.std.specs.Arc.{arc_value};
 ghost use Rattle.std.specs.Cow.{cow_slice_items};
+ghost use Rattle.std.specs.Fmt.{debug_list};
 ghost use Rattle.std.specs.Hash as fed;
 ghost use Rattle.std.specs.Hash.{on_Alike, items_Alike};
 ghost use Rattle.std.specs.Cmp.{on_equiv, on_total, on_per, on_po};
@@ -245,8 +246,11 @@ impl<T: Hash> Hash for CowSlice<'_, T> {
 }
 
 impl<T: fmt::Debug> fmt::Debug for CowSlice<'_, T> {
+    ghost debug_output = { λ cow. debug_list T.debug_output (cow_items cow) };
+
     fn fmt<W: fmt::Write>(&self, f: &mut fmt::Formatter<W>) -> fmt::Result {
-        f.debug_list().slice(self.as_slice()).finish()
+        let items = self.as_slice();
+        fmt::Debug::fmt(&items, f)
     }
 }
 

@@ -1,9 +1,10 @@
 -- The rounds of a script that was read have lines of the forms that are built.
-use Rattle.std.proofs.Common.{ℕ, List, [], ◌∷◌, ◌++◌, map}
+use Rattle.std.proofs.Common.{ℕ, List, [], ◌∷◌, map}
 use Rattle.std.specs.Prelude.{flat_map}
 use Rattle.std.specs.List.{AllZip, AllByRecursion}
 use Rattle.std.proofs.lemmas.List.Elements.{All-from_recursion}
 use Rattle.metrics_core.specs.declared.kinds.MetricKind.TheVariants as kinds
+use Rattle.metrics_core.proofs.Lists.{both_parts}
 use Rattle.drive_script.specs.Script.{ScriptLine, Global, Round, Setup, CallOf, Register, Describe, IsLine, header_lines, round_lines}
 use Rattle.drive_script.specs.Texts.{script_of, round_of, setup_of}
 use Rattle.drive_script.specs.Valid.{IsScriptOf}
@@ -33,10 +34,6 @@ lines_built [] [] h = tt
 lines_built [] (s ∷ says) h = absurd h
 lines_built (l ∷ lines) [] h = absurd h
 lines_built (l ∷ lines) (s ∷ says) h = (line_built l s h.0, lines_built lines says h.1)
-
-both_parts : {A : Type 0} (P : A → Type 0) (xs ys : List A) → AllByRecursion P (xs ++ ys) → AllByRecursion P xs × AllByRecursion P ys
-both_parts P [] ys h = (tt, h)
-both_parts P (x ∷ xs) ys h = let rest = both_parts P xs ys h.1 in ((h.0, rest.0), rest.1)
 
 setup_built : (setup : List SetupValue) → AllByRecursion IsBuilt (map Setup (map setup_of setup)) → AllByRecursion (λ line. IsBuiltSetup (setup_of line)) setup
 setup_built [] h = tt

@@ -2,7 +2,7 @@
 use Rattle.std.proofs.Common.{◌≡◌, ℕ, zero, suc, ◌+◌, ◌<◌, ◌≤◌, ◌⊎◌, Bool, true, false, cond, List, [], ◌∷◌, ◌++◌, length, map, refl, sym, ap, subst, ◌∙◌, inl, inr, ⊎_elim, append-nil, arith, length-append}
 use Rattle.std.specs.Prelude.{◌==◌, ◌&&◌, Result, Ok, Err, IfOk, Some, All, option_map, unwrap_or, slice_get, slice_index, filter}
 use Rattle.std.specs.List.{list_any, IsDistinct, AllByRecursion}
-use Rattle.std.proofs.lemmas.Bool.{true≢false, and_parts, eq-eqb, ne_eqb, eqb-true}
+use Rattle.std.proofs.lemmas.Bool.{true≢false, eq-eqb, ne_eqb}
 use Rattle.std.proofs.lemmas.List.Elements.{All-head, All-tail, filter-append}
 use Rattle.std.proofs.lemmas.List.{map-append}
 use mathlib.Core.Option.{some, some-injective, some-ne-none}
@@ -22,6 +22,7 @@ use Rattle.metrics_core.specs.declared.kinds.MetricKind.{MetricKind}
 use Rattle.metrics_core.specs.declared.kinds.MetricKind.TheVariants as kinds
 use Rattle.metrics_core.specs.Kinds.{kind_eq}
 use Rattle.metrics_registry.specs.Live.{LiveSeries, IsBelowAll, Rises, AreOf, IsNumbered, id_eq}
+use Rattle.metrics_registry.proofs.IdTests.{id_eq-same, id_eq-refl}
 use Rattle.prom_exporter.specs.Exporter.{Exporter}
 use Rattle.prom_exporter.specs.LanePasses.{ids_of}
 use Rattle.drive_script.specs.Script.{kind_of}
@@ -33,22 +34,6 @@ use Rattle.metrics_drive.specs.LaneCalls.{AllAsked, AsksKind, HasLane, asked, ca
 
 pub counter≢gauge : kinds.Counter ≡ kinds.Gauge → ⊥
 counter≢gauge e = true≢false (ap (λ k. kind_eq k kinds.Counter) e)
-
-kind_eq-same : (a b : MetricKind) → kind_eq a b ≡ true → a ≡ b
-kind_eq-same kinds.Counter kinds.Counter e = refl
-kind_eq-same kinds.Gauge kinds.Gauge e = refl
-kind_eq-same kinds.Histogram kinds.Histogram e = refl
-kind_eq-same kinds.Counter kinds.Gauge e = absurd cc
-kind_eq-same kinds.Counter kinds.Histogram e = absurd cc
-kind_eq-same kinds.Gauge kinds.Counter e = absurd cc
-kind_eq-same kinds.Gauge kinds.Histogram e = absurd cc
-kind_eq-same kinds.Histogram kinds.Counter e = absurd cc
-kind_eq-same kinds.Histogram kinds.Gauge e = absurd cc
-
-kind_eq_itself : (kind : MetricKind) → kind_eq kind kind ≡ true
-kind_eq_itself kinds.Counter = refl
-kind_eq_itself kinds.Gauge = refl
-kind_eq_itself kinds.Histogram = refl
 
 -- ---- calls on a cell
 
@@ -202,17 +187,9 @@ get_of [] i a e = absurd (some-ne-none a (sym e))
 get_of (x ∷ xs) zero a e = ap Some (some-injective x a e)
 get_of (x ∷ xs) (suc i) a e = get_of xs i a e
 
-id_eq_same : (a b : SeriesId) → id_eq a b ≡ true → a ≡ b
-id_eq_same a b e =
-    let both = and_parts (kind_eq a.kind b.kind) (a.number == b.number) e in
-    (λ j. record { kind = kind_eq-same a.kind b.kind both.0 j; number = eqb-true a.number b.number both.1 j })
-
-id_eq_itself : (id : SeriesId) → id_eq id id ≡ true
-id_eq_itself id = rw (kind_eq_itself id.kind, eq-eqb id.number id.number refl) refl
-
 id_at_true : (ids : List SeriesId) (j : ℕ) (id : SeriesId) → id_at ids j id ≡ true → get_elem? ids j ≡ some id
 id_at_true [] j id e = absurd (true≢false (sym e))
-id_at_true (x ∷ ids) zero id e = ap some (id_eq_same x id e)
+id_at_true (x ∷ ids) zero id e = ap some (id_eq-same x id e)
 id_at_true (x ∷ ids) (suc j) id e = id_at_true ids j id e
 
 pub id_at_none : (ids : List SeriesId) (j : ℕ) (id : SeriesId) → ((i : ℕ) → get_elem? ids i ≡ some id → ⊥) → id_at ids j id ≡ false
@@ -224,7 +201,7 @@ id_at_none ids j id none = by (id_at ids j id) refl
 
 pub id_at_index : (ids : List SeriesId) (index j : ℕ) (id : SeriesId) → ((i k : ℕ) → get_elem? ids i ≡ some id → get_elem? ids k ≡ some id → i ≡ k) → get_elem? ids index ≡ some id → id_at ids j id ≡ (index == j)
 id_at_index ids index j id apart at = dite (ℕ_discrete index j)
-    (λ (same : index ≡ j). let here = get_of ids j id (subst (λ n. get_elem? ids n ≡ some id) same at) in ap (λ o. unwrap_or (option_map (λ (own : SeriesId). id_eq own id) o) false) here ∙ id_eq_itself id ∙ sym (eq-eqb index j same))
+    (λ (same : index ≡ j). let here = get_of ids j id (subst (λ n. get_elem? ids n ≡ some id) same at) in ap (λ o. unwrap_or (option_map (λ (own : SeriesId). id_eq own id) o) false) here ∙ id_eq-refl id ∙ sym (eq-eqb index j same))
     (λ (ne : ¬ (index ≡ j)). by (id_at ids j id) refl ne ∙ sym (ne_eqb index j ne))
   where
     by : (b : Bool) → id_at ids j id ≡ b → ¬ (index ≡ j) → b ≡ false

@@ -3,3 +3,4 @@ pub mod StoredSeries
 pub mod Observed
 pub mod Bagged
 pub mod RetainedSeries
+pub mod IdTests

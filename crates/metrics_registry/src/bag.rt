@@ -9,10 +9,12 @@ ghost use Rattle.metrics_registry.specs.Quantiles.{ascending, rank, nearest_rank
 ghost use Rattle.metrics_registry.specs.Bags.{copies, repeated};
 
 use crate::Quantile;
-use metrics_core::{Fixed, Memory};
+use metrics_core::{BILLIONTHS, Fixed, Memory};
 use std::alloc::Global;
 use std::collections::BTreeMap;
 use std::marker::Model;
+
+const ONE: u128 = BILLIONTHS as u128;
 
 /// A bag of fewer than 2^64 values. A contract sees it as the list of its values in ascending order. It takes memory for
 /// each distinct value once, however often the value is there.
@@ -124,7 +126,7 @@ fn rank_of(billionths: u32, count: u64) -> u64
     requires { billionths ≤ one }
     ensures { result ≡ rank billionths count }
 {
-    let rounded = (u128::from(billionths) * u128::from(count) + 999_999_999) / 1_000_000_000;
+    let rounded = (u128::from(billionths) * u128::from(count) + ONE - 1) / ONE;
     (rounded as u64).max(1)
 }
 

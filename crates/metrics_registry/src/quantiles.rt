@@ -5,12 +5,9 @@ ghost use Rattle.metrics_core.specs.Numbers.{one};
 ghost use Rattle.metrics_core.specs.Fixed.{of_billionths};
 ghost use Rattle.metrics_registry.specs.Quantiles.{clamped};
 
-use metrics_core::{Fixed, Memory};
+use metrics_core::{BILLIONTHS, Fixed, Memory};
 use std::alloc::Global;
 use std::marker::Model;
-
-/// How many billionths one is.
-const ONE: u32 = 1_000_000_000;
 
 /// A quantile from 0 to 1. A contract sees it as its number of billionths.
 #[derive(Clone, Copy, Debug, PartialEq, Eq)]
@@ -38,8 +35,8 @@ impl Quantile {
     {
         let billionths = if value.0 <= 0 {
             0
-        } else if value.0 >= i64::from(ONE) {
-            ONE
+        } else if value.0 >= i64::from(BILLIONTHS) {
+            BILLIONTHS
         } else {
             value.0 as u32
         };

@@ -1,9 +1,10 @@
 //! When a series falls idle: sets of kinds, and the rule by which a page notes and removes series.
 
-ghost use Rattle.std.specs.Prelude.{◌≡◌, is_some, unwrap_or};
+ghost use Rattle.std.specs.Prelude.{◌≡◌, [], ◌∷◌, is_some, unwrap_or};
+ghost use Rattle.metrics_core.specs.declared.kinds.MetricKind.TheVariants.{Counter, Gauge, Histogram};
 ghost use Rattle.metrics_core.specs.Kinds.{mask_has};
 ghost use Rattle.metrics_registry.specs.Recency.{note_left};
-ghost use Rattle.metrics_registry.specs.Masks.{union_of, idle_of};
+ghost use Rattle.metrics_registry.specs.Masks.{no_kinds, only, all_kinds, union_of, idle_of};
 
 use metrics_core::MetricKind;
 use std::marker::Model;
@@ -61,6 +62,19 @@ impl MetricKindMask {
         gauges: true,
         histograms: true,
     };
+
+    /// The sets that have names here: no kind, each kind alone, and every kind.
+    pub fn named() -> [MetricKindMask; 5]
+        ensures { result ≡ no_kinds ∷ only Counter ∷ only Gauge ∷ only Histogram ∷ all_kinds ∷ [] }
+    {
+        [
+            MetricKindMask::NONE,
+            MetricKindMask::COUNTER,
+            MetricKindMask::GAUGE,
+            MetricKindMask::HISTOGRAM,
+            MetricKindMask::ALL,
+        ]
+    }
 
     /// The kinds that are in either set.
     pub fn union(self, other: MetricKindMask) -> MetricKindMask

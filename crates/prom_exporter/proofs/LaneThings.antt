@@ -1,8 +1,8 @@
 -- The exporter's series by their indices: counters, then gauges.
 use Rattle.std.proofs.Common.{◌≡◌, true, false, ℕ, zero, suc, ◌+◌, ◌-◌, ◌<◌, ◌≤◌, List, [], ◌∷◌, ◌++◌, length, map, set, Option, Some, None, refl, sym, ap, subst, ◌∙◌, ◌⊎◌, inl, inr, ⊎_elim, arith}
-use Rattle.std.specs.Prelude.{◌==◌, option_map, slice_get, All}
+use Rattle.std.specs.Prelude.{option_map, slice_get, All}
 use Rattle.std.specs.List.{AllZip, list_any}
-use Rattle.std.proofs.lemmas.Bool.{true≢false, and_parts, or_parts, eq-eqb, eqb-true}
+use Rattle.std.proofs.lemmas.Bool.{true≢false, or_parts}
 use Rattle.std.proofs.lemmas.List.Elements.{All-nil, All-cons, All-head, All-tail}
 use Rattle.legal_history.specs.History.{Settled}
 use Rattle.cell_lanes.specs.Lanes.{Roots, Home}
@@ -14,11 +14,9 @@ use Rattle.atomic_table.proofs.Lists.{at_longer}
 use Rattle.legal_history.proofs.Steps.{one_at}
 use Rattle.legal_history.specs.declared.history.View.{View}
 use Rattle.cell_lanes.specs.Things.{Thing, TookBack, root_of}
-use Rattle.metrics_core.specs.declared.kinds.MetricKind.{MetricKind}
-use Rattle.metrics_core.specs.declared.kinds.MetricKind.TheVariants as kinds
 use Rattle.metrics_core.specs.declared.kinds.SeriesId.{SeriesId}
-use Rattle.metrics_core.specs.Kinds.{kind_eq}
 use Rattle.metrics_registry.specs.Live.{LiveSeries, id_eq, has_id}
+use Rattle.metrics_registry.proofs.IdTests.{id_eq-same, id_eq-refl}
 use Rattle.metrics_registry.specs.Places.{with_cell_at}
 use Rattle.series_cells.specs.declared.calls.ValueCall.{ValueCall}
 use Rattle.series_cells.specs.declared.counter.PromCounter.{PromCounter}
@@ -27,7 +25,6 @@ use Rattle.prom_exporter.specs.declared.lanes.SeriesCell.{SeriesCell}
 use Rattle.prom_exporter.specs.declared.lanes.SeriesCell.TheVariants as cells
 use Rattle.prom_exporter.specs.Shared.{Shared, IsHome, TakesBack, unused}
 use Rattle.prom_exporter.specs.Exporter.{Cells, Exporter, AllHome, LooksOn, SeriesLooks}
-use Rattle.prom_exporter.proofs.Seen.{kind_eq-same}
 use Rattle.prom_exporter.specs.LanePasses.{counter_thing, gauge_thing, things_of, ids_of, unseen, frame_of}
 
 -- ---- two lists, one behind the other
@@ -182,26 +179,13 @@ all_settled old new home looks j t e =
 
 -- ---- ids
 
-id_same : (a b : SeriesId) → id_eq a b ≡ true → a ≡ b
-id_same a b e =
-    let both = and_parts (kind_eq a.kind b.kind) (a.number == b.number) e in
-    (λ j. record { kind = kind_eq-same a.kind b.kind both.0 j; number = eqb-true a.number b.number both.1 j })
-
-kind_itself : (kind : MetricKind) → kind_eq kind kind ≡ true
-kind_itself kinds.Counter = refl
-kind_itself kinds.Gauge = refl
-kind_itself kinds.Histogram = refl
-
-id_itself : (id : SeriesId) → id_eq id id ≡ true
-id_itself id = rw (kind_itself id.kind, eq-eqb id.number id.number refl) refl
-
 module _ {X : Type 0} (id : SeriesId) where
   abbrev its_id : LiveSeries X → SeriesId
   its_id series = series.id
 
   pub id_here : (es : List (LiveSeries X)) (i : ℕ) → option_map (has_id id) (slice_get es i) ≡ Some true → get_elem? (map its_id es) i ≡ some id
   id_here [] i e = absurd cc
-  id_here (x ∷ es) zero e = ap some (id_same x.id id (same_Some (has_id id x) true e))
+  id_here (x ∷ es) zero e = ap some (id_eq-same x.id id (same_Some (has_id id x) true e))
   id_here (x ∷ es) (suc i) e = id_here es i e
 
   pub id_within : (es : List (LiveSeries X)) (i : ℕ) → option_map (has_id id) (slice_get es i) ≡ Some true → i < length es
@@ -211,7 +195,7 @@ module _ {X : Type 0} (id : SeriesId) where
 
   pub id_nowhere : (es : List (LiveSeries X)) → list_any (has_id id) es ≡ false → (i : ℕ) → get_elem? (map its_id es) i ≡ some id → ⊥
   id_nowhere [] none i e = some-ne-none id (sym e)
-  id_nowhere (x ∷ es) none zero e = true≢false (sym (id_itself id) ∙ ap (λ a. id_eq a id) (sym (some-injective x.id id e)) ∙ (or_parts (has_id id x) (list_any (has_id id) es) none).0)
+  id_nowhere (x ∷ es) none zero e = true≢false (sym (id_eq-refl id) ∙ ap (λ a. id_eq a id) (sym (some-injective x.id id e)) ∙ (or_parts (has_id id x) (list_any (has_id id) es) none).0)
   id_nowhere (x ∷ es) none (suc i) e = id_nowhere es (or_parts (has_id id x) (list_any (has_id id) es) none).1 i e
 
 pub index_front : (id : SeriesId) (exporter : Exporter) (i : ℕ) → option_map (has_id id) (slice_get exporter.series.counters i) ≡ Some true → get_elem? (ids_of exporter) i ≡ some id

@@ -6,6 +6,7 @@ use Rattle.metrics_core.specs.declared.kinds.MetricKind.{MetricKind}
 use Rattle.metrics_core.specs.declared.kinds.MetricKind.TheVariants as kinds
 use Rattle.metrics_core.specs.declared.kinds.SeriesId.{SeriesId}
 use Rattle.metrics_core.specs.Kinds.{kind_eq}
+use Rattle.metrics_core.proofs.KindTests.{kind_eq-same}
 use Rattle.std.proofs.lemmas.Bool.{and_parts}
 use Rattle.metrics_core.specs.Keys.{KeyText, key_eq}
 use Rattle.metrics_core.specs.Calls.{Call}
@@ -50,17 +51,6 @@ module _ {F : Type 0} where
   are_of-seen : (kind : MetricKind) (n : ℕ) (es : List (LiveSeries (Shared F))) → AreOf kind n es → AreOf kind n (map seen_series es)
   are_of-seen kind n [] h = tt
   are_of-seen kind n (e ∷ es) h = (h.0, h.1, are_of-seen kind n es h.2)
-
-pub kind_eq-same : (a b : MetricKind) → kind_eq a b ≡ true → a ≡ b
-kind_eq-same kinds.Counter kinds.Counter e = refl
-kind_eq-same kinds.Gauge kinds.Gauge e = refl
-kind_eq-same kinds.Histogram kinds.Histogram e = refl
-kind_eq-same kinds.Counter kinds.Gauge e = absurd cc
-kind_eq-same kinds.Counter kinds.Histogram e = absurd cc
-kind_eq-same kinds.Gauge kinds.Counter e = absurd cc
-kind_eq-same kinds.Gauge kinds.Histogram e = absurd cc
-kind_eq-same kinds.Histogram kinds.Counter e = absurd cc
-kind_eq-same kinds.Histogram kinds.Gauge e = absurd cc
 
 -- the id under which a cell is found has the kind of the list
 of_found : {F : Type 0} (kind : MetricKind) (id : SeriesId) (cell : F) (es : List (LiveSeries F)) (n : ℕ) → AreOf kind n es → cell_of id es ≡ Some cell → id.kind ≡ kind

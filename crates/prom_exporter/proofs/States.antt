@@ -11,6 +11,7 @@ use Rattle.metrics_core.specs.declared.kinds.MetricKind.{MetricKind}
 use Rattle.metrics_core.specs.declared.kinds.MetricKind.TheVariants as kinds
 use Rattle.metrics_core.specs.declared.kinds.SeriesId.{SeriesId}
 use Rattle.metrics_core.specs.Kinds.{kind_eq}
+use Rattle.metrics_core.proofs.KindTests.{kind_eq-refl}
 use Rattle.metrics_core.specs.Keys.{KeyText, key_eq}
 use Rattle.metrics_core.specs.Calls.{Call}
 use Rattle.metrics_registry.specs.Live.{LiveSeries, RegistryText, id_eq, has_id, has_key, id_of_key, cell_of, set_cell, with_cell, IsBelowAll, Rises, AreOf, IsNumbered}
@@ -54,14 +55,9 @@ kind_of_id kind n key (e ∷ es) id are found = by (key_eq e.key key) found (kin
 
 -- ---- calling
 
-kind_eq_refl : (kind : MetricKind) → kind_eq kind kind ≡ true
-kind_eq_refl kinds.Counter = refl
-kind_eq_refl kinds.Gauge = refl
-kind_eq_refl kinds.Histogram = refl
-
 module _ (id : SeriesId) where
   same_id : {X : Type 0} (e : LiveSeries X) → e.id.kind ≡ id.kind → has_id id e ≡ (e.id.number == id.number)
-  same_id e kind = ap (λ k. kind_eq k id.kind && (e.id.number == id.number)) kind ∙ ap (λ b. b && (e.id.number == id.number)) (kind_eq_refl id.kind)
+  same_id e kind = ap (λ k. kind_eq k id.kind && (e.id.number == id.number)) kind ∙ ap (λ b. b && (e.id.number == id.number)) (kind_eq-refl id.kind)
 
   -- series with greater numbers take no call
   above_stay : (call : Call) (es : List (LiveSeries Cell)) → IsBelowAll id.number es → map (with_call id.number call) (map series_of es) ≡ map series_of es

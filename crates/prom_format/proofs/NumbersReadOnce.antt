@@ -13,7 +13,7 @@ use Rattle.std.proofs.lemmas.List.Folds.{list_all-append}
 use Rattle.std.proofs.lemmas.Str.Parse.{digit_from_value}
 use Rattle.metrics_core.specs.Characters.{is_digit, minus_sign}
 use Rattle.metrics_core.specs.Numbers.{padded, without_trailing_zeros, before_zeros, fraction_text, page_number, one}
-use Rattle.prom_format.proofs.Digits.{fraction_text-some, decimal-one_before}
+use Rattle.metrics_core.proofs.Digits.{fraction_text-some, decimal-one_before}
 use Rattle.prom_format.proofs.ReadOnce.{first_same, others_same, Stops, spans_told}
 
 -- ---- digits
@@ -108,7 +108,7 @@ abbrev fraction_line : ℕ → List ℕ → List ℕ
 fraction_line f r = fraction_text [] f ++ 10 ∷ r
 
 fraction_some : (f : ℕ) (r : List ℕ) → f ≢ 0 → fraction_line f r ≡ 46 ∷ (without_trailing_zeros (padded 9 f) ++ 10 ∷ r)
-fraction_some f r some = ap (λ t. t ++ 10 ∷ r) (fraction_text-some f some)
+fraction_some f r some = ap (λ t. t ++ 10 ∷ r) (fraction_text-some [] f some)
 
 fraction_none : (f : ℕ) (r : List ℕ) → f ≡ 0 → fraction_line f r ≡ 10 ∷ r
 fraction_none f r none = ap (λ n. fraction_line n r) none

@@ -4,10 +4,9 @@ ghost use Rattle.std.specs.Prelude.{◌≡◌, ◌<◌, ◌≤◌, [], ◌++◌,
 ghost use Rattle.metrics_core.specs.Numbers.{page_number, fraction_text, whole};
 
 use itoa::Buffer;
-use metrics_core::Memory;
+use metrics_core::{BILLIONTHS, Memory};
 
-/// How many billionths one is.
-const ONE: u128 = 1_000_000_000;
+const ONE: u128 = BILLIONTHS as u128;
 
 /// Appends the spelling of a value of billionths: `42`, `-3.14`. A refused call leaves the text as it was.
 pub fn push_fixed(buffer: &mut String, billionths: i128) -> Result<(), Memory>
@@ -34,7 +33,7 @@ fn push_fraction(text: &mut String, fraction: u128) -> Result<(), Memory>
         return Ok(());
     }
     let mut digits = Buffer::new();
-    // The one in front keeps the zeros behind it.
+    // The one before them keeps their zeros.
     let padded = &digits.format(ONE + fraction)[1..];
     text.push('.')?;
     text.push_str(padded.trim_end_matches('0'))?;

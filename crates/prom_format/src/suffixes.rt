@@ -79,20 +79,6 @@ fn unit_word(unit: Unit) -> Option<&'static str>
     match unit {
         Unit::Count => None,
         Unit::Percent => Some("ratio"),
-        Unit::Seconds => Some("seconds"),
-        Unit::Milliseconds => Some("milliseconds"),
-        Unit::Microseconds => Some("microseconds"),
-        Unit::Nanoseconds => Some("nanoseconds"),
-        Unit::Tebibytes => Some("tebibytes"),
-        Unit::Gibibytes => Some("gibibytes"),
-        Unit::Mebibytes => Some("mebibytes"),
-        Unit::Kibibytes => Some("kibibytes"),
-        Unit::Bytes => Some("bytes"),
-        Unit::TerabitsPerSecond => Some("terabits_per_second"),
-        Unit::GigabitsPerSecond => Some("gigabits_per_second"),
-        Unit::MegabitsPerSecond => Some("megabits_per_second"),
-        Unit::KilobitsPerSecond => Some("kilobits_per_second"),
-        Unit::BitsPerSecond => Some("bits_per_second"),
-        Unit::CountPerSecond => Some("count_per_second"),
+        other => Some(other.as_str()),
     }
 }

@@ -1,6 +1,6 @@
 use Rattle.std.proofs.Common.{[], ◌∷◌, length, drop, sym, ap, ◌∙◌, arith}
 use Rattle.metrics_core.specs.Numbers.{without_trailing_zeros}
-use Rattle.dsd_writer.proofs.Digits.{decimal-one_before, trim-zeros, fraction_text-some}
+use Rattle.metrics_core.proofs.Digits.{decimal-one_before, trim-zeros, fraction_text-some}
 use Rattle.dsd_writer.proofs.numbers.fraction_digits.Goals as goal
 
 pub range_from-padded-requires : goal.range_from-padded-requires

@@ -1,4 +1,4 @@
-use Rattle.prom_format.proofs.Digits.{page_number-whole}
+use Rattle.metrics_core.proofs.Digits.{page_number-whole}
 use Rattle.prom_format.proofs.numbers.push_count.Goals as goal
 
 pub returns-clause-number : goal.returns-clause-number

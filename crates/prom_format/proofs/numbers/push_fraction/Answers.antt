@@ -2,7 +2,7 @@ use Rattle.std.proofs.Common.{[], ◌∷◌, ◌++◌, string_bytes, length, dro
 use Rattle.std.specs.Char.{encode_utf8}
 use Rattle.std.proofs.lemmas.Slice.{pushed}
 use Rattle.metrics_core.specs.Numbers.{without_trailing_zeros}
-use Rattle.prom_format.proofs.Digits.{decimal-one_before, trim-zeros, fraction_text-some}
+use Rattle.metrics_core.proofs.Digits.{decimal-one_before, trim-zeros, fraction_text-some}
 use Rattle.prom_format.proofs.numbers.push_fraction.Goals as goal
 
 pub range_from-padded-requires : goal.range_from-padded-requires
@@ -21,4 +21,4 @@ returns c =
     pushed _ point c.in_ok-push_str.was c.push_str.ensures.bytes
     ∙ append_assoc (string_bytes before) (46 ∷ []) _
     ∙ ap (λ t. string_bytes before ++ 46 ∷ t) cut
-    ∙ ap (λ t. string_bytes before ++ t) (sym (fraction_text-some c.args.fraction c.if-fraction-eq0.false))
+    ∙ ap (λ t. string_bytes before ++ t) (sym (fraction_text-some [] c.args.fraction c.if-fraction-eq0.false))

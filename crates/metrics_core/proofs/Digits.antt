@@ -1,15 +1,18 @@
--- The digits of a fraction of billionths: with a one in front, and without the zeros at the end.
+-- The digits of numbers as Prometheus and DogStatsD spell them: fractions of billionths, with a one before their digits, and without
+-- the zeros at their end.
 use Rattle.std.proofs.Common.{◌≡◌, ℕ, ◌+◌, ◌-◌, ◌*◌, ◌/◌, ◌%◌, ◌^◌, ◌<◌, ◌≤◌, List, [], ◌∷◌, ◌++◌, length, drop, replicate, refl, sym, ap, ◌∙◌, arith, append_assoc, inl, inr, ◌⊎◌, ◌≢◌}
-use Rattle.std.specs.Prelude.{decimal, Some, None}
+use Rattle.std.specs.Prelude.{decimal, pos, false, if◌then◌else◌, Some, None}
 use Rattle.std.specs.Char.{encode_utf8}
+use Rattle.std.specs.Int.{is_negative}
 use Rattle.std.specs.Str.Pattern.{IsTrimEndMatches, CutsSuffixes, IsFullyTrimmed, FindsCharSuffix}
 use Rattle.std.proofs.lemmas.Bool.{cases_lt}
 use Rattle.std.proofs.lemmas.Bool.Decides.{nat_tests}
 use Rattle.std.proofs.lemmas.Fmt.{decimal_digit, decimal_step}
-use Rattle.std.proofs.lemmas.List.{replicate_more, drop_all, take-append-drop, length_push}
-use Rattle.metrics_core.specs.Numbers.{padded, without_trailing_zeros, before_zeros, fraction_text}
+use Rattle.std.proofs.lemmas.List.{replicate_more, append-nil, drop_all, take-append-drop, length_push}
+use Rattle.metrics_core.specs.Characters.{minus_sign}
+use Rattle.metrics_core.specs.Numbers.{padded, without_trailing_zeros, before_zeros, fraction_text, page_number, whole, one}
 
--- ---- a one in front keeps the zeros behind it
+-- ---- a one before the digits keeps their zeros
 
 -- the zeros that fill a list of digits up to a width, and the list
 abbrev filled : ℕ → List ℕ → List ℕ
@@ -86,11 +89,11 @@ no_zero : (d : ℕ) → d ≢ 48 → before_zeros d [] ≡ d ∷ []
 no_zero d other = grind (arith, nat_tests)
 
 -- digits with no zero at their end stay
-without_none : (digits : List ℕ) → ((front : List ℕ) → digits ≢ front ++ 48 ∷ []) → without_trailing_zeros digits ≡ digits
+without_none : (digits : List ℕ) → ((first : List ℕ) → digits ≢ first ++ 48 ∷ []) → without_trailing_zeros digits ≡ digits
 without_none [] no_more = refl
 without_none (d ∷ []) no_more = no_zero d (λ e. no_more [] (ap (λ c. c ∷ []) e))
 without_none (d ∷ e ∷ digits) no_more =
-    ap (before_zeros d) (without_none (e ∷ digits) (λ front is. no_more (d ∷ front) (ap (λ rest. d ∷ rest) is)))
+    ap (before_zeros d) (without_none (e ∷ digits) (λ first is. no_more (d ∷ first) (ap (λ rest. d ∷ rest) is)))
 
 -- zeros that were cut off the end leave the same
 cut_zeros : (ns digits left : List ℕ) → CutsSuffixes (FindsCharSuffix 48) digits ns left → without_trailing_zeros digits ≡ without_trailing_zeros left
@@ -100,7 +103,7 @@ cut_zeros (n ∷ ns) digits left (before, cuts, (width, at, boundary), is) =
     let split : drop (length before - n) before ≡ 48 ∷ drop (length before) before = at.split in
     let whole : before ≡ left ++ 48 ∷ [] =
     sym (take-append-drop (length before - n) before)
-    ∙ ap (λ front. front ++ drop (length before - n) before) (sym is)
+    ∙ ap (λ first. first ++ drop (length before - n) before) (sym is)
     ∙ ap (λ back. left ++ back) (split ∙ ap (λ rest. 48 ∷ rest) (drop_all (length before) before (omega arith))) in
     cut_zeros ns digits before cuts ∙ ap without_trailing_zeros whole ∙ without_zero left
 
@@ -115,3 +118,16 @@ trim-zeros digits left ((ns, cuts), trimmed) = sym (cut_zeros ns digits left cut
 -- the text of a fraction that isn't zero
 pub fraction_text-some : (none : List ℕ) (fraction : ℕ) → fraction ≢ 0 → fraction_text none fraction ≡ 46 ∷ without_trailing_zeros (padded 9 fraction)
 fraction_text-some none fraction some = grind (arith, nat_tests)
+
+no_sign : (m : ℕ) → is_negative (pos m) ≡ false
+no_sign m = grind (arith, nat_tests)
+
+-- a whole number has no fraction
+pub page_number-whole : (n : ℕ) → page_number (whole n) ≡ decimal n
+page_number-whole n =
+    let quotient : n * one / one ≡ n = omega arith in
+    let rest : n * one % one ≡ 0 = omega arith in
+    ap (λ b. (if b then minus_sign ∷ [] else []) ++ decimal (n * one / one) ++ fraction_text [] (n * one % one)) (no_sign (n * one))
+    ∙ ap (λ q. decimal q ++ fraction_text [] (n * one % one)) quotient
+    ∙ ap (λ r. decimal n ++ fraction_text [] r) rest
+    ∙ append-nil (decimal n)
