@@ -50,23 +50,3 @@ impl From<Memory> for DriveFault {
         DriveFault::Memory
     }
 }
-
-#[cfg(test)]
-mod tests {
-    use super::*;
-    use std::test::Fail;
-
-    #[test]
-    fn what_is_said_of_faults(rt: HostRuntime) -> Result<(), Fail> {
-        for (fault, text) in [
-            (DriveFault::Script { line: 3 }, "script: line 3"),
-            (DriveFault::TooLong, "script: longer than 67108864 bytes"),
-            (DriveFault::ReadFault, "read failed"),
-            (DriveFault::WriteFault, "write failed"),
-            (DriveFault::from(Memory), "out of memory"),
-        ] {
-            assert_eq!(rt; format!(in rt.alloc(); "{fault}")?.as_str(), text);
-        }
-        Ok(())
-    }
-}

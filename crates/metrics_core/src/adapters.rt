@@ -100,21 +100,3 @@ impl<W: Write> Sink for Writing<W> {
         }
     }
 }
-
-#[cfg(test)]
-mod tests {
-    use super::*;
-    use std::test::Fail;
-
-    #[test]
-    fn a_reader_and_a_writer(rt: HostRuntime) -> Result<(), Fail> {
-        let mut source = Reading::new(b"abc".as_slice());
-        let mut buf = [0u8; 2];
-        assert_eq!(rt; source.read(&mut buf), Ok(2));
-        assert_eq!(rt; buf.as_slice(), b"ab".as_slice());
-        let mut sink = Writing::new(Vec::new(rt.alloc()));
-        assert_eq!(rt; sink.write(&buf), Ok(2));
-        assert_eq!(rt; (source.faults(), sink.faults()), (0, 0));
-        Ok(())
-    }
-}

@@ -28,20 +28,3 @@ impl GaugeValue {
         }
     }
 }
-
-#[cfg(test)]
-mod tests {
-    use super::*;
-
-    #[test]
-    fn a_gauge_is_set_raised_and_lowered(rt: HostRuntime) {
-        let input = Fixed(5);
-        for (change, output) in [
-            (GaugeValue::Absolute(Fixed(3)), Fixed(3)),
-            (GaugeValue::Increment(Fixed(3)), Fixed(8)),
-            (GaugeValue::Decrement(Fixed(7)), Fixed(-2)),
-        ] {
-            assert_eq!(rt; change.update_value(input), output);
-        }
-    }
-}

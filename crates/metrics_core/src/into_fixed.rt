@@ -89,22 +89,3 @@ impl IntoFixed for Duration {
         }
     }
 }
-
-#[cfg(test)]
-mod tests {
-    use super::*;
-
-    #[test]
-    fn numbers_and_spans(rt: HostRuntime) {
-        assert_eq!(rt;
-            Duration::new(1, 5).into_fixed(),
-            Some(Fixed(1_000_000_005))
-        );
-        assert_eq!(rt; Duration::from_secs(10_000_000_000).into_fixed(), None);
-        assert_eq!(rt; (-2i8).into_fixed(), Some(Fixed(-2_000_000_000)));
-        assert_eq!(rt;
-            u32::MAX.into_fixed(),
-            Some(Fixed(4_294_967_295_000_000_000))
-        );
-    }
-}

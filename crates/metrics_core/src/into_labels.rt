@@ -64,39 +64,3 @@ impl IntoLabels for &BTreeMap<&'static str, &'static str> {
         )
     }
 }
-
-#[cfg(test)]
-mod tests {
-    use super::*;
-    use std::test::Fail;
-
-    const PAIRS: [(&str, &str); 2] = [("b", "2"), ("a", "1")];
-
-    fn shown(alloc: Global, labels: impl IntoLabels) -> Result<String, Fail> {
-        let labels = labels.into_labels(alloc)?;
-        Ok(format!(in alloc; "{labels:?}")?)
-    }
-
-    #[test]
-    fn pairs_and_labels(rt: HostRuntime) -> Result<(), Fail> {
-        let alloc = rt.alloc();
-        let pairs = shown(alloc, PAIRS.as_slice())?;
-        let labels = PAIRS.as_slice().into_labels(alloc)?;
-        assert_eq!(rt; shown(alloc, labels.iter())?, pairs);
-        assert_eq!(rt; shown(alloc, labels)?, pairs);
-        Ok(())
-    }
-
-    #[test]
-    fn entries(rt: HostRuntime) -> Result<(), Fail> {
-        let alloc = rt.alloc();
-        let mut entries = BTreeMap::new(alloc);
-        entries.insert("b", "2")?;
-        entries.insert("a", "1")?;
-        assert_eq!(rt;
-            shown(alloc, &entries)?.as_str(),
-            "[Label { key: \"a\", value: \"1\" }, Label { key: \"b\", value: \"2\" }]"
-        );
-        Ok(())
-    }
-}

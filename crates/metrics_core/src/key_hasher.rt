@@ -91,19 +91,3 @@ impl KeyHasher {
         }
     }
 }
-
-#[cfg(test)]
-mod tests {
-    use super::*;
-
-    #[test]
-    fn nothing_numbers_and_bytes(rt: HostRuntime) {
-        let mut hasher = KeyHasher::default();
-        assert_eq!(rt; hasher.finish(), 0);
-        hasher.write_u64(7);
-        assert_eq!(rt; hasher.finish(), 7);
-        let mut hasher = KeyHasher::default();
-        hasher.write(b"a");
-        assert_eq!(rt; hasher.finish(), 0xaf63dc4c8601ec8c);
-    }
-}

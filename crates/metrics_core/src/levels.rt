@@ -140,24 +140,3 @@ impl fmt::Display for LevelFault {
 }
 
 impl Error for LevelFault {}
-
-#[cfg(test)]
-mod tests {
-    use super::*;
-    use std::test::Fail;
-
-    #[test]
-    fn levels_are_read_and_ascend(rt: HostRuntime) -> Result<(), Fail> {
-        let alloc = rt.alloc();
-        assert_eq!(rt; Level::try_from_text(alloc, " INFO ")?, Level::INFO);
-        assert!(rt; Level::TRACE < Level::DEBUG && Level::WARN < Level::ERROR);
-        match Level::try_from_text(alloc, "foo") {
-            Ok(level) => assert_eq!(rt; level, Level::ERROR),
-            Err(fault) => assert_eq!(rt;
-                format!(in alloc; "{fault}")?.as_str(),
-                "unknown log level: foo (expected one of 'trace', 'debug', 'info', 'warn', or 'error')"
-            ),
-        }
-        Ok(())
-    }
-}

@@ -91,19 +91,3 @@ impl PartialEq for Metadata<'_> {
 impl Eq for Metadata<'_> {
     ghost laws = { and_equiv (on_equiv (λ m. m.target) nat_list_eq_equiv) (and_equiv (on_equiv (λ m. m.level) level_laws) (on_equiv (λ m. m.module_path) (options_equiv nat_list_eq_equiv))) };
 }
-
-#[cfg(test)]
-mod tests {
-    use super::*;
-    use std::test::Fail;
-
-    #[test]
-    fn parts_are_handed_out(rt: HostRuntime) -> Result<(), Fail> {
-        let metadata = Metadata::new("server", Level::INFO, Some("server::pages"));
-        assert_eq!(rt; metadata.target(), "server");
-        assert_eq!(rt; *metadata.level(), Level::INFO);
-        assert!(rt; metadata.module_path() == Some("server::pages"));
-        assert!(rt; metadata.clone()? == metadata);
-        Ok(())
-    }
-}

@@ -253,34 +253,3 @@ impl<T: fmt::Debug> fmt::Debug for CowSlice<'_, T> {
         fmt::Debug::fmt(&items, f)
     }
 }
-
-#[cfg(test)]
-mod tests {
-    use super::*;
-    use std::test::Fail;
-
-    #[test]
-    fn owned_items_are_retained_shared(rt: HostRuntime) -> Result<(), Fail> {
-        let alloc = rt.alloc();
-        let owned = CowSlice::from_owned(Vec::from_slice(alloc, &[1u8, 2])?);
-        let shared = owned.to_retained(alloc)?;
-        assert!(rt; matches!(shared, CowSlice::Shared(_)));
-        assert!(rt; matches!(shared.clone(alloc)?, CowSlice::Shared(_)));
-        assert!(rt; shared == owned && shared > CowSlice::const_slice(&[1]));
-        assert_eq!(rt; shared.into_owned(alloc)?.as_slice(), [1, 2].as_slice());
-        Ok(())
-    }
-
-    #[test]
-    fn std_holds_items_in_two_ways(rt: HostRuntime) -> Result<(), Fail> {
-        let alloc = rt.alloc();
-        let lent = CowSlice::from([1u8, 2].as_slice()).to_std(alloc)?;
-        assert!(rt; matches!(lent, borrow::CowSlice::Borrowed(_)));
-        assert!(rt; matches!(CowSlice::from_std(lent), CowSlice::Borrowed(_)));
-        let shared = CowSlice::from(Arc::new(alloc, Vec::from_slice(alloc, &[1u8])?)?);
-        assert_eq!(rt; format!(in alloc; "{shared:?}")?.as_str(), "[1]");
-        assert!(rt; matches!(shared.to_std(alloc)?, borrow::CowSlice::Owned(_)));
-        assert!(rt; CowSlice::<u8>::default().as_slice().is_empty());
-        Ok(())
-    }
-}

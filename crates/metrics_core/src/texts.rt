@@ -272,37 +272,3 @@ impl fmt::Debug for CowStr<'_> {
         fmt::Debug::fmt(&text, f)
     }
 }
-
-#[cfg(test)]
-mod tests {
-    use super::*;
-    use std::test::Fail;
-
-    #[test]
-    fn an_owned_text_is_retained_shared(rt: HostRuntime) -> Result<(), Fail> {
-        let alloc = rt.alloc();
-        let owned = CowStr::from_owned(String::from_str(alloc, "hello")?);
-        let shared = owned.to_retained(alloc)?;
-        assert!(rt; matches!(shared, CowStr::Shared(_)));
-        assert!(rt; matches!(shared.clone(alloc)?, CowStr::Shared(_)));
-        assert!(rt; shared == owned && shared >= CowStr::const_str("hallo"));
-        assert_eq!(rt; shared.into_owned(alloc)?.as_str(), "hello");
-        Ok(())
-    }
-
-    #[test]
-    fn std_holds_a_text_in_two_ways(rt: HostRuntime) -> Result<(), Fail> {
-        let alloc = rt.alloc();
-        let lent = CowStr::from("hello").to_std(alloc)?;
-        assert!(rt; matches!(lent, borrow::CowStr::Borrowed(_)));
-        assert!(rt; matches!(CowStr::from_std(lent), CowStr::Borrowed("hello")));
-        let shared = CowStr::from(Arc::new(alloc, String::from_str(alloc, "hello")?)?);
-        assert_eq!(rt;
-            format!(in alloc; "{shared} {shared:?}")?.as_str(),
-            "hello \"hello\""
-        );
-        assert!(rt; matches!(shared.to_std(alloc)?, borrow::CowStr::Owned(_)));
-        assert_eq!(rt; CowStr::default().as_str(), "");
-        Ok(())
-    }
-}

@@ -154,19 +154,3 @@ impl Unit {
         )
     }
 }
-
-#[cfg(test)]
-mod tests {
-    use super::*;
-
-    #[test]
-    fn units_are_read_back(rt: HostRuntime) {
-        for unit in UNITS {
-            assert_eq!(rt; Unit::from_string(unit.as_str()), Some(unit));
-        }
-        assert_eq!(rt; Unit::from_string("Seconds"), None);
-        assert_eq!(rt; Unit::Microseconds.as_canonical_label(), "μs");
-        assert!(rt; Unit::Bytes.is_data_based() && !Unit::Bytes.is_data_rate_based());
-        assert!(rt; Unit::Nanoseconds.is_time_based());
-    }
-}

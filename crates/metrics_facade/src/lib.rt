@@ -10,8 +10,6 @@ mod noop_recorder;
 mod once;
 mod recorder;
 mod scope;
-#[cfg(test)]
-mod tests;
 
 pub use cells::{CounterFn, GaugeFn, HistogramFn};
 pub use faults::{OutOfRange, RecordFault};

@@ -1,6 +1,6 @@
 //! Which recorder is the current one: the local one of a scope, the one of the program, or none.
 
-ghost use Rattle.std.specs.Prelude.{◌≡◌, None, Some, OnOk, IfErr, option_copied};
+ghost use Rattle.std.specs.Prelude.{◌≡◌, None, Some, OnOk, IfErr, IfSome, option_copied};
 ghost use Rattle.once_cell.specs.Once.{Agrees};
 ghost use Rattle.std.specs.Fn.{FnOnceReturnsAtMut};
 
@@ -124,7 +124,7 @@ pub enum Current<'a, R> {
     Noop,
 }
 
-/// Calls a function with the recorder that counts.
+/// Calls a function with the recorder that counts. A note that knows a recorder keeps it, and then one counts.
 pub fn with_recorder<'c, R, T, F: FnOnce(Current<'c, R>) -> T>(
     cell: &'c RecorderOnceCell<R>,
     note: &mut Note<R>,
@@ -134,6 +134,7 @@ pub fn with_recorder<'c, R, T, F: FnOnce(Current<'c, R>) -> T>(
     requires cell { note.old.cell ≡ cell.now }
     requires callable { F.IsAlwaysCallable f }
     ensures cell { note.new.cell ≡ note.old.cell }
+    ensures known { IfSome note.old.known (λ there. note.new.known ≡ Some there) }
     ensures answer { (current : _) × IsCurrent scope.now note.new.known current × F.post f current result }
 {
     match scope.current() {

@@ -17,8 +17,3 @@ pub use laws::same_in_any_cuts;
 pub use quantiles::{Quantile, parse_quantiles};
 pub use recency::{MetricKindMask, Recency};
 pub use registry::Registry;
-
-#[cfg(test)]
-mod series_tests;
-#[cfg(test)]
-mod tests;

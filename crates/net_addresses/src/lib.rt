@@ -6,8 +6,6 @@ mod networks;
 mod numbers;
 mod parts;
 mod sockets;
-#[cfg(test)]
-mod tests;
 
 pub use ips::{ip_texts_have_one_reading, read_ip};
 pub use networks::{Network, network_texts_have_one_reading};

@@ -296,3 +296,8 @@ page_told bytes families others fit fit_others is is_others =
   where
     page_nil : (fs : List Family) → body_text fs ++ (line (codes "# EOF") ++ []) ≡ page_text fs
     page_nil fs = refl
+
+-- a body is what stands before the end of a page
+pub body_told : (bytes : List ℕ) (families others : List Family) → AreInRange families → AreInRange others → IsBody bytes families → IsBody bytes others → families ≡ others
+body_told bytes families others fit fit_others is is_others =
+    page_told (bytes ++ line (codes "# EOF")) families others fit fit_others (bytes, refl, is) (bytes, refl, is_others)

@@ -1,8 +1,13 @@
 //! The labels of a row.
 
 ghost use Rattle.std.specs.Prelude.{◌≡◌, ◌↔◌, [], ◌∷◌, IsTrue, IsNone, IfNone, IfOk, IfSome, OnErr, OnOk, string_bytes};
-ghost use Rattle.metrics_core.specs.Keys.{LabelText, label_set, put_label};
-ghost use Rattle.prom_format.specs.LabelSets.{labels_of};
+ghost use Rattle.std.specs.Cmp.{partial_equiv_from_equiv};
+ghost use Rattle.std.specs.Cmp.Lexicographic.{pointwise, lists_equiv};
+ghost use Rattle.std.specs.Hash as fed;
+ghost use Rattle.std.specs.Hash.{items_Alike};
+ghost use Rattle.metrics_core.specs.Keys.{LabelText, label_eq, label_set, put_label};
+ghost use Rattle.metrics_core.specs.KeyLaws.{label_eq_laws, label_hash_input_respects};
+ghost use Rattle.prom_format.specs.LabelSets.{labels_of, label_hash_input};
 ghost use Rattle.prom_format.specs.Lines.{shown_label};
 ghost use Rattle.prom_format.specs.Pages.{label_text};
 
@@ -12,6 +17,7 @@ use indexmap::IndexMap;
 use indexmap::map::Slice;
 use metrics_core::{Key, Memory};
 use std::alloc::Global;
+use std::hash::{Hash, Hasher};
 use std::marker::Model;
 
 /// The labels of a series, each key once, in the order in which they are printed. A contract sees them as a list.
@@ -72,6 +78,37 @@ impl LabelSet {
     {
         LabelStrings {
             rest: self.labels.as_slice(),
+        }
+    }
+}
+
+/// Two sets are equal where they have the same labels in the same order.
+impl PartialEq for LabelSet {
+    ghost eq = { pointwise label_eq };
+
+    ghost laws = { partial_equiv_from_equiv (lists_equiv label_eq_laws) };
+
+    fn eq(&self, other: &LabelSet) -> bool {
+        self.labels.as_slice() == other.labels.as_slice()
+    }
+}
+
+impl Eq for LabelSet {
+    ghost laws = { lists_equiv label_eq_laws };
+}
+
+impl Hash for LabelSet {
+    ghost hash_input = { fed.slice label_hash_input };
+
+    ghost respects_eq = { (items_Alike (record { fed = label_hash_input_respects })).fed };
+
+    fn hash<H: Hasher>(&self, state: &mut H) {
+        state.write_usize(self.labels.len());
+        let mut rest = self.labels.as_slice();
+        while let Some(((key, value), behind)) = rest.split_first() {
+            key.hash(state);
+            value.hash(state);
+            rest = behind;
         }
     }
 }

@@ -22,7 +22,8 @@ pub fn names_stay()
 
 /// A metric name with any unit, and with a suffix that is itself such a name, is a metric name. The suffixes of rows are.
 pub fn full_names_are_metric_names()
-    ensures full { (name : List ℕ) (unit : Option UnitOf) (suffix : Option (List ℕ)) → IsMetricName name → IfSome suffix IsMetricName → IsMetricName (full_name name unit suffix) }
+    ensures full { (name : List ℕ) (unit : Option UnitOf) (suffix : Option (List ℕ))
+        → IsMetricName name → IfSome suffix IsMetricName → IsMetricName (full_name name unit suffix) }
     ensures suffixes { All IsMetricName (codes "total" ∷ codes "sum" ∷ codes "count" ∷ codes "bucket" ∷ []) }
 {}
 
@@ -34,8 +35,10 @@ pub fn escapes_tell_their_text()
 
 /// Two texts are printed alike exactly where their canonical texts are the same.
 pub fn printed_alike_where_meant_alike()
-    ensures label_values { (x y : List ℕ) → (printed_label_value x ≡ printed_label_value y) ↔ (canonical_label_value x ≡ canonical_label_value y) }
-    ensures descriptions { (x y : List ℕ) → (printed_description x ≡ printed_description y) ↔ (canonical_description x ≡ canonical_description y) }
+    ensures label_values { (x y : List ℕ) → (printed_label_value x ≡ printed_label_value y)
+        ↔ (canonical_label_value x ≡ canonical_label_value y) }
+    ensures descriptions { (x y : List ℕ) → (printed_description x ≡ printed_description y)
+        ↔ (canonical_description x ≡ canonical_description y) }
 {}
 
 /// What rows begin with tells the metric name and the labels.
@@ -53,7 +56,11 @@ pub fn one_text()
     ensures page_read { (families : List Family) → All IsPrintable families → IsPage (page_text families) families }
 {}
 
-/// A page is read in one way: bytes are a page of one list of families at most, where the values have 128 bits.
+/// A page is read in one way, and a body too: bytes are a page of one list of families at most, and a body of one at
+/// most, where the values have 128 bits.
 pub fn one_reading()
-    ensures page { (bytes : List ℕ) (families others : List Family) → AreInRange families → AreInRange others → IsPage bytes families → IsPage bytes others → families ≡ others }
+    ensures page { (bytes : List ℕ) (families others : List Family) → AreInRange families → AreInRange others
+        → IsPage bytes families → IsPage bytes others → families ≡ others }
+    ensures body { (bytes : List ℕ) (families others : List Family) → AreInRange families → AreInRange others
+        → IsBody bytes families → IsBody bytes others → families ≡ others }
 {}

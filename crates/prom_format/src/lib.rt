@@ -11,8 +11,6 @@ mod names;
 mod numbers;
 mod printed;
 mod suffixes;
-#[cfg(test)]
-mod tests;
 
 pub use families::FamilyType;
 pub use labels::{LabelSet, LabelStrings, put_label};

@@ -1,10 +1,10 @@
-//! Worked examples of handles, recorders and scopes.
+//! Handles, recorders and scopes.
 
 ghost use Rattle.std.specs.Prelude.{◌≡◌, ⊤, Some};
 ghost use Rattle.metrics_core.specs.Calls.{counter_step};
 
-use crate::*;
-use metrics_core::{Fixed, Key, KeyName, Level, Memory, Metadata, SharedString, Unit};
+use metrics_core::{Fixed, Key, Level, Memory, Metadata, SharedString};
+use metrics_facade::*;
 use std::alloc::Global;
 use std::sync::{Arc, Wait};
 use std::test::Fail;
@@ -62,81 +62,6 @@ fn values_out_of_range_are_refused(rt: HostRuntime) {
     );
 }
 
-/// A recorder that carries a number and hands out handles that do nothing.
-#[derive(Clone, Copy)]
-struct Numbered(u64);
-
-impl Recorder for Numbered {
-    type Counter = Counter<NoopCell>;
-
-    type Gauge = Gauge<NoopCell>;
-
-    type Histogram = Histogram<NoopCell>;
-
-    fn describe_counter<R: Wait>(
-        &self,
-        rt: &R,
-        alloc: Global,
-        key: KeyName,
-        unit: Option<Unit>,
-        description: SharedString,
-    ) -> Result<(), Memory> {
-        NoopRecorder.describe_counter(rt, alloc, key, unit, description)
-    }
-
-    fn describe_gauge<R: Wait>(
-        &self,
-        rt: &R,
-        alloc: Global,
-        key: KeyName,
-        unit: Option<Unit>,
-        description: SharedString,
-    ) -> Result<(), Memory> {
-        NoopRecorder.describe_gauge(rt, alloc, key, unit, description)
-    }
-
-    fn describe_histogram<R: Wait>(
-        &self,
-        rt: &R,
-        alloc: Global,
-        key: KeyName,
-        unit: Option<Unit>,
-        description: SharedString,
-    ) -> Result<(), Memory> {
-        NoopRecorder.describe_histogram(rt, alloc, key, unit, description)
-    }
-
-    fn register_counter<R: Wait>(
-        &self,
-        rt: &R,
-        alloc: Global,
-        key: &Key,
-        metadata: &Metadata<'_>,
-    ) -> Result<Counter<NoopCell>, Memory> {
-        NoopRecorder.register_counter(rt, alloc, key, metadata)
-    }
-
-    fn register_gauge<R: Wait>(
-        &self,
-        rt: &R,
-        alloc: Global,
-        key: &Key,
-        metadata: &Metadata<'_>,
-    ) -> Result<Gauge<NoopCell>, Memory> {
-        NoopRecorder.register_gauge(rt, alloc, key, metadata)
-    }
-
-    fn register_histogram<R: Wait>(
-        &self,
-        rt: &R,
-        alloc: Global,
-        key: &Key,
-        metadata: &Metadata<'_>,
-    ) -> Result<Histogram<NoopCell>, Memory> {
-        NoopRecorder.register_histogram(rt, alloc, key, metadata)
-    }
-}
-
 fn register<R: Wait, T: Recorder>(
     rt: &R,
     alloc: Global,
@@ -158,10 +83,11 @@ fn recorders_behind_references(rt: HostRuntime) -> Result<(), Fail> {
     Ok(())
 }
 
-fn number(current: Current<'_, Numbered>) -> u64 {
+/// The number that counts, with 100 added to that of the program.
+fn number(current: Current<'_, u64>) -> u64 {
     match current {
-        Current::Local(recorder) => recorder.0,
-        Current::Global(recorder) => recorder.0.wrapping_add(100),
+        Current::Local(number) => *number,
+        Current::Global(number) => number.wrapping_add(100),
         Current::Noop => 0,
     }
 }
@@ -171,11 +97,9 @@ fn the_first_recorder_stays(rt: HostRuntime) -> Result<(), Fail> {
     let cell = RecorderOnceCell::new(rt.alloc());
     let mut note = cell.note();
     assert!(rt; cell.try_load(&mut note).is_none());
-    assert!(rt; set_global_recorder(&cell, &mut note, Box::new(rt.alloc(), Numbered(1))?).is_ok());
-    match cell.set(&mut note, Box::new(rt.alloc(), Numbered(2))?) {
-        Ok(()) => assert!(rt; false),
-        Err(refused) => assert_eq!(rt; refused.into_inner().0, 2),
-    }
+    assert!(rt; set_global_recorder(&cell, &mut note, Box::new(rt.alloc(), 1)?).is_ok());
+    let refused = cell.set(&mut note, Box::new(rt.alloc(), 2)?).err();
+    assert_eq!(rt; refused.map(|refused| *refused.into_inner()), Some(2));
     let mut fresh = cell.note();
     let scope = RecorderScope::new();
     assert_eq!(rt; with_recorder(&cell, &mut fresh, &scope, number), 101);
@@ -183,8 +107,8 @@ fn the_first_recorder_stays(rt: HostRuntime) -> Result<(), Fail> {
 }
 
 /// The number of the local recorder of a scope.
-fn local(scope: &RecorderScope<'_, Numbered>) -> u64 {
-    scope.current().map_or(0, |recorder| recorder.0)
+fn local(scope: &RecorderScope<'_, u64>) -> u64 {
+    scope.current().copied().unwrap_or(0)
 }
 
 /// The recorders that count within two guards, one in the other, and in the outer one after the end of the inner.
@@ -207,9 +131,9 @@ fn in_guards<'a, R: Copy>(
 
 /// The number that counts in a call within a guard, and the one that counts in the guard after the call.
 fn called_in_guard<'a>(
-    scope: &mut RecorderScope<'a, Numbered>,
-    guarding: &'a Numbered,
-    called: &'a Numbered,
+    scope: &mut RecorderScope<'a, u64>,
+    guarding: &'a u64,
+    called: &'a u64,
 ) -> (u64, u64) {
     let guard = set_default_local_recorder(scope, guarding);
     let mut within = guard.scope();
@@ -218,19 +142,16 @@ fn called_in_guard<'a>(
 }
 
 #[test]
-fn the_innermost_recorder_counts(rt: HostRuntime) -> Result<(), Fail> {
-    let first = Numbered(1);
-    let second = Numbered(2);
+fn the_innermost_recorder_counts(rt: HostRuntime) {
+    let first = 1u64;
+    let second = 2u64;
     let mut scope = RecorderScope::new();
     let (inner, outer) = in_guards(&mut scope, &first, &second);
-    assert_eq!(rt; inner.ok_or("none")?.0, 2);
-    let outer = outer.ok_or("none")?;
-    assert_eq!(rt; outer.0, 1);
+    assert_eq!(rt; inner, Some(2));
+    assert_eq!(rt; outer, Some(1));
     assert_eq!(rt; local(&scope), 0);
     assert_eq!(rt; called_in_guard(&mut scope, &first, &second), (2, 1));
     assert_eq!(rt; local(&scope), 0);
-    register(&rt, rt.alloc(), &outer)?.increment(&mut (), 1);
-    Ok(())
 }
 
 fn crosses_threads<T: Send + Sync>() {}

@@ -1,6 +1,6 @@
-//! Worked examples of addresses, sockets and networks.
+//! Addresses, sockets and networks.
 
-use crate::*;
+use net_addresses::*;
 use std::net::{IpAddr, SocketAddr};
 
 fn v4(octets: [u8; 4]) -> Option<IpAddr> {

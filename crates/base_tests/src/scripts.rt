@@ -1,0 +1,112 @@
+//! Scripts as they are read, and what is said of those that are not played to their end.
+
+use drive_script::{Act, CallLine, DriveFault, Script, Setup, read_script};
+use metrics_core::{Fixed, Memory, MetricKind};
+use std::test::Fail;
+
+/// A script with a global label, a counter, a gauge with two labels, and a call of each verb.
+const SCRIPT: &str =
+    "global \"e\" \"a b\"\nround 0\nregister counter \"c\"\nregister gauge \"\u{e9} \\\"\" \"k\"=\"\\n\\\\\" \"l\"=\"\"\n0 inc 0 42\n7 abs 0 7\n1 set 1 -3.14\n2 add 1 5\n3 sub 1 0.000000001\nround 0\nround 1\n";
+
+/// Whether the settings and the register lines are those of the script.
+fn has_series(script: &Script) -> bool {
+    let [(key, value)] = script.settings.globals.as_slice() else {
+        return false;
+    };
+    let [_, Setup::Register { kind, key: gauge }] = script.rounds[0].setup.as_slice() else {
+        return false;
+    };
+    let values = ["\n\\", ""];
+    (key.as_str(), value.as_str()) == ("e", "a b")
+        && (*kind, gauge.name()) == (MetricKind::Gauge, "\u{e9} \"")
+        && gauge
+            .labels()
+            .zip(values.iter())
+            .all(|(label, value)| label.value() == *value)
+}
+
+/// Whether the calls are those of the script.
+fn has_calls(calls: &[CallLine]) -> bool {
+    let expected = [
+        (0, 0, Act::Inc(42)),
+        (7, 0, Act::Abs(7)),
+        (1, 1, Act::Set(Fixed(-3_140_000_000))),
+        (2, 1, Act::Add(Fixed(5_000_000_000))),
+        (3, 1, Act::Sub(Fixed(1))),
+    ];
+    calls.len() == expected.len()
+        && calls
+            .iter()
+            .zip(expected.iter())
+            .all(|(call, act)| (call.lane, call.handle, call.act) == *act)
+}
+
+/// Whether a script was read as it was written.
+fn is_read(script: &Script) -> bool {
+    script.rounds.len() == 3
+        && script.rounds[2].moment == 1
+        && has_series(script)
+        && has_calls(script.rounds[0].calls.as_slice())
+}
+
+#[test]
+fn a_counter_a_gauge_and_their_calls(rt: HostRuntime) -> Result<(), Fail> {
+    let script = read_script(rt.alloc(), SCRIPT.as_bytes())?;
+    assert!(rt; is_read(&script));
+    Ok(())
+}
+
+#[test]
+fn first_bad_lines(rt: HostRuntime) {
+    for (text, line) in [
+        ("\n", 1),
+        ("round 0\n\nregister counter \"a\"\n", 2),
+        ("round 00\n", 1),
+        ("round 18446744073709551616\n", 1),
+        ("round  0\n", 1),
+        ("round 0 \n", 1),
+        ("round 0\r\n", 1),
+        ("round 5\nround 4\n", 2),
+        ("round 0\nglobal \"a\" \"b\"\n", 2),
+        ("global \"a\"\n", 1),
+        ("round 0\nregister histogram \"h\"\n", 2),
+        ("round 0\nregister counter \"a\\t\"\n", 2),
+        ("round 0\nregister counter \"a\" \"b\"\n", 2),
+        ("round 0\n0 inc 0 1\n", 2),
+        ("round 0\nregister counter \"a\"\n0 inc 0", 3),
+        ("round 0\nregister counter \"a\"\n0 inc 4294967296 1\n", 3),
+        ("round 0\nregister counter \"a\"\n8 inc 0 1\n", 3),
+        ("round 0\nregister counter \"a\"\n0 set 0 1\n", 3),
+        ("round 0\nregister gauge \"a\"\n0 set 0 1.0000000001\n", 3),
+        ("round 0\nregister gauge \"a\"\n0 set 0 1.\n", 3),
+        (
+            "round 0\nregister gauge \"a\"\n0 set 0 9223372036.854775808\n",
+            3,
+        ),
+        (
+            "round 0\nregister counter \"a\"\n0 inc 0 1\nregister counter \"b\"\n",
+            4,
+        ),
+        (
+            "round 0\nregister counter \"x\" \"a\"=\"\\\\\"\nregister counter \"x\" \"a\"=\"\\\\\\\\\"\n",
+            3,
+        ),
+        (
+            "round 0\nregister counter \"a b\"\nregister gauge \"a_b\"\nregister counter \"a_b\"\n",
+            4,
+        ),
+    ] {
+        let fault = read_script(rt.alloc(), text.as_bytes()).err();
+        assert_eq!(rt; fault, Some(DriveFault::Script { line }), "at {text}");
+    }
+    let fault = read_script(rt.alloc(), &[255]).err();
+    assert_eq!(rt; fault, Some(DriveFault::Script { line: 1 }));
+}
+
+#[test]
+fn what_is_said_of_a_fault(rt: HostRuntime) -> Result<(), Fail> {
+    let fault = DriveFault::from(Memory);
+    let said = format!(in rt.alloc(); "{fault}, {}", DriveFault::Script { line: 3 })?;
+    assert_eq!(rt; said.as_str(), "out of memory, script: line 3");
+    Ok(())
+}
