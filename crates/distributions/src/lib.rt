@@ -8,6 +8,3 @@ mod rules;
 
 pub use builder::DistributionBuilder;
 pub use distribution::{Distribution, RecordSamplesFault};
-
-#[cfg(test)]
-mod tests;

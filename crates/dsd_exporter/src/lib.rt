@@ -4,8 +4,6 @@
 mod faults;
 mod limits;
 mod remote_addr;
-#[cfg(test)]
-mod tests;
 
 pub use faults::{BuildError, LimitFault};
 pub use limits::limit_fault;

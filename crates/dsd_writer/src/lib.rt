@@ -12,8 +12,6 @@ mod payloads;
 mod points;
 mod results;
 mod room;
-#[cfg(test)]
-mod tests;
 mod writer;
 
 pub use laws::{

@@ -9,6 +9,3 @@ mod laws;
 pub use config::NativeHistogramConfig;
 pub use histogram::NativeHistogram;
 pub use laws::same_in_any_cuts;
-
-#[cfg(test)]
-mod tests;

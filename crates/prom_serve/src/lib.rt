@@ -4,7 +4,5 @@
 mod answers;
 mod heads;
 mod paths;
-#[cfg(test)]
-mod tests;
 
 pub use answers::{answers_are_determined, respond};

@@ -8,6 +8,3 @@ mod summary;
 pub use buckets::Bucket;
 pub use laws::same_in_any_cuts;
 pub use summary::RollingSummary;
-
-#[cfg(test)]
-mod tests;
