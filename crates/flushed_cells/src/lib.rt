@@ -21,8 +21,6 @@ mod lent_gauge;
 mod pass;
 mod rounds;
 mod rule;
-#[cfg(test)]
-mod tests;
 
 pub use counter::{CounterPass, DsdCounter};
 pub use counter_calls::{CounterCall, CounterChange};

@@ -14,8 +14,6 @@ mod queue;
 mod rounds;
 mod rule;
 mod series;
-#[cfg(test)]
-mod tests;
 
 pub use calls::{Entry, QueueCall};
 pub use histograms::{DsdHistogram, PromHistogram};

@@ -12,6 +12,7 @@ mod counter_series;
 mod faces;
 mod gauge;
 mod gauge_series;
+pub mod laws;
 mod lent_counter;
 mod lent_gauge;
 mod pass;
@@ -28,6 +29,3 @@ pub use lent_counter::LentCounter;
 pub use lent_gauge::LentGauge;
 pub use pass::CellPass;
 pub use rounds::{run_counters, run_gauges};
-
-#[cfg(test)]
-mod tests;
