@@ -17,6 +17,3 @@ pub use lanes::{LanePass, SeriesCell};
 pub use laws::{basic_page, given_back_is_seen, looking_forgets_nothing, pages_are_read};
 pub use lent::Lent;
 pub use state::PrometheusState;
-
-#[cfg(test)]
-mod tests;
