@@ -1,4 +1,8 @@
 //! The DogStatsD exporter: where its lines are sent, and what settings it refuses.
+//!
+//! Where payloads go:
+//!
+//!     let agent = RemoteAddr::from_text(alloc, "127.0.0.1:8125")?;
 #![tactic(auto)]
 
 mod faults;

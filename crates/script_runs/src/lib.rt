@@ -1,5 +1,9 @@
 //! Runs of scripts: a script is read from a source, played on the exporter, and a page is written for each round; a run
 //! ends with a status and a line that says why.
+//!
+//! A run over a script in memory:
+//!
+//!     let status = run(rt, alloc, &["drive"], &mut source, &mut out, &mut err, &Free);
 #![tactic(auto)]
 
 mod driving;
