@@ -218,7 +218,10 @@ fn moved_by_lanes<R: Threads + Wait + Sync>(
 
 #[test]
 fn lanes_move_a_gauge_side_by_side(rt: HostRuntime) -> Result<(), Fail> {
-    assert_eq!(rt; moved_by_lanes(&rt, rt.alloc())?, Some((Fixed(-2000), 2000)));
+    assert_eq!(rt;
+        moved_by_lanes(&rt, rt.alloc())?,
+        Some((Fixed(-2000), 2000))
+    );
     Ok(())
 }
 

@@ -40,8 +40,10 @@ pub fn run_counters<R: Threads + Wait + Sync, H: LaneHook + Sync>(
     ensures stopped { OnErr result (Stopped counter_root StandsAsCounter lanes.now counters.old.items counters.new.items) }
     ensures flushed { IfOk result (λ answer. (c : DsdCounterSeries) → get_elem? counters.old.items index ≡ some c → CounterFlushed (all_calls_on index lanes.now) (counter_root c) answer.0 answer.1) }
 {
-    run_lanes(rt, alloc, hook, counters, lanes)?;
-    Ok(counters[index].flush(rt))
+    match run_lanes(rt, alloc, hook, counters, lanes) {
+        Ok(()) => Ok(counters[index].flush(rt)),
+        Err(refused) => Err(refused),
+    }
 }
 
 /// Runs lanes side by side over gauges, and flushes the gauge with this index. Each history has then grown by all calls of the lanes
@@ -64,6 +66,8 @@ pub fn run_gauges<R: Threads + Wait + Sync, H: LaneHook + Sync>(
     ensures stopped { OnErr result (Stopped gauge_root StandsAsGauge lanes.now gauges.old.items gauges.new.items) }
     ensures flushed { IfOk result (λ answer. (c : DsdGaugeSeries) → get_elem? gauges.old.items index ≡ some c → GaugeFlushed (all_calls_on index lanes.now) (gauge_root c) answer.0 answer.1) }
 {
-    run_lanes(rt, alloc, hook, gauges, lanes)?;
-    Ok(gauges[index].flush(rt))
+    match run_lanes(rt, alloc, hook, gauges, lanes) {
+        Ok(()) => Ok(gauges[index].flush(rt)),
+        Err(refused) => Err(refused),
+    }
 }

@@ -35,6 +35,8 @@ pub fn run_queues<R: Threads + Wait + Sync, H: LaneHook + Sync, T: Copy + Drop +
     ensures stopped { OnErr result (Stopped queue_root IsPush lanes.now queues.old.items queues.new.items) }
     ensures given { IfOk result (λ front. (q : QueueSeries T) → get_elem? queues.old.items index ≡ some q → GivenOut (all_calls_on index lanes.now) (queue_root q) front) }
 {
-    run_lanes(rt, alloc, hook, queues, lanes)?;
-    Ok(queues[index].next(rt))
+    match run_lanes(rt, alloc, hook, queues, lanes) {
+        Ok(()) => Ok(queues[index].next(rt)),
+        Err(refused) => Err(refused),
+    }
 }

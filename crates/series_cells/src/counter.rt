@@ -114,8 +114,6 @@ impl PromCounter {
         self.table
             .shared
             .join_seat::<rules::Lends>(&mut pass.seat, seat);
-        self.table
-            .shared
-            .load::<rules::Peeks>(&mut pass.seat, 0);
+        self.table.shared.load::<rules::Peeks>(&mut pass.seat, 0);
     }
 }

@@ -134,8 +134,6 @@ impl PromGauge {
         self.table
             .shared
             .join_seat::<rules::Lends>(&mut pass.seat, seat);
-        self.table
-            .shared
-            .load::<rules::Peeks>(&mut pass.seat, 0);
+        self.table.shared.load::<rules::Peeks>(&mut pass.seat, 0);
     }
 }

@@ -35,8 +35,10 @@ pub fn run_counters<R: Threads + Wait + Sync, H: LaneHook + Sync>(
     ensures stopped { OnErr result (Stopped counter_root StandsAsCounter lanes.now counters.old.items counters.new.items) }
     ensures value { IfOk result (λ n. (c : CounterSeries) → get_elem? counters.old.items index ≡ some c → PlayedByCounter (all_calls_on index lanes.now) (counter_root c) n) }
 {
-    run_lanes(rt, alloc, hook, counters, lanes)?;
-    Ok(counters[index].value())
+    match run_lanes(rt, alloc, hook, counters, lanes) {
+        Ok(()) => Ok(counters[index].value()),
+        Err(refused) => Err(refused),
+    }
 }
 
 /// Runs lanes side by side over gauges, and reads the gauge with this index. Each history has then grown by all calls of the
@@ -58,6 +60,8 @@ pub fn run_gauges<R: Threads + Wait + Sync, H: LaneHook + Sync>(
     ensures stopped { OnErr result (Stopped gauge_root StandsAsGauge lanes.now gauges.old.items gauges.new.items) }
     ensures value { IfOk result (λ n. (c : GaugeSeries) → get_elem? gauges.old.items index ≡ some c → PlayedByGauge (all_calls_on index lanes.now) (gauge_root c) n.0) }
 {
-    run_lanes(rt, alloc, hook, gauges, lanes)?;
-    Ok(gauges[index].value())
+    match run_lanes(rt, alloc, hook, gauges, lanes) {
+        Ok(()) => Ok(gauges[index].value()),
+        Err(refused) => Err(refused),
+    }
 }

@@ -22,10 +22,10 @@ load-requires c =
     (e.0 ∙ c.requires.pass, omega (arith, c.args.self.now.two), peeks counter_step 0 itself _ q.id q.me (ap (λ (m : Seen). m.0.history.live) e.2 ∙ c.args.pass.now.live))
 
 pub returns-clause-seen : goal.returns-clause-seen
-returns-clause-seen g c =
+returns-clause-seen c =
     let e = c.join_seat.ensures in
     let told = c.load.ensures.2 in
     let joined = ap (λ (m : Seen). history_of m.0) e.2 in
     let now = ap (λ (m : Seen). history_of m.0) told.0 ∙ joined in
     subst (λ (v : View ValueCall). IsPrefix (history_of c.args.child.seat.me.0).seen v.seen) (sym now)
-    (came_back (history_of c.args.pass.now.seat.me.0) (history_of c.args.child.seat.me.0) told.1 (subst (λ (v : View ValueCall). Sees v told.1) joined told.2))
+    (came_back (history_of c.args.pass.now.seat.me.0) (history_of c.args.child.seat.me.0) told.1.0 (subst (λ (v : View ValueCall). Sees v told.1.0) joined told.1.1))
