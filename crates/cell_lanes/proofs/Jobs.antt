@@ -280,28 +280,42 @@ module _ {L M : Type 0} (knows : L → View M) where
         (λ (q : ((x : ℕ × Held M) → Mem x (all_given knows j 0 jobs) → x.0 ≢ l) × (lane_calls (all_given knows j 0 jobs) l ≡ [])). q.1)
         (find_lane (all_given knows j 0 jobs) l))
 
+    -- one lane and its job
+    module _ (l : ℕ) (a : Lane K) (y : Job L) (at : get_elem? ls l ≡ some a) (its : get_elem? jobs l ≡ some y) where
+      calls_are : calls_on j ls (done_of jobs) l ≡ cell_calls j a.cells.items (take y.done a.lines.items)
+      calls_are = calls_at j ls (done_of jobs) l a at ∙ ap (λ n. cell_calls j a.cells.items (take n a.lines.items)) (done_at jobs l y its)
+
+      -- what the pass in slot s, a pass of cell j, came back with
+      with_pass : (s : ℕ) (z : Slot L) → get_elem? y.slots.items s ≡ some z → z.cell ≡ j → StandAs stands (calls_on j ls (done_of jobs) l) (lane_calls (all_given knows j 0 jobs) l)
+      with_pass s z there cell =
+          let came_is : Mem {A = ℕ × Held M} (came l z) (all_given knows j 0 jobs) = subst (λ n. Mem {A = ℕ × Held M} (came n z) (all_given knows j 0 jobs)) (omega arith) (all_has j 0 jobs l y s z its there cell) in
+          let its_calls : StandAs stands (slot_calls s (take y.done a.lines.items)) (knows z.lent).mine = (ran l a y at its).made s z there in
+          let through_is : slot_calls s (take y.done a.lines.items) ≡ calls_on j ls (done_of jobs) l =
+          through a y s (at_cell y.slots.items s z there ∙ ap some cell) (fit l a at).once (fit l a at).lines (ran l a y at its).whole ∙ sym calls_are in
+          subst (StandAs stands (calls_on j ls (done_of jobs) l)) (sym (calls_is (all_given knows j 0 jobs) (came l z) apart came_is))
+          (subst (λ ks. StandAs stands ks (knows z.lent).mine) through_is its_calls)
+
+      -- a lane with no pass of cell j
+      none_came : ((s : ℕ) → get_elem? (cells_of y.slots.items) s ≡ some j → ⊥) → (x : ℕ × Held M) → Mem x (all_given knows j 0 jobs) → x.0 ≢ l
+      none_came far x m e =
+          let g = all_from j 0 jobs x m in
+          let n : x.0 ≡ 0 + g.0 = ap (λ (z : ℕ × Held M). z.0) g.3.4 in
+          let same : g.0 ≡ l = omega arith in
+          let job : g.1 ≡ y = one_at jobs l g.1 y (subst (λ n. get_elem? jobs n ≡ some g.1) same g.2) its in
+          far g.3.0 (subst (λ (js : Job L). get_elem? (cells_of js.slots.items) g.3.0 ≡ some j) job (at_cell g.1.slots.items g.3.0 g.3.1 g.3.2 ∙ ap some g.3.3))
+
+      without_pass : ((s : ℕ) → get_elem? (cells_of y.slots.items) s ≡ some j → ⊥) → StandAs stands (calls_on j ls (done_of jobs) l) (lane_calls (all_given knows j 0 jobs) l)
+      without_pass far = stand_none l (calls_are ∙ no_pass a y far (fit l a at).lines (ran l a y at its).whole) (none_came far)
+
+      stands_for : ((s : ℕ) × (get_elem? (cells_of y.slots.items) s ≡ some j)) ⊎ ((s : ℕ) → get_elem? (cells_of y.slots.items) s ≡ some j → ⊥) → StandAs stands (calls_on j ls (done_of jobs) l) (lane_calls (all_given knows j 0 jobs) l)
+      stands_for (inl q) = let z = cell_at y.slots.items q.0 j q.1 in with_pass q.0 z.0 z.1 z.2
+      stands_for (inr far) = without_pass far
+
     of_lane : (l : ℕ) → l < length jobs → StandAs stands (calls_on j ls (done_of jobs) l) (lane_calls (all_given knows j 0 jobs) l)
     of_lane l h =
         let a = below_some ls l (omega arith) in
         let y = below_some jobs l h in
-        let r = ran l a.0 y.0 a.1 y.1 in
-        let ft = fit l a.0 a.1 in
-        let is : calls_on j ls (done_of jobs) l ≡ cell_calls j a.0.cells.items (take y.0.done a.0.lines.items) = calls_at j ls (done_of jobs) l a.0 a.1 ∙ ap (λ n. cell_calls j a.0.cells.items (take n a.0.lines.items)) (done_at jobs l y.0 y.1) in
-        ⊎_elim
-        (λ (q : (s : ℕ) × (get_elem? (cells_of y.0.slots.items) s ≡ some j)).
-        let z = cell_at y.0.slots.items q.0 j q.1 in
-        let came_is : Mem {A = ℕ × Held M} (came l z.0) (all_given knows j 0 jobs) = subst (λ n. Mem {A = ℕ × Held M} (came n z.0) (all_given knows j 0 jobs)) (omega arith) (all_has j 0 jobs l y.0 q.0 z.0 y.1 z.1 z.2) in
-        subst (StandAs stands (calls_on j ls (done_of jobs) l)) (sym (calls_is (all_given knows j 0 jobs) (came l z.0) apart came_is))
-        (subst (λ ks. StandAs stands ks (knows z.0.lent).mine) (through a.0 y.0 q.0 q.1 ft.once ft.lines r.whole ∙ sym is) (r.made q.0 z.0 z.1)))
-        (λ (far : (s : ℕ) → get_elem? (cells_of y.0.slots.items) s ≡ some j → ⊥).
-        stand_none l (is ∙ no_pass a.0 y.0 far ft.lines r.whole)
-        (λ x m e.
-        let g = all_from j 0 jobs x m in
-        let n : x.0 ≡ 0 + g.0 = ap (λ (z : ℕ × Held M). z.0) g.3.4 in
-        let same : g.0 ≡ l = omega arith in
-        let job : g.1 ≡ y.0 = one_at jobs l g.1 y.0 (subst (λ n. get_elem? jobs n ≡ some g.1) same g.2) y.1 in
-        far g.3.0 (subst (λ (js : Job L). get_elem? (cells_of js.slots.items) g.3.0 ≡ some j) job (at_cell g.1.slots.items g.3.0 g.3.1 g.3.2 ∙ ap some g.3.3))))
-        (find_at (cells_of y.0.slots.items) j)
+        stands_for l a.0 y.0 a.1 y.1 (find_at (cells_of y.0.slots.items) j)
 
     of_none : (l : ℕ) → length jobs ≤ l → StandAs stands (calls_on j ls (done_of jobs) l) (lane_calls (all_given knows j 0 jobs) l)
     of_none l h = stand_none l (calls_none j ls (done_of jobs) l (done_past jobs l h))

@@ -5,3 +5,4 @@ pub mod Returning
 pub mod Jobs
 pub mod Resting
 pub mod Rows
+pub mod Played

@@ -5,10 +5,10 @@ use mathlib.Core.List.{IsPrefix}
 use lib.ListN.{get_elem?}
 use Rattle.legal_history.specs.declared.history.Held.{Held}
 use Rattle.legal_history.specs.declared.history.View.{View}
-use Rattle.legal_history.specs.History.{Distinct, held, keep, Settled}
-use Rattle.legal_history.specs.Order.{times, GrewInOrder}
+use Rattle.legal_history.specs.History.{Distinct, calls, held, keep, Settled}
+use Rattle.legal_history.specs.Order.{times, taken, IsOrder, GrewInOrder}
 use Rattle.legal_history.specs.Places.{Ascend}
-use Rattle.legal_history.specs.News.{helds}
+use Rattle.legal_history.specs.News.{helds, calls_if}
 use Rattle.cell_lanes.specs.declared.lane.Line.{Line}
 use Rattle.cell_lanes.specs.declared.lane.Lane.{Lane}
 use Rattle.cell_lanes.specs.declared.lane.Slot.{Slot}
@@ -78,6 +78,24 @@ Each {S} R cs ds = (j : ℕ) (c d : S) → get_elem? cs j ≡ some c → get_ele
 -- the history grew by what the lanes asked for on cell j, in one order in which each lane's calls stand as it made them
 abbrev pub Grew : {S K M : Type 0} → (S → View M) → (K → List M → Type 0) → List (Lane K) → (ℕ → ℕ) → ℕ → S → S → Type 0
 Grew {M = M} root stands lanes done j c d = (lists : ℕ → List M) × ((l : ℕ) → StandAs stands (calls_on j lanes done l) (lists l)) × GrewInOrder lists (root c).seen (root d).seen
+
+-- the same where all lanes made all their calls, and calls that were made after the round stand behind them
+abbrev pub GrewWhole : {S K M : Type 0} → (S → View M) → (K → List M → Type 0) → List (Lane K) → (ℕ → List M) → ℕ → S → S → Type 0
+GrewWhole {M = M} root stands lanes later j c d =
+    (lists : ℕ → List M) × ((l : ℕ) → StandAs stands (all_calls_on j lanes l) (lists l)) × (order : List ℕ) × IsOrder order lists
+    × (calls (root d).seen ≡ (calls (root c).seen ++ taken order lists) ++ later j)
+
+-- no call was made after the round; or these were, on the cell with this index
+abbrev pub none_later : {M : Type 0} → ℕ → List M
+none_later j = []
+
+abbrev pub later_on : {M : Type 0} → ℕ → List M → ℕ → List M
+later_on index made j = calls_if (j == index) made []
+
+-- a round that finished, and calls after it: there are as many things as before, and each history grew so
+pub record Finished {S K M : Type 0} (root : S → View M) (stands : K → List M → Type 0) (lanes : List (Lane K)) (later : ℕ → List M) (cs ds : List S) : Type 0 where
+  pub many : length ds ≡ length cs
+  pub grew : Each (GrewWhole root stands lanes later) cs ds
 
 -- lanes that stopped: each history grew by the first calls of each lane; a lane has calls left, or none has made any
 abbrev pub Stopped : {S K M : Type 0} → (S → View M) → (K → List M → Type 0) → List (Lane K) → List S → List S → Type 0

@@ -1,4 +1,8 @@
 //! The script of rounds: its types, its grammar, and the reader that finds its first bad line.
+//!
+//! A script, or its first bad line:
+//!
+//!     let script = read_script(alloc, b"round 0\n")?;
 #![tactic(auto)]
 
 mod cursor;

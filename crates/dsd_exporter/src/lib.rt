@@ -1,11 +1,13 @@
 //! The DogStatsD exporter: where its lines are sent, and what settings it refuses.
+//!
+//! Where payloads go:
+//!
+//!     let agent = RemoteAddr::from_text(alloc, "127.0.0.1:8125")?;
 #![tactic(auto)]
 
 mod faults;
 mod limits;
 mod remote_addr;
-#[cfg(test)]
-mod tests;
 
 pub use faults::{BuildError, LimitFault};
 pub use limits::limit_fault;

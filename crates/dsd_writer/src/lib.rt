@@ -1,5 +1,11 @@
 //! DogStatsD lines and payloads (DogStatsD datagrams, protocol 1.3): the lines of series, packed within a limit of bytes
 //! into the fewest lines and payloads that keep their order.
+//!
+//! A counter's line, and the payloads that are then to be sent:
+//!
+//!     let mut writer = PayloadWriter::new(alloc, 1432, false);
+//!     writer.write_counter(&key, 1, None, None)?;
+//!     let payloads = writer.payloads()?;
 #![tactic(auto)]
 
 mod items;
@@ -12,8 +18,6 @@ mod payloads;
 mod points;
 mod results;
 mod room;
-#[cfg(test)]
-mod tests;
 mod writer;
 
 pub use laws::{

@@ -1,4 +1,8 @@
 //! What a list of writes leaves of a map from keys to bags of values, and one copy of such a map.
+//!
+//! One write on one copy:
+//!
+//!     contents.write(&write)?;
 #![tactic(auto)]
 
 mod entries;

@@ -5,6 +5,12 @@
 //! runtime. A caller has a pass of the cell. The calls of all passes, flushes with their answers, stand in one history
 //! (`legal_history`), in which each flush answers what a cell of one thread answers there (`specs/Counters.antt`,
 //! `specs/Gauges.antt`).
+//!
+//! A counter, a call, and what is then to be sent:
+//!
+//!     let (requests, mut pass) = DsdCounter::new(alloc)?;
+//!     requests.increment(rt, &mut pass, 1);
+//!     let (delta, updates) = requests.flush(rt, &mut pass);
 #![tactic(auto)]
 
 mod counter;
@@ -21,8 +27,6 @@ mod lent_gauge;
 mod pass;
 mod rounds;
 mod rule;
-#[cfg(test)]
-mod tests;
 
 pub use counter::{CounterPass, DsdCounter};
 pub use counter_calls::{CounterCall, CounterChange};

@@ -6,7 +6,7 @@ use mathlib.Core.List.{IsPrefix}
 use Rattle.legal_history.specs.declared.history.Entry.{Entry}
 use Rattle.legal_history.specs.declared.history.Held.{Held}
 use Rattle.legal_history.specs.declared.history.View.{View}
-use Rattle.legal_history.specs.History.{In, Joined, Among, after, said, calls_by, numbers, Settled, Sees}
+use Rattle.legal_history.specs.History.{In, Joined, Among, after, held, said, taker, calls_by, numbers, Settled, Sees}
 use Rattle.legal_history.specs.Places.{or_if, has, place_if, places_from, places, run_of, Ascend}
 use Rattle.legal_history.proofs.Fronts.{prefix_length, prefix_trans}
 use Rattle.legal_history.proofs.Lists.{none_added, between}
@@ -129,6 +129,14 @@ module _ {C : Type 0} where
       let r = s.returned h a in
       same_places (h.by ∷ []) h.seen log (prefix_trans h.seen v.seen log r.begins s.begins)
       (λ t i. ⊎_elim (λ (e : t ≡ h.by). ap (λ n. calls_by n log) e ∙ (s.back h a ∙ (sym r.told ∙ ap (λ n. calls_by n h.seen) (sym e)))) (λ (z : ⊥). absurd z) i)
+
+  among_last : (hs : List (Held C)) (h : Held C) → Among h (hs ++ h ∷ [])
+  among_last [] h = inl refl
+  among_last (x ∷ hs) h = inr (among_last hs h)
+
+  -- what a pass had seen that was taken back
+  pub came_back : (v w : View C) (log : List (Entry C)) → Sees (taker v w) log → IsPrefix w.seen (taker v w).seen
+  came_back v w log s = (s.returned (held w.number w.mine w.seen) (among_last v.joined (held w.number w.mine w.seen))).begins
 
   pub ascend : (ns : List ℕ) (k : ℕ) (es : List (Entry C)) → Ascend k (k + length es) (places_from ns k es)
   ascend ns k [] = tt

@@ -3,7 +3,8 @@ ghost use Rattle.std.specs.Prelude.{◌≡◌, ◌≤◌, ℕ, List, [], ◌∷�
 ghost use Rattle.legal_history.specs.declared.history.Entry.{Entry};
 ghost use Rattle.legal_history.specs.declared.history.Held.{Held};
 ghost use Rattle.legal_history.specs.declared.history.View.{View};
-ghost use Rattle.legal_history.specs.History.{In, Among, Settled, Sees, after};
+ghost use mathlib.Core.List.{IsPrefix};
+ghost use Rattle.legal_history.specs.History.{In, Among, Settled, Sees, after, taker};
 ghost use Rattle.legal_history.specs.Places.{has, places, places_from, run_of, Ascend};
 ghost use Rattle.legal_history.specs.Order.{GrewInOrder};
 ghost use Rattle.legal_history.specs.News.{TookIn, lane_calls};
@@ -21,6 +22,11 @@ pub fn a_call_stands_last<C>()
 /// A pass that was given back keeps its places in all that the root sees later.
 pub fn given_back_places_stay<C>()
     ensures { (v : View C) (log : List (Entry C)) (h : Held C) → Sees v log → Among h v.joined → places_from (h.by ∷ []) 0 log ≡ places_from (h.by ∷ []) 0 h.seen }
+{}
+
+/// What a pass had seen that was taken back begins what the root has then seen: whatever the root is told next says so.
+pub fn what_came_back_was_seen<C>()
+    ensures { (v w : View C) (log : List (Entry C)) → Sees (taker v w) log → IsPrefix w.seen (taker v w).seen }
 {}
 
 /// A root with no pass out has every place of its history.

@@ -21,6 +21,8 @@
 //!
 //! What follows for all kinds, from what their steps tell: where the calls of a pass stand (`specs/Places.antt`), and
 //! that the calls that lanes made side by side stand in one order, each lane's in its own (`specs/Order.antt`).
+//!
+//! A law is a function whose contract says it, as `a_call_stands_last`; a proof above cites it.
 #![tactic(auto)]
 
 pub mod history;

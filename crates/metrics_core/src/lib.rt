@@ -1,5 +1,10 @@
 //! The base of every crate of the project: what meets the outside (sources of bytes and sinks for them), the keys,
 //! kinds and numbers of series, the calls that change them, and units.
+//!
+//! A key, as it names a series:
+//!
+//!     let name = KeyName::from_const_str("requests");
+//!     let key = Key::from_parts(name, labels);
 #![tactic(auto)]
 
 mod adapters;

@@ -1,26 +1,9 @@
 //! The program: it plays a script of rounds on the exporter, and writes a page for each round.
 #![tactic(auto)]
 
-mod drive;
-mod examples;
-#[cfg(test)]
-mod lane_tests;
-mod lanes;
-mod play;
-mod reading;
-mod report;
-mod run;
-mod say;
-#[cfg(test)]
-mod tests;
-
-pub use cell_lanes::{LaneHook as Gate, NoHook as Free};
-pub use drive::drive;
 use drive_script::DriveFault;
-pub use examples::{basic_example, empty_example};
 use metrics_core::{Memory, Reading, Sink, Source, Writing};
-pub use report::Report;
-pub use run::run;
+use script_runs::{Free, run, say_fault};
 use std::alloc::Global;
 use std::env;
 use std::env::Args;
@@ -39,7 +22,7 @@ fn main(rt: HostRuntime) -> ExitCode {
     match run_words(&rt, alloc, &mut source, &mut out, &mut err) {
         Ok(status) => ExitCode::from(status),
         Err(Memory) => {
-            say::say_fault(&mut err, DriveFault::Memory);
+            say_fault(&mut err, DriveFault::Memory);
             ExitCode::from(8)
         }
     }

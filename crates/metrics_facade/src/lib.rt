@@ -1,5 +1,10 @@
 //! What a service programs against: the calls that change a counter, a gauge or a histogram, the handles that make
 //! them, recorders that hand out such handles, and which recorder is the current one.
+//!
+//! A handle, and a call with the pass of who makes it:
+//!
+//!     let requests = Counter::from_arc(cell);
+//!     requests.increment(&mut pass, 1);
 #![tactic(auto)]
 
 mod cells;

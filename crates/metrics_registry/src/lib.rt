@@ -1,5 +1,10 @@
 //! What both exporters keep of series and of distributions: the live series of a state, when they fall idle, and bags,
 //! cumulative histograms and quantiles of values.
+//!
+//! The id of a live series, and the middle of a bag of values:
+//!
+//!     let id = registry.find_counter(&key);
+//!     let middle = bag.quantile(&half);
 #![tactic(auto)]
 
 mod bag;

@@ -1,4 +1,10 @@
 //! Numeric addresses, sockets and networks, read from texts. Nothing here takes memory.
+//!
+//! An address, and whether a network holds it:
+//!
+//!     let peer = read_ip("10.1.2.3")?;
+//!     let office = Network::from_text("10.0.0.0/8")?;
+//!     let allowed = office.holds(&peer);
 #![tactic(auto)]
 
 mod ips;

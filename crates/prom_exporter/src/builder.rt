@@ -44,14 +44,16 @@ impl PrometheusBuilder {
     pub fn add_global_label(
         self,
         alloc: Global,
-        key: &str,
-        value: &str,
+        key: String,
+        value: String,
     ) -> Result<PrometheusBuilder, BuildError>
-        ensures added { IfOk result (λ builder. builder ≡ record self { globals = put_label self.globals (record { key = key.now; value = value.now }) }) }
+        ensures added { IfOk result (λ builder. builder ≡ record self {
+          globals = put_label self.globals (record { key = string_bytes key; value = string_bytes value });
+        }) }
         ensures refused { IfErr result (λ error. error ≡ BuildError.Memory) }
     {
         let PrometheusBuilder { mut globals } = self;
-        put_label(&mut globals, key, value, alloc)?;
+        put_label(&mut globals, key.as_str(), value.as_str(), alloc)?;
         Ok(PrometheusBuilder { globals })
     }
 

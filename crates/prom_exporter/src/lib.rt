@@ -1,4 +1,10 @@
 //! The Prometheus exporter: its builder and its state, which registers series, takes calls and writes pages.
+//!
+//! An exporter, a series, and a page:
+//!
+//!     let mut exporter = PrometheusBuilder::new(alloc)?.build_state(alloc)?;
+//!     let id = exporter.register_counter(alloc, &key)?;
+//!     exporter.render_to_write(alloc, moment, &mut sink)?;
 #![tactic(auto)]
 
 mod builder;
@@ -17,6 +23,3 @@ pub use lanes::{LanePass, SeriesCell};
 pub use laws::{basic_page, given_back_is_seen, looking_forgets_nothing, pages_are_read};
 pub use lent::Lent;
 pub use state::PrometheusState;
-
-#[cfg(test)]
-mod tests;

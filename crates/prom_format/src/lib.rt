@@ -1,5 +1,9 @@
 //! The text of a Prometheus page: names, printed texts, numbers, label sets and lines (Prometheus text exposition
 //! format, version 0.0.4), and the grammar by which a page is read.
+//!
+//! The type line of a family, put behind a text:
+//!
+//!     write_type_line(&mut page, "requests", None, None, "counter")?;
 #![tactic(auto)]
 
 mod families;

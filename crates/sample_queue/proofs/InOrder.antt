@@ -6,11 +6,13 @@ use Rattle.legal_history.specs.declared.history.View.{View}
 use Rattle.legal_history.specs.declared.history.Entry.{Entry as EntryOf}
 use Rattle.legal_history.specs.History.{calls, Settled}
 use Rattle.legal_history.specs.Object.{Runs, Made, Told}
+use Rattle.cell_lanes.proofs.Played.{calls_after}
 use Rattle.cell_lanes.proofs.Resting.{rests_after}
 use Rattle.sample_queue.specs.declared.calls.Entry.{Entry}
 use Rattle.sample_queue.specs.declared.calls.QueueCall.{QueueCall}
 use Rattle.sample_queue.specs.declared.calls.QueueCall.TheVariants.{Push, Pop}
 use Rattle.sample_queue.specs.Queues.{QueueStep, pushed, popped, front}
+use Rattle.sample_queue.specs.Rounds.{pops}
 
 module _ {T : Type 0} where
   pub in_order : (q : List (Entry T)) (cs : List (QueueCall T)) (items : List (Entry T)) → Runs QueueStep q cs items → q ++ pushed cs ≡ popped cs ++ items
@@ -45,3 +47,8 @@ module _ {T : Type 0} where
   pub rests : (v w : View (QueueCall T)) (r : Option (Entry T)) → MatchOption r ((w ≡ v) × Told QueueStep [] v []) (λ e. Made QueueStep [] (Pop e) v w) → v.number ≡ 0 → (v.out ≡ 0) × Settled v → (w.number ≡ 0) × (w.out ≡ 0) × Settled w
   rests v w None m root rest = subst (λ (u : View (QueueCall T)). (u.number ≡ 0) × (u.out ≡ 0) × Settled u) (sym m.0) (root, rest.0, rest.1)
   rests v w (Some e) m root rest = rests_after v w m.0 (Pop e ∷ []) m.3 m.6 root rest.0
+
+  -- what a pop with no other pass out adds to the history
+  pub popped_calls : (v w : View (QueueCall T)) (r : Option (Entry T)) → MatchOption r ((w ≡ v) × Told QueueStep [] v []) (λ e. Made QueueStep [] (Pop e) v w) → v.number ≡ 0 → v.out ≡ 0 → calls w.seen ≡ calls v.seen ++ pops r
+  popped_calls v w None m root none = ap (λ (x : View (QueueCall T)). calls x.seen) m.0 ∙ sym (append-nil (calls v.seen))
+  popped_calls v w (Some e) m root none = calls_after v w m.0 (Pop e ∷ []) m.3 m.6 root none

@@ -18,7 +18,7 @@ pub struct LentQueue<T: Drop> {
 }
 
 impl<T: Drop> LentQueue<T> {
-    ghost use Rattle.std.specs.Prelude.{◌<◌, [], OnOk, OnErr};
+    ghost use Rattle.std.specs.Prelude.{◌<◌, [], Ok, OnOk, OnErr};
     ghost use Rattle.legal_history.specs.Object.{Made};
     ghost use Rattle.sample_queue.specs.Queues.{QueueStep, entry_of};
     ghost use Rattle.sample_queue.specs.declared.calls.QueueCall.TheVariants.{Push};
@@ -32,7 +32,7 @@ impl<T: Drop> LentQueue<T> {
         LentQueue { cell, pass }
     }
 
-    /// Puts an entry at the back, all or nothing. A count of 0 puts nothing.
+    /// Puts an entry at the back, all or nothing. A count of 0 puts nothing, and takes no memory.
     pub fn push<R: Wait>(
         &mut self,
         rt: &R,
@@ -42,6 +42,7 @@ impl<T: Drop> LentQueue<T> {
     ) -> Result<(), Memory>
         ensures call { OnOk result (0 < count → Made QueueStep [] (Push (entry_of item count)) (queue_known self.old) (queue_known self.new)) }
         ensures refused { OnErr result (queue_known self.new ≡ queue_known self.old) }
+        ensures none { count ≡ 0 → (result ≡ Ok tt) × (queue_known self.new ≡ queue_known self.old) }
         ensures cell { queue_of self.new ≡ queue_of self.old }
     {
         self.cell.push(rt, alloc, &mut self.pass, item, count)

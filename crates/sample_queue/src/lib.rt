@@ -3,6 +3,12 @@
 //! A queue gives its entries first in first out. A caller has a pass of the queue, and the pushes and pops of all passes stand
 //! in one history (`legal_history`), in which each pop answers what a queue of one thread answers there. So what was given out,
 //! over all passes, is a beginning of what was pushed, each entry once (`laws::first_in_first_out`).
+//!
+//! A queue, a sample that stands twice, and the entry in front:
+//!
+//!     let (queue, mut pass) = SampleQueue::new(alloc)?;
+//!     queue.push(rt, alloc, &mut pass, sample, 2)?;
+//!     let entry = queue.next(rt, &mut pass);
 #![tactic(auto)]
 
 mod calls;
@@ -14,8 +20,6 @@ mod queue;
 mod rounds;
 mod rule;
 mod series;
-#[cfg(test)]
-mod tests;
 
 pub use calls::{Entry, QueueCall};
 pub use histograms::{DsdHistogram, PromHistogram};

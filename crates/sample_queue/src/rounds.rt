@@ -2,10 +2,10 @@
 ghost use Rattle.std.specs.Prelude.{◌≡◌, ◌<◌, length, IfOk, OnErr};
 ghost use mathlib.Core.Option.{some};
 ghost use lib.ListN.{get_elem?};
-ghost use Rattle.cell_lanes.specs.Lanes.{Roots, AtRest, AllFit, Stopped, all_calls_on};
+ghost use Rattle.cell_lanes.specs.Lanes.{Roots, AtRest, AllFit, Finished, Stopped, all_calls_on, later_on};
 ghost use Rattle.sample_queue.specs.declared.series.QueueSeries.{QueueSeries};
 ghost use Rattle.sample_queue.specs.Series.{queue_root, IsPush};
-ghost use Rattle.sample_queue.specs.Rounds.{GivenOut};
+ghost use Rattle.sample_queue.specs.Rounds.{GivenOut, pops};
 
 use crate::calls::Entry;
 use crate::series::{QueueSeries, Sample};
@@ -15,9 +15,10 @@ use std::alloc::Global;
 use std::sync::Wait;
 use std::thread::Threads;
 
-/// Runs lanes side by side over queues, and takes the front entry of the queue with this index. It is the front of what was
-/// there before, followed by the samples of all lanes for it, in one order in which each lane's stand as the lane has them. All
-/// passes are back at the end, also after a refusal; then a lane has calls left, or none has made any.
+/// Runs lanes side by side over queues, and takes the front entry of the queue with this index. Each history has then grown by
+/// the pushes of all lanes on it, in one order in which each lane's stand as the lane has them, and that of the queue by the pop
+/// behind them. What is popped is the front of what was there before, followed by the samples of all lanes for it. All passes
+/// are back at the end, also after a refusal; then a lane has calls left, or none has made any.
 pub fn run_queues<R: Threads + Wait + Sync, H: LaneHook + Sync, T: Copy + Drop + Send + Sync>(
     rt: &R,
     alloc: Global,
@@ -30,6 +31,7 @@ pub fn run_queues<R: Threads + Wait + Sync, H: LaneHook + Sync, T: Copy + Drop +
     requires fit { AllFit (length queues.old.items) lanes.now }
     requires index { index < length queues.old.items }
     ensures roots { Roots queue_root queues.new.items × AtRest queue_root queues.new.items }
+    ensures finished { IfOk result (λ answer. Finished queue_root IsPush lanes.now (later_on index (pops answer)) queues.old.items queues.new.items) }
     ensures stopped { OnErr result (Stopped queue_root IsPush lanes.now queues.old.items queues.new.items) }
     ensures given { IfOk result (λ front. (q : QueueSeries T) → get_elem? queues.old.items index ≡ some q → GivenOut (all_calls_on index lanes.now) (queue_root q) front) }
 {

@@ -15,7 +15,7 @@ use Rattle.legal_history.proofs.Steps.{step as step_legal, look, lend, take_back
 use Rattle.legal_history.proofs.Objects.{runs_more}
 use Rattle.series_cells.specs.declared.calls.ValueCall.{ValueCall}
 use Rattle.series_cells.specs.declared.views.CellView.{CellView}
-use Rattle.series_cells.specs.Cell.{history_of, waiting, total, object, Kept, cell_view, opening_view, cell_nobody, cell_lender, cell_child, cell_taker, Seen, Made, Looked, Counted, CountRead}
+use Rattle.series_cells.specs.Cell.{history_of, waiting, total, object, Kept, cell_view, opening_view, cell_nobody, cell_lender, cell_child, cell_taker, Seen, Made, Looked, Counted, CountRead, Told}
 
 map_set : {A B : Type 0} (f : A → B) (l : List A) (i : ℕ) (a : A) → map f (set l i a) ≡ set (map f l) i (f a)
 map_set f [] i a = refl
@@ -251,6 +251,20 @@ module _ {S : Type 0} (step : S → ValueCall → S) (start : S) (value_of : ℕ
           refl,
           refl,
         ),
+      )
+
+  -- a look that changes nothing
+  pub peeks : (slots id : ℕ) (m : Seen) → m.0.history.live ≡ true → Allows (λ (s : State (Unit {0}) CellView). Kept step start value_of s.words s.views) slots id m 0 (λ n. n) (λ _. Told m)
+  peeks slots id m live s k homes at below =
+      let log = k.keeps.log in
+      let legal = k.keeps.legal in
+      let here = at_map history_of s.views id m.0 at in (
+        m.0,
+        keeps,
+        tt,
+        subst (λ ws. Kept step start value_of ws (set s.views id m.0)) (sym (same_word s.words 0))
+            (kept_views s.words s.views id m.0 m.0 k at (k.known id m.0 at) refl refl (subst (Legal log) (sym (set_again (map history_of s.views) id m.0.history here)) legal)),
+        (refl, (log, sees log (map history_of s.views) id m.0.history legal here live)),
       )
 
   pub lends : (id : ℕ) (v : CellView) → v.history.live ≡ true → v.history.number ≡ 0 → Splits (λ (s : State (Unit {0}) CellView). Kept step start value_of s.words s.views) id v (cell_lender v) (cell_child v)

@@ -77,3 +77,7 @@ abbrev pub CountRead : Seen → ℕ → Seen → Type 0
 CountRead m n w = (count : ℕ) × (m.0.known ≤ count) × (n ≡ count % 2 ^ 64)
     × ((log : List (Entry ValueCall)) × Sees m.0.history log × (count ≤ length log))
     × (m.0.history.number ≡ 0 → m.0.history.out ≡ 0 → m.0.waits ≡ false → count ≡ length m.0.history.seen) × (w.0 ≡ cell_view m.0.history m.0.waits count) × (w.1 ≡ m.1)
+
+-- the pass was told that a history begins with all that it had seen, and nothing changed
+abbrev pub Told : Seen → Seen → Type 0
+Told m w = (w ≡ m) × ((log : List (Entry ValueCall)) × Sees m.0.history log)

@@ -1,5 +1,5 @@
 -- What contracts read of cells and their passes.
-use Rattle.std.specs.Prelude.{◌≡◌, ℕ, ◌%◌, ◌^◌, ◌≤◌, List, [], ◌∷◌, ℤ, length}
+use Rattle.std.specs.Prelude.{◌≡◌, ℕ, ◌%◌, ◌^◌, ◌<◌, ◌≤◌, List, [], ◌∷◌, ℤ, length}
 use Rattle.metrics_core.specs.Calls.{Call, counter_value, gauge_value}
 use Rattle.legal_history.specs.declared.history.Entry.{Entry}
 use Rattle.legal_history.specs.declared.history.View.{View}
@@ -41,6 +41,6 @@ abbrev pub ReadsUpdates : View ValueCall → ℕ → ℕ → ℕ → Type 0
 ReadsUpdates v known n now =
     (known ≤ now) × (n ≡ now % 2 ^ 64) × ((log : List (Entry ValueCall)) × Sees v log × (now ≤ length log)) × (v.number ≡ 0 → v.out ≡ 0 → now ≡ length v.seen)
 
--- a call of the definitions was made with the pass
+-- a call of the definitions was made with the pass, and the pass knows one call more to be counted, or more than one
 abbrev pub Follows : CellPass → Call → CellPass → Type 0
-Follows p call q = (c : ValueCall) × (call_of c ≡ call) × Calls c (view_of p) (view_of q)
+Follows p call q = (c : ValueCall) × (call_of c ≡ call) × Calls c (view_of p) (view_of q) × (known_of p < known_of q)

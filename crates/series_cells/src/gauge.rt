@@ -1,5 +1,6 @@
 //! A gauge that threads share.
 ghost use Rattle.std.specs.Prelude.{◌≡◌, ◌<◌, max, IfOk, IsOk};
+ghost use mathlib.Core.List.{IsPrefix};
 ghost use Rattle.legal_history.specs.History.{Settled, first, lender, child, taker};
 ghost use Rattle.series_cells.specs.declared.calls.ValueCall.TheVariants.{Add, Subtract, Set};
 
@@ -118,7 +119,7 @@ impl PromGauge {
         Ok(CellPass { seat, root: false })
     }
 
-    /// Gives a pass of the gauge back to its root pass, which has then seen what either had seen, and holds the calls of
+    /// Gives a pass of the gauge back to its root pass, which has then seen all that either had seen, and holds the calls of
     /// both.
     pub fn join(&self, pass: &mut CellPass, child: CellPass)
         requires pass { IsGaugePass self.now pass.old }
@@ -126,11 +127,13 @@ impl PromGauge {
         requires child { IsGaugePass self.now child }
         ensures pass { IsGaugePass self.now pass.new }
         ensures view { view_of pass.new ≡ taker (view_of pass.old) (view_of child) }
+        ensures seen { IsPrefix (view_of child).seen (view_of pass.new).seen }
         ensures known { known_of pass.new ≡ max (known_of pass.old) (known_of child) }
     {
         let CellPass { seat, root: _ } = child;
         self.table
             .shared
             .join_seat::<rules::Lends>(&mut pass.seat, seat);
+        self.table.shared.load::<rules::Peeks>(&mut pass.seat, 0);
     }
 }

@@ -4,6 +4,12 @@
 //! update is two atomic steps, one on each word. So no call waits, and none but `new` and `split` takes memory. The calls of
 //! all passes stand in one history (`legal_history`), and a read gives the value after a beginning of it that has all that the
 //! pass had seen.
+//!
+//! A counter, and a call with its root pass:
+//!
+//!     let (requests, mut pass) = PromCounter::new(alloc)?;
+//!     requests.increment(&mut pass, 1);
+//!     let total = requests.load(&mut pass);
 #![tactic(auto)]
 
 mod calls;
@@ -12,6 +18,7 @@ mod counter_series;
 mod faces;
 mod gauge;
 mod gauge_series;
+pub mod laws;
 mod lent_counter;
 mod lent_gauge;
 mod pass;
@@ -28,6 +35,3 @@ pub use lent_counter::LentCounter;
 pub use lent_gauge::LentGauge;
 pub use pass::CellPass;
 pub use rounds::{run_counters, run_gauges};
-
-#[cfg(test)]
-mod tests;

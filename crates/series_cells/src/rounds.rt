@@ -1,8 +1,8 @@
 //! Rounds of lanes over counters and over gauges.
-ghost use Rattle.std.specs.Prelude.{◌≡◌, ◌<◌, length, IfOk, OnErr};
+ghost use Rattle.std.specs.Prelude.{◌≡◌, ◌<◌, length, IfOk, OnOk, OnErr};
 ghost use mathlib.Core.Option.{some};
 ghost use lib.ListN.{get_elem?};
-ghost use Rattle.cell_lanes.specs.Lanes.{Roots, AtRest, AllFit, Stopped, all_calls_on};
+ghost use Rattle.cell_lanes.specs.Lanes.{Roots, AtRest, AllFit, Finished, Stopped, all_calls_on, none_later};
 ghost use Rattle.series_cells.specs.declared.counter_series.CounterSeries.{CounterSeries};
 ghost use Rattle.series_cells.specs.declared.gauge_series.GaugeSeries.{GaugeSeries};
 ghost use Rattle.series_cells.specs.Series.{counter_root, gauge_root, StandsAsCounter, StandsAsGauge, PlayedByCounter, PlayedByGauge};
@@ -16,9 +16,9 @@ use std::alloc::Global;
 use std::sync::Wait;
 use std::thread::Threads;
 
-/// Runs lanes side by side over counters, and reads the counter with this index. Its value is then that after the earlier calls
-/// and all calls of the lanes on it, in one order in which each lane's calls stand as the lane has them. All passes are back at
-/// the end, also after a refusal; then a lane has calls left, or none has made any.
+/// Runs lanes side by side over counters, and reads the counter with this index. Each history has then grown by all calls of the
+/// lanes on it, in one order in which each lane's calls stand as the lane has them, and the value is that after them. All passes
+/// are back at the end, also after a refusal; then a lane has calls left, or none has made any.
 pub fn run_counters<R: Threads + Wait + Sync, H: LaneHook + Sync>(
     rt: &R,
     alloc: Global,
@@ -31,6 +31,7 @@ pub fn run_counters<R: Threads + Wait + Sync, H: LaneHook + Sync>(
     requires fit { AllFit (length counters.old.items) lanes.now }
     requires index { index < length counters.old.items }
     ensures roots { Roots counter_root counters.new.items × AtRest counter_root counters.new.items }
+    ensures finished { OnOk result (Finished counter_root StandsAsCounter lanes.now none_later counters.old.items counters.new.items) }
     ensures stopped { OnErr result (Stopped counter_root StandsAsCounter lanes.now counters.old.items counters.new.items) }
     ensures value { IfOk result (λ n. (c : CounterSeries) → get_elem? counters.old.items index ≡ some c → PlayedByCounter (all_calls_on index lanes.now) (counter_root c) n) }
 {
@@ -40,9 +41,9 @@ pub fn run_counters<R: Threads + Wait + Sync, H: LaneHook + Sync>(
     }
 }
 
-/// Runs lanes side by side over gauges, and reads the gauge with this index. Its value is then that after the earlier calls
-/// and all calls of the lanes on it, in one order in which each lane's calls stand as the lane has them. All passes are back at
-/// the end, also after a refusal; then a lane has calls left, or none has made any.
+/// Runs lanes side by side over gauges, and reads the gauge with this index. Each history has then grown by all calls of the
+/// lanes on it, in one order in which each lane's calls stand as the lane has them, and the value is that after them. All passes
+/// are back at the end, also after a refusal; then a lane has calls left, or none has made any.
 pub fn run_gauges<R: Threads + Wait + Sync, H: LaneHook + Sync>(
     rt: &R,
     alloc: Global,
@@ -55,6 +56,7 @@ pub fn run_gauges<R: Threads + Wait + Sync, H: LaneHook + Sync>(
     requires fit { AllFit (length gauges.old.items) lanes.now }
     requires index { index < length gauges.old.items }
     ensures roots { Roots gauge_root gauges.new.items × AtRest gauge_root gauges.new.items }
+    ensures finished { OnOk result (Finished gauge_root StandsAsGauge lanes.now none_later gauges.old.items gauges.new.items) }
     ensures stopped { OnErr result (Stopped gauge_root StandsAsGauge lanes.now gauges.old.items gauges.new.items) }
     ensures value { IfOk result (λ n. (c : GaugeSeries) → get_elem? gauges.old.items index ≡ some c → PlayedByGauge (all_calls_on index lanes.now) (gauge_root c) n.0) }
 {

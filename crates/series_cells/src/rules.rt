@@ -120,6 +120,15 @@ impl Play<(), CellView> for ReadsCount {
     ghost then = { λ _ m n w. CountRead m n w };
 }
 
+/// `load` of a value that isn't used.
+pub struct Peeks;
+
+impl Play<(), CellView> for Peeks {
+    ghost use Rattle.series_cells.specs.Cell.{Told};
+
+    ghost then = { λ _ m _ w. Told m w };
+}
+
 /// The root lends a pass, and takes one back.
 pub struct Lends;
 

@@ -1,4 +1,9 @@
 //! Bags of shared values, in a short form for few values and a long form for many.
+//!
+//! A bag with one value:
+//!
+//!     let mut bag = Values::new(alloc);
+//!     bag.push(&value)?;
 #![tactic(auto)]
 
 mod bag;

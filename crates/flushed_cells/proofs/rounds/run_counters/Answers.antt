@@ -5,6 +5,7 @@ use Rattle.cell_lanes.specs.Calls.{StandAs}
 use Rattle.atomic_table.proofs.Lists.{at_index}
 use Rattle.std.proofs.lemmas.List.{length-map}
 use Rattle.cell_lanes.specs.Lanes.{AllFit, AtRest, Roots}
+use Rattle.cell_lanes.proofs.Played.{calls_after, finished_made}
 use Rattle.cell_lanes.proofs.Rows.{thing, roots_in, rests_in, roots_out, rests_out, grew_out, same_length}
 use Rattle.cell_lanes.proofs.Jobs.{all_calls}
 use Rattle.cell_lanes.proofs.Resting.{rests_after, rest_with}
@@ -58,6 +59,21 @@ returns-in-Ok-clause-flushed g c = λ s e.
       made.5.0,
       made.5.1,
     )
+
+pub returns-in-Ok-clause-finished : goal.returns-in-Ok-clause-finished
+returns-in-Ok-clause-finished g c =
+    let t = c.in-Ok.ensures in
+    let now = c.run_lanes.new.shared.items in
+    let rest : Roots counter_root now × AtRest counter_root now = (roots_out counter_root counter_cell now t.roots.0, rests_out counter_root counter_cell now t.roots.1) in
+    let many = same_length counter_root counter_cell c.args.counters.now.items now t.many in
+    let below : c.args.index < length now = omega (arith, c.requires.index, many) in
+    let d = c.index_mut.result.now in
+    let at = at_index now c.args.index d below c.index_mut.ensures.value in
+    let made = c.flush.ensures.call in
+    let calls = Flush c.flush.result.0 c.flush.result.1 ∷ [] in
+    finished_made counter_root StandsAsCounter c.args.lanes.now t.grew.0 t.grew.1 c.args.counters.now.items now c.args.index d c.flush.new.self calls at
+    (calls_after (counter_root d) (counter_root c.flush.new.self) made.0 calls made.3 made.6 (rest.0 c.args.index d at) (rest.1 c.args.index d at).0) many
+    (grew_out counter_root counter_cell StandsAsCounter c.args.lanes.now t.grew.0 c.args.counters.now.items now t.grew.2)
 
 pub returns-in-Err-clause-roots : goal.returns-in-Err-clause-roots
 returns-in-Err-clause-roots g c =

@@ -3,12 +3,14 @@ use Rattle.legal_history.specs.Object.{Runs}
 use Rattle.atomic_table.proofs.Lists.{at_index}
 use Rattle.std.proofs.lemmas.List.{length-map}
 use Rattle.cell_lanes.specs.Lanes.{AllFit, AtRest, Roots}
+use Rattle.cell_lanes.proofs.Played.{finished_made}
 use Rattle.cell_lanes.proofs.Rows.{thing, roots_in, rests_in, roots_out, rests_out, grew_out, same_length}
 use Rattle.cell_lanes.proofs.Resting.{rest_with}
 use Rattle.sample_queue.specs.declared.calls.QueueCall.{QueueCall}
 use Rattle.sample_queue.specs.Queues.{QueueStep}
 use Rattle.sample_queue.specs.Series.{queue_root, queue_cell, IsPush}
-use Rattle.sample_queue.proofs.InOrder.{found, rests}
+use Rattle.sample_queue.specs.Rounds.{pops}
+use Rattle.sample_queue.proofs.InOrder.{found, popped_calls, rests}
 use Rattle.sample_queue.proofs.Pushed.{round_pushes}
 use Rattle.sample_queue.proofs.rounds.run_queues.Goals as goal
 
@@ -45,6 +47,19 @@ returns-in-Ok-clause-given g c = λ s e.
     let r = round_pushes queue_root c.args.lanes.now t.grew.0 c.args.index s d t.grew.1 (grew_out queue_root queue_cell IsPush c.args.lanes.now t.grew.0 c.args.queues.now.items now t.grew.2 c.args.index s d e at) in
     let f = found (queue_root d) (queue_root c.next.new.self) c.next.result c.next.ensures.call (rest.0 c.args.index d at) (rest.1 c.args.index d at).0 in
     (r.0, r.1, f.0, subst (λ (cs : List (QueueCall _)). Runs QueueStep [] cs f.0) r.2 f.1, f.2)
+
+pub returns-in-Ok-clause-finished : goal.returns-in-Ok-clause-finished
+returns-in-Ok-clause-finished g c =
+    let t = c.in-Ok.ensures in
+    let now = c.run_lanes.new.shared.items in
+    let rest : Roots queue_root now × AtRest queue_root now = (roots_out queue_root queue_cell now t.roots.0, rests_out queue_root queue_cell now t.roots.1) in
+    let many = same_length queue_root queue_cell c.args.queues.now.items now t.many in
+    let below : c.args.index < length now = omega (arith, c.requires.index, many) in
+    let d = c.index_mut.result.now in
+    let at = at_index now c.args.index d below c.index_mut.ensures.value in
+    finished_made queue_root IsPush c.args.lanes.now t.grew.0 t.grew.1 c.args.queues.now.items now c.args.index d c.next.new.self (pops c.next.result) at
+    (popped_calls (queue_root d) (queue_root c.next.new.self) c.next.result c.next.ensures.call (rest.0 c.args.index d at) (rest.1 c.args.index d at).0) many
+    (grew_out queue_root queue_cell IsPush c.args.lanes.now t.grew.0 c.args.queues.now.items now t.grew.2)
 
 pub returns-in-Err-clause-roots : goal.returns-in-Err-clause-roots
 returns-in-Err-clause-roots g c =

@@ -4,6 +4,7 @@ use Rattle.atomic_table.proofs.Lists.{at_index}
 use Rattle.legal_history.specs.History.{calls}
 use Rattle.metrics_core.specs.Calls.{gauge_value}
 use Rattle.cell_lanes.specs.Lanes.{AllFit, AtRest, Roots}
+use Rattle.cell_lanes.proofs.Played.{finished_looked}
 use Rattle.cell_lanes.proofs.Rows.{thing, roots_in, rests_in, roots_out, rests_out, grew_out, same_length}
 use Rattle.series_cells.specs.Values.{calls_of}
 use Rattle.series_cells.specs.Series.{gauge_root, gauge_cell, gauge_entry, StandsAsGauge}
@@ -46,6 +47,20 @@ returns-in-Ok-clause-value g c =
     λ s e.
     let r = round_calls gauge_root gauge_entry c.args.lanes.now t.grew.0 c.args.index s d t.grew.1 (grew c.args.index s d e at) in
     (r.0, r.1, reads.2 ∙ (ap (λ l. gauge_value (calls_of (calls l))) same ∙ ap (λ cs. gauge_value (calls_of cs)) r.2))
+
+pub returns-in-Ok-clause-finished : goal.returns-in-Ok-clause-finished
+returns-in-Ok-clause-finished g c =
+    let t = c.in-Ok.ensures in
+    let now = c.run_lanes.new.shared.items in
+    let rest : Roots gauge_root now × AtRest gauge_root now = (roots_out gauge_root gauge_cell now t.roots.0, rests_out gauge_root gauge_cell now t.roots.1) in
+    let many = same_length gauge_root gauge_cell c.args.gauges.now.items now t.many in
+    let below : c.args.index < length now = omega (arith, c.requires.index, many) in
+    let d = c.index_mut.result.now in
+    let at = at_index now c.args.index d below c.index_mut.ensures.value in
+    let reads = c.value.ensures.value in
+    finished_looked gauge_root StandsAsGauge c.args.lanes.now t.grew.0 t.grew.1 c.args.gauges.now.items now c.args.index d c.value.new.self at
+    (reads_same (gauge_root d) (gauge_root c.value.new.self) reads.0 reads.1 reads.3 (rest.0 c.args.index d at) (rest.1 c.args.index d at).0) many
+    (grew_out gauge_root gauge_cell StandsAsGauge c.args.lanes.now t.grew.0 c.args.gauges.now.items now t.grew.2)
 
 pub returns-in-Err-clause-roots : goal.returns-in-Err-clause-roots
 returns-in-Err-clause-roots g c =

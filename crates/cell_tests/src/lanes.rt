@@ -1,0 +1,25 @@
+//! Lanes for the tests.
+
+use cell_lanes::{Lane, Line};
+use std::alloc::Global;
+use std::test::Fail;
+
+/// Two lanes, each of which makes its call so often, on the first cell.
+pub fn two_lanes<K: Copy + Drop>(
+    alloc: Global,
+    calls: [K; 2],
+    times: usize,
+) -> Result<Vec<Lane<K>>, Fail> {
+    let mut lanes = Vec::new(alloc);
+    for call in calls {
+        let mut lines = Vec::new(alloc);
+        for _ in 0..times {
+            lines.push(Line { slot: 0, call })?;
+        }
+        lanes.push(Lane {
+            cells: vec![in alloc; 0usize]?,
+            lines,
+        })?;
+    }
+    Ok(lanes)
+}

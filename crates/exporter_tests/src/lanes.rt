@@ -1,0 +1,132 @@
+//! Lanes that run side by side, seen through gates and on the page.
+
+use metrics_core::{MemorySink, MemorySource};
+use script_runs::{Gate, run};
+use std::alloc::Global;
+use std::sync::Wait;
+use std::sync::atomic::{AtomicBool, Ordering};
+use std::test::Fail;
+use std::thread::{Threads, yield_now};
+
+/// Two lanes on a counter and a gauge.
+const TWO_LANES: &[u8] =
+    b"round 0\nregister counter \"c\"\nregister gauge \"g\"\n0 inc 0 1\n0 set 1 1\n1 abs 0 10\n1 set 1 2\n";
+
+/// How often a gate looks at a flag at most.
+const TURNS: u32 = 10_000_000;
+
+/// Whether the flag is raised in time.
+fn is_raised_in_time(flag: &AtomicBool) -> bool {
+    for _ in 0..TURNS {
+        if flag.load(Ordering::SeqCst) {
+            return true;
+        }
+        yield_now();
+    }
+    false
+}
+
+/// A gate at which lanes 0 and 1 meet: before its first call each raises its flag and waits for the other's.
+#[derive(Drop)]
+struct Meeting {
+    first: AtomicBool,
+    second: AtomicBool,
+    late: AtomicBool,
+}
+
+impl Gate for Meeting {
+    fn before<R: Wait>(&self, _rt: &R, lane: u8, call: u32) {
+        if call > 0 {
+            return;
+        }
+        let (own, other) = if lane == 0 {
+            (&self.first, &self.second)
+        } else {
+            (&self.second, &self.first)
+        };
+        own.store(true, Ordering::SeqCst);
+        if !is_raised_in_time(other) {
+            self.late.store(true, Ordering::SeqCst);
+        }
+    }
+
+    fn after<R: Wait>(&self, _rt: &R, _lane: u8, _call: u32) {}
+}
+
+/// A gate that holds one lane back until the other has made its second call.
+#[derive(Drop)]
+struct Turns {
+    held: u8,
+    open: AtomicBool,
+    late: AtomicBool,
+}
+
+impl Gate for Turns {
+    fn before<R: Wait>(&self, _rt: &R, lane: u8, call: u32) {
+        if lane == self.held && call == 0 && !is_raised_in_time(&self.open) {
+            self.late.store(true, Ordering::SeqCst);
+        }
+    }
+
+    fn after<R: Wait>(&self, _rt: &R, lane: u8, call: u32) {
+        if lane != self.held && call == 1 {
+            self.open.store(true, Ordering::SeqCst);
+        }
+    }
+}
+
+/// The pages that the two lanes write at a gate.
+fn pages<R: Threads + Wait + Sync, G: Gate + Sync>(
+    rt: &R,
+    alloc: Global,
+    gate: &G,
+) -> Result<Vec<u8>, Fail> {
+    let script = TWO_LANES.to_vec(alloc)?;
+    let mut source = MemorySource::new(script, 65536, Vec::new(alloc));
+    let mut out = MemorySink::new(alloc, 65536, Vec::new(alloc));
+    let mut err = MemorySink::new(alloc, 65536, Vec::new(alloc));
+    let _status = run(rt, alloc, &["drive"], &mut source, &mut out, &mut err, gate);
+    Ok(out.written().to_vec(alloc)?)
+}
+
+/// Whether the lanes meet in time, and the page is written.
+fn meet<R: Threads + Wait + Sync>(rt: &R, alloc: Global) -> Result<bool, Fail> {
+    let gate = Meeting {
+        first: AtomicBool::new(false),
+        second: AtomicBool::new(false),
+        late: AtomicBool::new(false),
+    };
+    let pages = pages(rt, alloc, &gate)?;
+    Ok(pages.ends_with(b"# EOF\n") && !gate.late.load(Ordering::SeqCst))
+}
+
+/// Whether the page is this one where the lane `held` waits for the other one.
+fn shows<R: Threads + Wait + Sync>(
+    rt: &R,
+    alloc: Global,
+    held: u8,
+    page: &[u8],
+) -> Result<bool, Fail> {
+    let gate = Turns {
+        held,
+        open: AtomicBool::new(false),
+        late: AtomicBool::new(false),
+    };
+    let pages = pages(rt, alloc, &gate)?;
+    Ok(pages.as_slice() == page && !gate.late.load(Ordering::SeqCst))
+}
+
+#[test]
+fn lanes_meet_at_the_gate(rt: HostRuntime) -> Result<(), Fail> {
+    assert!(rt; meet(&rt, rt.alloc())?);
+    Ok(())
+}
+
+#[test]
+fn the_gate_orders_the_lanes(rt: HostRuntime) -> Result<(), Fail> {
+    let first = b"# TYPE c counter\nc 10\n\n# TYPE g gauge\ng 2\n\n# EOF\n".as_slice();
+    let second = b"# TYPE c counter\nc 11\n\n# TYPE g gauge\ng 1\n\n# EOF\n".as_slice();
+    assert!(rt; shows(&rt, rt.alloc(), 1, first)?);
+    assert!(rt; shows(&rt, rt.alloc(), 0, second)?);
+    Ok(())
+}

@@ -1,0 +1,143 @@
+-- From the parts of a run to what it says as a whole.
+use Rattle.std.proofs.Common.{◌≡◌, ℕ, ◌≤◌, ◌⊎◌, inl, inr, List, length, refl, subst, arith}
+use Rattle.std.specs.Prelude.{Option, Some, None, IfSome}
+use Rattle.metrics_core.specs.Outside.{Rose, GrewBy, GrewByPrefix}
+use Rattle.drive_script.specs.Script.{ScriptText, lines_of}
+use Rattle.drive_script.specs.Valid.{IsScriptOf}
+use Rattle.drive_script.proofs.Laws.{beginnings}
+use Rattle.drive_script.specs.Faults.{IsScriptFault}
+use Rattle.drive_script.specs.declared.faults.DriveFault.{DriveFault}
+use Rattle.drive_script.specs.declared.faults.DriveFault.TheVariants as faults
+use Rattle.script_runs.specs.Headline.{IsPlayed, IsPlayedInPart, IsGoodScript, script_limit}
+use Rattle.script_runs.specs.Orders.{ForSomeRun, run_text}
+use Rattle.script_runs.specs.Answers.{IsComplete, IsBadScript, IsTooLong, IsPlayFault, LeavesPrefix, fault_status}
+use Rattle.script_runs.specs.Reading.{IsReadFault}
+use Rattle.script_runs.proofs.RunPages.{run_is_pages}
+
+-- bytes that are a valid script have no bad line
+pub good_not_bad : (bytes : List ℕ) (script : ScriptText) (l : ℕ) → IsGoodScript bytes script → IsBadScript bytes l → ⊥
+good_not_bad bytes script l good bad = bad.1.bad (beginnings (lines_of bytes) l (script, good.1.0, good.1.1))
+
+good_not_long : (bytes : List ℕ) (script : ScriptText) → IsGoodScript bytes script → IsTooLong bytes → ⊥
+good_not_long bytes script good long = omega (arith, good.0, long)
+
+bad_not_long : (bytes : List ℕ) (l : ℕ) → IsBadScript bytes l → IsTooLong bytes → ⊥
+bad_not_long bytes l bad long = omega (arith, bad.0, long)
+
+-- a good script was played, or a write failed, or memory was wanting: then no other cause holds
+pub good_complete : (bytes : List ℕ) (S K : Type 0) (script : ScriptText) (status : ℕ) → IsGoodScript bytes script
+    → (¬ K → (status ≡ 0) ⊎ (status ≡ 8)) → IsComplete bytes S K status
+good_complete bytes S K script status good done = record {
+  too_long = λ long ok. absurd (good_not_long bytes script good long);
+  bad_script = λ l bad ok. absurd (good_not_bad bytes script l good bad);
+  good_script = λ other is ok sink_ok. done sink_ok;
+}
+
+pub bad_complete : (bytes : List ℕ) (S K : Type 0) (l : ℕ) → IsBadScript bytes l → IsComplete bytes S K 3
+bad_complete bytes S K l bad = record {
+  too_long = λ long ok. absurd (bad_not_long bytes l bad long);
+  bad_script = λ other is ok. inl refl;
+  good_script = λ script good ok sink_ok. absurd (good_not_bad bytes script l good bad);
+}
+
+pub long_complete : (bytes : List ℕ) (S K : Type 0) → IsTooLong bytes → IsComplete bytes S K 5
+long_complete bytes S K long = record {
+  too_long = λ is ok. inl refl;
+  bad_script = λ l bad ok. absurd (bad_not_long bytes l bad long);
+  good_script = λ script good ok sink_ok. absurd (good_not_long bytes script good long);
+}
+
+pub memory_complete : (bytes : List ℕ) (S K : Type 0) → IsComplete bytes S K 8
+memory_complete bytes S K = record {
+  too_long = λ is ok. inr refl;
+  bad_script = λ l bad ok. inr refl;
+  good_script = λ script good ok sink_ok. inr refl;
+}
+
+pub read_fault_complete : (bytes : List ℕ) (S K : Type 0) → S → IsComplete bytes S K 6
+read_fault_complete bytes S K failed = record {
+  too_long = λ is ok. absurd (ok failed);
+  bad_script = λ l bad ok. absurd (ok failed);
+  good_script = λ script good ok sink_ok. absurd (ok failed);
+}
+
+-- ---- where the source tells
+
+-- a script read whole and played
+pub played_whole : (left : Option (List ℕ)) (items : List ℕ) (script : ScriptText) (written written' : Option (List ℕ))
+    → IfSome left (λ bytes. items ≡ bytes) → length items ≤ script_limit → IsScriptOf items script → ForSomeRun script (GrewBy written written')
+    → IfSome left (λ bytes. IsPlayed bytes written written')
+played_whole None items script written written' whole within reading grew = tt
+played_whole (Some bytes) items script written written' whole within reading grew =
+    let P : List ℕ → Type 0 = λ b. IsPlayed b written written' in
+    subst P whole (record { script = script; reading = (within, reading); text = run_text script grew.0; pages = run_is_pages script grew.0 grew.1; grew = grew.2 })
+
+-- a script read whole and played in part
+pub played_prefix : (left : Option (List ℕ)) (items : List ℕ) (script : ScriptText) (written written' : Option (List ℕ)) (K : Type 0) (fault : DriveFault)
+    → IfSome left (λ bytes. items ≡ bytes) → length items ≤ script_limit → IsScriptOf items script → ForSomeRun script (GrewByPrefix written written')
+    → IsPlayFault K fault → IfSome left (λ bytes. LeavesPrefix bytes written written' fault)
+played_prefix None items script written written' K fault whole within reading grew cause = tt
+played_prefix (Some bytes) items script written written' K fault whole within reading grew cause =
+    let P : List ℕ → Type 0 = λ b. LeavesPrefix b written written' fault in
+    subst P whole (by fault cause)
+  where
+    prefix : IsPlayedInPart items written written'
+    prefix = record { script = script; reading = (within, reading); text = run_text script grew.0; pages = run_is_pages script grew.0 grew.1; grew = grew.2 }
+
+    by : (f : DriveFault) → IsPlayFault K f → LeavesPrefix items written written' f
+    by (faults.Script l) c = tt
+    by faults.TooLong c = tt
+    by faults.ReadFault c = tt
+    by faults.WriteFault c = prefix
+    by faults.Memory c = inr prefix
+
+-- completeness, where the script was found good
+pub good_answers : (left : Option (List ℕ)) (items : List ℕ) (S K : Type 0) (script : ScriptText) (status : ℕ)
+    → IfSome left (λ bytes. items ≡ bytes) → length items ≤ script_limit → IsScriptOf items script → (¬ K → (status ≡ 0) ⊎ (status ≡ 8))
+    → IfSome left (λ bytes. IsComplete bytes S K status)
+good_answers None items S K script status whole within reading done = tt
+good_answers (Some bytes) items S K script status whole within reading done =
+    let P : List ℕ → Type 0 = λ b. IsComplete b S K status in
+    subst P whole (good_complete items S K script status (within, reading) done)
+
+-- what a play's fault leaves open: it is a failed write, or want of memory
+pub play_faults : (K : Type 0) (fault : DriveFault) → IsPlayFault K fault → ¬ K → (fault_status fault ≡ 0) ⊎ (fault_status fault ≡ 8)
+play_faults K (faults.Script l) c ok = absurd c
+play_faults K faults.TooLong c ok = absurd c
+play_faults K faults.ReadFault c ok = absurd c
+play_faults K faults.WriteFault c ok = absurd (ok c)
+play_faults K faults.Memory c ok = inr refl
+
+-- completeness, where the script was refused
+pub refused_answers : (left : Option (List ℕ)) (items : List ℕ) (S K : Type 0) (fault : DriveFault)
+    → IfSome left (λ bytes. items ≡ bytes) → length items ≤ script_limit → IsScriptFault items fault
+    → IfSome left (λ bytes. IsComplete bytes S K (fault_status fault))
+refused_answers None items S K fault whole within refused = tt
+refused_answers (Some bytes) items S K fault whole within refused =
+    let P : List ℕ → Type 0 = λ b. IsComplete b S K (fault_status fault) in
+    subst P whole (by fault refused)
+  where
+    by : (f : DriveFault) → IsScriptFault items f → IsComplete items S K (fault_status f)
+    by (faults.Script l) bad = bad_complete items S K l (within, bad)
+    by faults.TooLong bad = absurd bad
+    by faults.ReadFault bad = absurd bad
+    by faults.WriteFault bad = absurd bad
+    by faults.Memory bad = memory_complete items S K
+
+-- completeness, where the source wasn't read whole
+pub unread_answers : (left : Option (List ℕ)) (S K : Type 0) (fault : DriveFault) → IsReadFault left S fault
+    → IfSome left (λ bytes. IsComplete bytes S K (fault_status fault))
+unread_answers None S K fault h = tt
+unread_answers (Some bytes) S K (faults.Script l) h = absurd h
+unread_answers (Some bytes) S K faults.TooLong h = long_complete bytes S K h
+unread_answers (Some bytes) S K faults.ReadFault h = read_fault_complete bytes S K h
+unread_answers (Some bytes) S K faults.WriteFault h = absurd h
+unread_answers (Some bytes) S K faults.Memory h = memory_complete bytes S K
+
+-- the cause that a round had is one of the play that it stands in
+pub play_fault_later : (first before now : ℕ) (fault : DriveFault) → first ≤ before → IsPlayFault (Rose before now) fault → IsPlayFault (Rose first now) fault
+play_fault_later first before now faults.WriteFault le rose = omega (arith, le, rose)
+play_fault_later first before now faults.Memory le rose = tt
+play_fault_later first before now (faults.Script _) le rose = absurd rose
+play_fault_later first before now faults.TooLong le rose = absurd rose
+play_fault_later first before now faults.ReadFault le rose = absurd rose

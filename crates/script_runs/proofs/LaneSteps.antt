@@ -1,0 +1,264 @@
+-- A lane that is gathered call by call, and the lanes of a round.
+use Rattle.std.proofs.Common.{◌≡◌, ℕ, zero, suc, ◌+◌, ◌<◌, ◌≤◌, ◌⊎◌, Bool, true, false, cond, List, [], ◌∷◌, ◌++◌, length, map, refl, sym, ap, subst, ◌∙◌, inl, inr, ⊎_elim, append-nil, arith, length-append}
+use Rattle.std.specs.Prelude.{◌==◌, ◌&&◌, Result, Ok, Err, IfOk, Some, All, option_map, unwrap_or, slice_get, slice_index, filter}
+use Rattle.std.specs.List.{list_any, IsDistinct, AllByRecursion}
+use Rattle.std.proofs.lemmas.Bool.{true≢false, eq-eqb, ne_eqb}
+use Rattle.std.proofs.lemmas.List.Elements.{All-head, All-tail, filter-append}
+use Rattle.std.proofs.lemmas.List.{map-append}
+use mathlib.Core.Option.{some, some-injective, some-ne-none}
+use mathlib.Core.Logic.{dite}
+use native.Mathlib.Decide.{ℕ_discrete}
+use lib.ListN.{get_elem?}
+use Rattle.atomic_table.proofs.Lists.{at_longer}
+use Rattle.legal_history.specs.History.{Distinct, In, keep}
+use Rattle.legal_history.proofs.Steps.{at_snoc_index, one_at, some_below}
+use Rattle.cell_lanes.specs.declared.lane.Line.{Line}
+use Rattle.cell_lanes.specs.declared.lane.Lane.{Lane}
+use Rattle.cell_lanes.specs.Lanes.{LineFit, cell_calls, all_calls_on}
+use Rattle.indexmap.specs.IndexSet.{insert_key}
+use Rattle.metrics_core.specs.declared.calls.SeriesCall.{SeriesCall}
+use Rattle.metrics_core.specs.declared.kinds.SeriesId.{SeriesId}
+use Rattle.metrics_core.specs.declared.kinds.MetricKind.{MetricKind}
+use Rattle.metrics_core.specs.declared.kinds.MetricKind.TheVariants as kinds
+use Rattle.metrics_core.specs.Kinds.{kind_eq}
+use Rattle.metrics_registry.specs.Live.{LiveSeries, IsBelowAll, Rises, AreOf, IsNumbered, id_eq}
+use Rattle.metrics_registry.proofs.IdTests.{id_eq-same, id_eq-refl}
+use Rattle.prom_exporter.specs.Exporter.{Exporter}
+use Rattle.prom_exporter.specs.LanePasses.{ids_of}
+use Rattle.drive_script.specs.Script.{kind_of}
+use Rattle.drive_script.specs.Texts.{act_of}
+use Rattle.drive_script.specs.declared.script.CallLine.{CallLine}
+use Rattle.drive_script.specs.declared.script.Act.{Act}
+use Rattle.drive_script.specs.declared.script.Act.TheVariants as acts
+use Rattle.script_runs.specs.LaneCalls.{AllAsked, AsksKind, HasLane, asked, calls_at, kind_asked, id_at, is_at}
+
+pub counter≢gauge : kinds.Counter ≡ kinds.Gauge → ⊥
+counter≢gauge e = true≢false (ap (λ k. kind_eq k kinds.Counter) e)
+
+-- ---- calls on a cell
+
+index_front : (cs ds : List ℕ) (s : ℕ) → s < length cs → slice_index (cs ++ ds) s ≡ slice_index cs s
+index_front [] ds s h = absurd (omega (arith, h))
+index_front (c ∷ cs) ds zero h = refl
+index_front (c ∷ cs) ds (suc s) h = index_front cs ds s (omega (arith, h))
+
+keep_first : {K : Type 0} (b : Bool) (x : K) (xs ys : List K) → keep b x (xs ++ ys) ≡ keep b x xs ++ ys
+keep_first true x xs ys = refl
+keep_first false x xs ys = refl
+
+module _ {K : Type 0} where
+  calls_longer : (j : ℕ) (cs ds : List ℕ) (lines : List (Line K)) → LineFit (length cs) lines → cell_calls j (cs ++ ds) lines ≡ cell_calls j cs lines
+  calls_longer j cs ds [] fit = refl
+  calls_longer j cs ds (x ∷ xs) fit = (λ i. keep (index_front cs ds x.slot (fit 0 x refl) i == j) x.call (calls_longer j cs ds xs (λ k y e. fit (suc k) y e) i))
+
+  calls_last : (j : ℕ) (cs : List ℕ) (xs : List (Line K)) (x : Line K) → cell_calls j cs (xs ++ x ∷ []) ≡ cell_calls j cs xs ++ keep (slice_index cs x.slot == j) x.call []
+  calls_last j cs [] x = refl
+  calls_last j cs (y ∷ ys) x =
+      ap (keep (slice_index cs y.slot == j) y.call) (calls_last j cs ys x)
+      ∙ keep_first (slice_index cs y.slot == j) y.call (cell_calls j cs ys) (keep (slice_index cs x.slot == j) x.call [])
+
+  fit_last : (n m : ℕ) (xs : List (Line K)) (x : Line K) → n ≤ m → x.slot < m → LineFit n xs → LineFit m (xs ++ x ∷ [])
+  fit_last n m xs x more own fit k y e = ⊎_elim
+      (λ (old : get_elem? xs k ≡ some y). (let h = fit k y old in omega (arith, h, more)))
+      (λ (new : (k ≡ length xs) × (x ≡ y)). subst (λ (z : Line K). z.slot < m) new.1 own)
+      (at_snoc_index xs x y k e)
+
+-- one more key stands behind the others, or was there
+more_keys : (eq : ℕ → ℕ → Bool) (ks : List ℕ) (k : ℕ) → (ds : List ℕ) × (insert_key eq ks k ≡ ks ++ ds) × ((ds ≡ []) ⊎ (ds ≡ k ∷ []))
+more_keys eq ks k =
+    elim (list_any (eq k) ks) as (λ b. (ds : List ℕ) × (cond b ks (ks ++ k ∷ []) ≡ ks ++ ds) × ((ds ≡ []) ⊎ (ds ≡ k ∷ []))) [
+      | true ↦ ([], sym (append-nil ks), inl refl)
+      | false ↦ (k ∷ [], refl, inr refl)
+    ]
+
+index_found : (cs : List ℕ) (s j : ℕ) → get_elem? cs s ≡ some j → slice_index cs s ≡ j
+index_found [] s j e = absurd (some-ne-none j (sym e))
+index_found (c ∷ cs) zero j e = some-injective c j e
+index_found (c ∷ cs) (suc s) j e = index_found cs s j e
+
+found_of : (cs : List ℕ) (s j : ℕ) → slice_get cs s ≡ Some j → get_elem? cs s ≡ some j
+found_of [] s j e = absurd cc
+found_of (c ∷ cs) zero j e = ap some (Rattle.std.proofs.lemmas.Option.same_Some c j e)
+found_of (c ∷ cs) (suc s) j e = found_of cs s j e
+
+-- ---- one more call: its slot has its cell
+
+pub grown_keys : (eq : ℕ → ℕ → Bool) (old new : List ℕ) (k : ℕ) → new ≡ insert_key eq old k → (ds : List ℕ) × (new ≡ old ++ ds) × ((ds ≡ []) ⊎ (ds ≡ k ∷ []))
+grown_keys eq old new k keys = let more = more_keys eq old k in (more.0, keys ∙ more.1, more.2)
+
+module _ (old new : List ℕ) (lines after : List (Line SeriesCall)) (index slot : ℕ) (call : SeriesCall)
+    (more : (ds : List ℕ) × (new ≡ old ++ ds) × ((ds ≡ []) ⊎ (ds ≡ index ∷ []))) (stored : slice_get new slot ≡ Some index) (pushed : after ≡ lines ++ record { slot = slot; call = call } ∷ []) (fit : LineFit (length old) lines) where
+  abbrev line : Line SeriesCall
+  line = record { slot = slot; call = call }
+
+  at_slot : get_elem? new slot ≡ some index
+  at_slot = found_of new slot index stored
+
+  pub pushed_fit : LineFit (length new) after
+  pushed_fit = subst (LineFit (length new)) (sym pushed)
+      (fit_last (length old) (length new) lines line (let n = ap length more.1 in omega (arith, n, length-append old more.0)) (some_below new slot index at_slot) fit)
+
+  pub pushed_calls : (j : ℕ) → cell_calls j new after ≡ cell_calls j old lines ++ keep (index == j) call []
+  pushed_calls j =
+      ap (cell_calls j new) pushed ∙ calls_last j new lines line
+      ∙ (λ i. (ap (λ cs. cell_calls j cs lines) more.1 ∙ calls_longer j old more.0 lines fit) i ++ keep (index_found new slot index at_slot i == j) call [])
+
+  cells_asked : (ids : List SeriesId) → AsksKind ids index call → ((s j : ℕ) → get_elem? old s ≡ some j → j < length ids) → (s j : ℕ) → get_elem? new s ≡ some j → j < length ids
+  cells_asked ids asks below s j e = ⊎_elim
+      (λ (none : more.0 ≡ []). below s j (subst (λ cs. get_elem? cs s ≡ some j) (more.1 ∙ ap (λ l. old ++ l) none ∙ append-nil old) e))
+      (λ (one : more.0 ≡ index ∷ []). ⊎_elim (λ (before : get_elem? old s ≡ some j). below s j before)
+      (λ (last : (s ≡ length old) × (index ≡ j)). subst (λ n. n < length ids) last.1 (some_below ids index asks.0 asks.1))
+      (at_snoc_index old index j s (subst (λ cs. get_elem? cs s ≡ some j) (more.1 ∙ ap (λ l. old ++ l) one) e)))
+      more.2
+
+  old_slot : (s j : ℕ) → s < length old → get_elem? new s ≡ some j → get_elem? old s ≡ some j
+  old_slot s j within e =
+      let own = Rattle.cell_lanes.proofs.Lists.below_some old s within in
+      own.1 ∙ ap some (one_at new s own.0 j (subst (λ cs. get_elem? cs s ≡ some own.0) (sym more.1) (at_longer old more.0 s own.0 own.1)) e)
+
+  pub pushed_asked : (ids : List SeriesId) → AsksKind ids index call → AllAsked ids old lines → AllAsked ids new after
+  pushed_asked ids asks all = (
+    cells_asked ids asks all.0,
+    (λ k x j e f. ⊎_elim
+        (λ (before : get_elem? lines k ≡ some x). all.1 k x j before (old_slot x.slot j (fit k x before) f))
+        (λ (last : (k ≡ length lines) × (line ≡ x)).
+        let same : index ≡ j = one_at new slot index j at_slot (subst (λ (y : Line SeriesCall). get_elem? new y.slot ≡ some j) (sym last.1) f) in
+        subst (λ (y : Line SeriesCall). AsksKind ids j y.call) last.1 (subst (λ n. AsksKind ids n call) same asks))
+        (at_snoc_index lines line x k (subst (λ xs. get_elem? xs k ≡ some x) pushed e))),
+  )
+
+-- ---- keys of a set are distinct
+
+never_in : (eq : ℕ → ℕ → Bool) → ((a b : ℕ) → a ≡ b → eq a b ≡ true) → (x : ℕ) (xs : List ℕ) → AllByRecursion (λ y. eq x y ≡ false) xs → In x xs → ⊥
+never_in eq same x [] all is = is
+never_in eq same x (y ∷ ys) all is = ⊎_elim (λ (e : x ≡ y). true≢false (sym (same x y e) ∙ all.0)) (λ (r : In x ys). never_in eq same x ys all.1 r) is
+
+pub distinct_keys : (eq : ℕ → ℕ → Bool) → ((a b : ℕ) → a ≡ b → eq a b ≡ true) → (ks : List ℕ) → IsDistinct eq ks → Distinct ks
+unfolding IsDistinct
+distinct_keys eq same [] all = tt
+distinct_keys eq same (k ∷ ks) all = ((λ is. never_in eq same k ks all.0 is), distinct_keys eq same ks all.1)
+
+-- ---- the series that a handle names
+
+module _ {X : Type 0} where
+  abbrev pub its_id : LiveSeries X → SeriesId
+  its_id series = series.id
+
+  above : (n : ℕ) (es : List (LiveSeries X)) → IsBelowAll n es → (i : ℕ) (a : SeriesId) → get_elem? (map its_id es) i ≡ some a → n < a.number
+  above n [] below i a e = absurd (some-ne-none a (sym e))
+  above n (x ∷ es) below zero a e = subst (λ (id : SeriesId). n < id.number) (some-injective x.id a e) below.0
+  above n (x ∷ es) below (suc i) a e = above n es below.1 i a e
+
+  rise_apart : (es : List (LiveSeries X)) → Rises es → (i j : ℕ) (a : SeriesId) → get_elem? (map its_id es) i ≡ some a → get_elem? (map its_id es) j ≡ some a → i ≡ j
+  rise_apart [] rises i j a e f = absurd (some-ne-none a (sym e))
+  rise_apart (x ∷ es) rises zero zero a e f = refl
+  rise_apart (x ∷ es) rises zero (suc j) a e f = absurd (let h = above x.id.number es rises.0 j a f in let same = ap (λ (id : SeriesId). id.number) (some-injective x.id a e) in omega (arith, h, same))
+  rise_apart (x ∷ es) rises (suc i) zero a e f = absurd (let h = above x.id.number es rises.0 i a e in let same = ap (λ (id : SeriesId). id.number) (some-injective x.id a f) in omega (arith, h, same))
+  rise_apart (x ∷ es) rises (suc i) (suc j) a e f = ap suc (rise_apart es rises.1 i j a e f)
+
+  pub kind_at : (kind : MetricKind) (n : ℕ) (es : List (LiveSeries X)) → AreOf kind n es → (i : ℕ) (a : SeriesId) → get_elem? (map its_id es) i ≡ some a → a.kind ≡ kind
+  kind_at kind n [] are i a e = absurd (some-ne-none a (sym e))
+  kind_at kind n (x ∷ es) are zero a e = ap (λ (id : SeriesId). id.kind) (sym (some-injective x.id a e)) ∙ are.0
+  kind_at kind n (x ∷ es) are (suc i) a e = kind_at kind n es are.2 i a e
+
+pub front_or_behind : {A : Type 0} (xs ys : List A) (i : ℕ) (a : A) → get_elem? (xs ++ ys) i ≡ some a → (get_elem? xs i ≡ some a) ⊎ ((k : ℕ) × (i ≡ length xs + k) × (get_elem? ys k ≡ some a))
+front_or_behind [] ys i a e = inr (i, omega arith, e)
+front_or_behind (x ∷ xs) ys zero a e = inl e
+front_or_behind (x ∷ xs) ys (suc i) a e = ⊎_elim (λ (front : get_elem? xs i ≡ some a). inl front) (λ (back : (k : ℕ) × (i ≡ length xs + k) × (get_elem? ys k ≡ some a)). inr (back.0, (let h = back.1 in omega (arith, h)), back.2)) (front_or_behind xs ys i a e)
+
+-- each id stands at one index
+pub ids_apart : (exporter : Exporter) → IsNumbered exporter.series → (i j : ℕ) (a : SeriesId) → get_elem? (ids_of exporter) i ≡ some a → get_elem? (ids_of exporter) j ≡ some a → i ≡ j
+ids_apart exporter numbered i j a e f =
+    let counters = map its_id exporter.series.counters in
+    let gauges = map its_id exporter.series.gauges in
+    let not_both : (k l : ℕ) → get_elem? counters k ≡ some a → get_elem? gauges l ≡ some a → ⊥ =
+    λ k l p q. counter≢gauge (sym (kind_at kinds.Counter _ exporter.series.counters numbered.counters.1 k a p) ∙ kind_at kinds.Gauge _ exporter.series.gauges numbered.gauges.1 l a q) in
+    ⊎_elim (λ (p : get_elem? counters i ≡ some a). ⊎_elim (λ (q : get_elem? counters j ≡ some a). rise_apart exporter.series.counters numbered.counters.0 i j a p q)
+    (λ (q : (k : ℕ) × (j ≡ length counters + k) × (get_elem? gauges k ≡ some a)). absurd (not_both i q.0 p q.2)) (front_or_behind counters gauges j a f))
+    (λ (p : (k : ℕ) × (i ≡ length counters + k) × (get_elem? gauges k ≡ some a)). ⊎_elim (λ (q : get_elem? counters j ≡ some a). absurd (not_both j p.0 q p.2))
+    (λ (q : (k : ℕ) × (j ≡ length counters + k) × (get_elem? gauges k ≡ some a)).
+    let same = rise_apart exporter.series.gauges numbered.gauges.0 p.0 q.0 a p.2 q.2 in p.1 ∙ ap (λ n. length counters + n) same ∙ sym q.1) (front_or_behind counters gauges j a f))
+    (front_or_behind counters gauges i a e)
+
+-- ---- whether an index is that of an id
+
+pub get_of : {A : Type 0} (xs : List A) (i : ℕ) (a : A) → get_elem? xs i ≡ some a → slice_get xs i ≡ Some a
+get_of [] i a e = absurd (some-ne-none a (sym e))
+get_of (x ∷ xs) zero a e = ap Some (some-injective x a e)
+get_of (x ∷ xs) (suc i) a e = get_of xs i a e
+
+id_at_true : (ids : List SeriesId) (j : ℕ) (id : SeriesId) → id_at ids j id ≡ true → get_elem? ids j ≡ some id
+id_at_true [] j id e = absurd (true≢false (sym e))
+id_at_true (x ∷ ids) zero id e = ap some (id_eq-same x id e)
+id_at_true (x ∷ ids) (suc j) id e = id_at_true ids j id e
+
+pub id_at_none : (ids : List SeriesId) (j : ℕ) (id : SeriesId) → ((i : ℕ) → get_elem? ids i ≡ some id → ⊥) → id_at ids j id ≡ false
+id_at_none ids j id none = by (id_at ids j id) refl
+  where
+    by : (b : Bool) → id_at ids j id ≡ b → b ≡ false
+    by true is = absurd (none j (id_at_true ids j id is))
+    by false is = refl
+
+pub id_at_index : (ids : List SeriesId) (index j : ℕ) (id : SeriesId) → ((i k : ℕ) → get_elem? ids i ≡ some id → get_elem? ids k ≡ some id → i ≡ k) → get_elem? ids index ≡ some id → id_at ids j id ≡ (index == j)
+id_at_index ids index j id apart at = dite (ℕ_discrete index j)
+    (λ (same : index ≡ j). let here = get_of ids j id (subst (λ n. get_elem? ids n ≡ some id) same at) in ap (λ o. unwrap_or (option_map (λ (own : SeriesId). id_eq own id) o) false) here ∙ id_eq-refl id ∙ sym (eq-eqb index j same))
+    (λ (ne : ¬ (index ≡ j)). by (id_at ids j id) refl ne ∙ sym (ne_eqb index j ne))
+  where
+    by : (b : Bool) → id_at ids j id ≡ b → ¬ (index ≡ j) → b ≡ false
+    by true is ne = absurd (ne (apart index j at (id_at_true ids j id is)))
+    by false is ne = refl
+
+pub kind_of_asked : (act : Act) → kind_of (act_of act) ≡ kind_asked (asked act)
+kind_of_asked (acts.Inc n) = refl
+kind_of_asked (acts.Abs n) = refl
+kind_of_asked (acts.Add v) = refl
+kind_of_asked (acts.Sub v) = refl
+kind_of_asked (acts.Set v) = refl
+
+-- ---- the calls of a lane, call line by call line
+
+module _ (ids handles : List SeriesId) (l j : ℕ) where
+  abbrev mine : CallLine → Bool
+  mine line = HasLane l line && is_at ids handles j line
+
+  one_of : (x : CallLine) (b : Bool) → map (λ (line : CallLine). asked line.act) (cond b (x ∷ []) []) ≡ keep b (asked x.act) []
+  one_of x true = refl
+  one_of x false = refl
+
+  pub calls_at-last : (xs : List CallLine) (x : CallLine) → calls_at ids handles l j (xs ++ x ∷ []) ≡ calls_at ids handles l j xs ++ keep (mine x) (asked x.act) []
+  calls_at-last xs x =
+      ap (map (λ (line : CallLine). asked line.act)) (filter-append mine xs (x ∷ []))
+      ∙ map-append (λ (line : CallLine). asked line.act) (filter mine xs) (cond (mine x) (x ∷ []) [])
+      ∙ ap (λ cs. calls_at ids handles l j xs ++ cs) (one_of x (mine x))
+
+  pub calls_at-none : (xs : List CallLine) → All (λ line. HasLane l line ≡ false) xs → calls_at ids handles l j xs ≡ []
+  calls_at-none [] none = refl
+  calls_at-none (x ∷ xs) none =
+      let here : mine x ≡ false = ap (λ b. b && is_at ids handles j x) (All-head (λ (line : CallLine). HasLane l line ≡ false) x xs none) in
+      ap (λ b. map (λ (line : CallLine). asked line.act) (cond b (x ∷ filter mine xs) (filter mine xs))) here
+      ∙ calls_at-none xs (All-tail (λ (line : CallLine). HasLane l line ≡ false) x xs none)
+
+-- ---- the calls of all lanes
+
+module _ {K : Type 0} (j : ℕ) where
+  pub on_front : (ls : List (Lane K)) (a : Lane K) (l : ℕ) → l < length ls → all_calls_on j (ls ++ a ∷ []) l ≡ all_calls_on j ls l
+  on_front [] a l h = absurd (omega (arith, h))
+  on_front (x ∷ ls) a zero h = refl
+  on_front (x ∷ ls) a (suc l) h = on_front ls a l (omega (arith, h))
+
+  pub on_last : (ls : List (Lane K)) (a : Lane K) (l : ℕ) → l ≡ length ls → all_calls_on j (ls ++ a ∷ []) l ≡ cell_calls j a.cells.items a.lines.items
+  on_last [] a zero h = refl
+  on_last [] a (suc l) h = absurd (omega (arith, h))
+  on_last (x ∷ ls) a zero h = absurd (omega (arith, h))
+  on_last (x ∷ ls) a (suc l) h = on_last ls a l (omega (arith, h))
+
+  pub on_past : (ls : List (Lane K)) (l : ℕ) → length ls ≤ l → all_calls_on j ls l ≡ []
+  on_past [] l h = refl
+  on_past (x ∷ ls) zero h = absurd (omega (arith, h))
+  on_past (x ∷ ls) (suc l) h = on_past ls l (omega (arith, h))
+
+-- ---- answers
+
+pub if_ok_all : {T E : Type 0} (r : Result T E) (P Q R : T → Type 0) → IfOk r P → IfOk r Q → IfOk r R → IfOk r (λ x. P x × Q x × R x)
+if_ok_all (Ok x) P Q R p q s = (p, q, s)
+if_ok_all (Err e) P Q R p q s = tt

@@ -1,0 +1,16 @@
+use Rattle.std.specs.Fmt.{digits}
+use Rattle.std.specs.Str.{chars}
+use Rattle.drive_script.specs.Vectors.{basic}
+use Rattle.script_runs.specs.Vectors.{basic_pages, one_page}
+use Rattle.script_runs.proofs.RunPages.{turns_are_pages}
+use Rattle.script_runs.proofs.examples.basic_example.Goals as goal
+
+pub returns-clause-computed : goal.returns-clause-computed
+returns-clause-computed c = basic_pages
+
+pub returns-clause-run : goal.returns-clause-run
+unfolding digits chars
+returns-clause-run c = turns_are_pages basic
+
+pub returns-clause-report : goal.returns-clause-report
+returns-clause-report c = one_page

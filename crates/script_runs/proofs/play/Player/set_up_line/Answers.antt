@@ -1,0 +1,17 @@
+use Rattle.script_runs.proofs.RestingSteps.{counter_rests, gauge_rests}
+use Rattle.script_runs.proofs.play.Player.set_up_line.Goals.{in-Counter+in_ok-id-in-Counter, in-Gauge+in_ok-id-in-Gauge}
+use Rattle.script_runs.proofs.play.Player.set_up_line.Goals as goal
+
+pub returns-in_err-push-clause-rest : goal.returns-in_err-push-clause-rest
+returns-in_err-push-clause-rest c =
+    elim c.match-kind.branch [
+      | in-Counter+in_ok-id-in-Counter w ↦ rw w.self-is (counter_rests _ _ _ w.in_ok-id-in-Counter.ensures.cells)
+      | in-Gauge+in_ok-id-in-Gauge w ↦ rw w.self-is (gauge_rests _ _ _ w.in_ok-id-in-Gauge.ensures.cells)
+    ]
+
+pub returns-clause-rest : goal.returns-clause-rest
+returns-clause-rest c =
+    elim c.match-kind.branch [
+      | in-Counter+in_ok-id-in-Counter w ↦ rw w.self-is (counter_rests _ _ _ w.in_ok-id-in-Counter.ensures.cells)
+      | in-Gauge+in_ok-id-in-Gauge w ↦ rw w.self-is (gauge_rests _ _ _ w.in_ok-id-in-Gauge.ensures.cells)
+    ]

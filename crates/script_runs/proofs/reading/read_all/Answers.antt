@@ -1,0 +1,34 @@
+use Rattle.std.proofs.Common.{rules, arith}
+use Rattle.script_runs.proofs.ReadingSteps.{nothing_read, read_more, read_whole, read_too_much, piece_fault}
+use Rattle.script_runs.proofs.reading.read_all.Goals as goal
+
+pub loop-init : goal.loop-init
+loop-init g c = record {
+  room = search rules;
+  within = omega arith;
+  turns = omega arith;
+  never_falls = omega arith;
+  so_far = nothing_read _ _ c.new-bytes.ensures.items;
+}
+
+pub loop-preserved : goal.loop-preserved
+loop-preserved g c = record {
+  room = c.loop.invariant.room;
+  within = omega arith;
+  turns = omega (arith, c.in-Ok-read_piece.ensures.grew);
+  never_falls = omega (arith, c.in-Ok-read_piece.ensures.never_falls);
+  so_far = read_more _ _ _ _ _ _ c.loop.invariant.so_far c.in-Ok-read_piece.ensures.taken;
+}
+
+pub returns-in-Err-read_piece-clause-refused : goal.returns-in-Err-read_piece-clause-refused
+returns-in-Err-read_piece-clause-refused g c =
+    piece_fault _ (g.S.Source.faults c.args.source.now) (g.S.Source.faults c.loop.source) (g.S.Source.faults c.read_piece.new.source) _
+    c.loop.invariant.never_falls c.in-Err-read_piece.ensures.refused
+
+pub returns-then-count-eq0-clause-whole : goal.returns-then-count-eq0-clause-whole
+returns-then-count-eq0-clause-whole g c =
+    read_whole _ _ _ _ _ _ c.if-count-eq0.true c.loop.invariant.so_far c.in-Ok-read_piece.ensures.taken
+
+pub returns-then-len-gt-SCRIPT_LIMIT-clause-refused : goal.returns-then-len-gt-SCRIPT_LIMIT-clause-refused
+returns-then-len-gt-SCRIPT_LIMIT-clause-refused g c =
+    read_too_much _ _ _ (omega arith) (read_more _ _ _ _ _ _ c.loop.invariant.so_far c.in-Ok-read_piece.ensures.taken)

@@ -1,0 +1,25 @@
+-- The run in which the lanes of a round take turns, so that each series' calls stand in the script's order.
+use Rattle.std.specs.Prelude.{List, [], ◌∷◌, map}
+use Rattle.metrics_core.specs.declared.kinds.MetricKind.TheVariants as kinds
+use Rattle.drive_script.specs.Script.{ScriptText, SettingsText, RoundText}
+use Rattle.script_runs.specs.Play.{PlayState, RoundOrders, play_start, after_setup, after_round, calls_on}
+
+-- the orders in which each series' calls stand as in the script
+abbrev pub orders_of : PlayState → RoundText → RoundOrders
+orders_of p round = record {
+  counters = map (calls_on p round kinds.Counter) p.prometheus.counters;
+  gauges = map (calls_on p round kinds.Gauge) p.prometheus.gauges;
+  histograms = map (calls_on p round kinds.Histogram) p.prometheus.histograms;
+}
+
+abbrev pub orders_in_turn : PlayState → RoundText → RoundOrders
+orders_in_turn p round = orders_of (after_setup p round) round
+
+abbrev pub orders_along : SettingsText → PlayState → List RoundText → List RoundOrders
+orders_along settings p [] = []
+orders_along settings p (round ∷ rounds) =
+    orders_in_turn p round ∷ orders_along settings (after_round settings p round (orders_in_turn p round)) rounds
+
+-- the orders of all rounds of a script
+abbrev pub script_orders : ScriptText → List RoundOrders
+script_orders script = orders_along script.settings play_start script.rounds

@@ -1,0 +1,65 @@
+-- The calls of a lane, as the exporter's lanes make them.
+use Rattle.std.specs.Prelude.{◌≡◌, ℕ, ◌<◌, ◌==◌, ◌&&◌, Bool, false, List, map, filter, length, option_map, unwrap_or, slice_get}
+use mathlib.Core.Option.{some}
+use lib.ListN.{get_elem?}
+use Rattle.cell_lanes.specs.declared.lane.Line.{Line}
+use Rattle.metrics_core.specs.declared.calls.SeriesCall.{SeriesCall}
+use Rattle.metrics_core.specs.declared.calls.SeriesCall.TheVariants as calls
+use Rattle.metrics_core.specs.declared.kinds.MetricKind.{MetricKind}
+use Rattle.metrics_core.specs.declared.kinds.MetricKind.TheVariants as kinds
+use Rattle.metrics_core.specs.declared.kinds.SeriesId.{SeriesId}
+use Rattle.metrics_registry.specs.Live.{id_eq}
+use Rattle.drive_script.specs.declared.script.Act.{Act}
+use Rattle.drive_script.specs.declared.script.Act.TheVariants as acts
+use Rattle.drive_script.specs.declared.script.CallLine.{CallLine}
+use Rattle.script_runs.specs.declared.lanes.LaneCalls.{LaneCalls}
+
+-- the call on a series that an act makes, and the kind of series that it is on
+abbrev pub asked : Act → SeriesCall
+asked (acts.Inc count) = calls.Increment count
+asked (acts.Abs total) = calls.Absolute total
+asked (acts.Add value) = calls.Add value
+asked (acts.Sub value) = calls.Sub value
+asked (acts.Set value) = calls.Set value
+
+abbrev pub kind_asked : SeriesCall → MetricKind
+kind_asked (calls.Increment _) = kinds.Counter
+kind_asked (calls.Absolute _) = kinds.Counter
+kind_asked (calls.Add _) = kinds.Gauge
+kind_asked (calls.Sub _) = kinds.Gauge
+kind_asked (calls.Set _) = kinds.Gauge
+
+-- the id at an index is this one
+abbrev pub id_at : List SeriesId → ℕ → SeriesId → Bool
+id_at ids j id = unwrap_or (option_map (λ own. id_eq own id) (slice_get ids j)) false
+
+-- the handle of a call line names the series at an index
+abbrev pub is_at : List SeriesId → List SeriesId → ℕ → CallLine → Bool
+is_at ids handles j line = unwrap_or (option_map (id_at ids j) (slice_get handles line.handle)) false
+
+abbrev pub HasLane : ℕ → CallLine → Bool
+HasLane l line = line.lane == l
+
+-- the calls of lane l on the series at an index, in the script's order
+abbrev pub lines_at : List SeriesId → List SeriesId → ℕ → ℕ → List CallLine → List CallLine
+lines_at ids handles l j lines = filter (λ line. HasLane l line && is_at ids handles j line) lines
+
+abbrev pub calls_at : List SeriesId → List SeriesId → ℕ → ℕ → List CallLine → List SeriesCall
+calls_at ids handles l j lines = map (λ line. asked line.act) (lines_at ids handles l j lines)
+
+-- a call is one on the kind of the series at an index
+abbrev pub AsksKind : List SeriesId → ℕ → SeriesCall → Type 0
+AsksKind ids j call = (id : SeriesId) × (get_elem? ids j ≡ some id) × (id.kind ≡ kind_asked call)
+
+-- the cells of a lane are indices of series, and each line's call is of the kind of its series
+abbrev pub AllAsked : List SeriesId → List ℕ → List (Line SeriesCall) → Type 0
+AllAsked ids cells lines =
+    ((s j : ℕ) → get_elem? cells s ≡ some j → j < length ids)
+    × ((k : ℕ) (x : Line SeriesCall) (j : ℕ) → get_elem? lines k ≡ some x → get_elem? cells x.slot ≡ some j → AsksKind ids j x.call)
+
+-- a lane while it is gathered
+abbrev pub lane_cells : LaneCalls → List ℕ
+lane_cells gathered = gathered.cells.keys
+
+abbrev pub lane_lines : LaneCalls → List (Line SeriesCall)
+lane_lines gathered = gathered.lines.items

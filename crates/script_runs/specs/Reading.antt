@@ -1,0 +1,24 @@
+-- Reading a source piece by piece.
+use Rattle.std.specs.Prelude.{◌≡◌, ℕ, List, [], ◌++◌, take, drop, Option, Some, IfSome}
+use Rattle.drive_script.specs.declared.faults.DriveFault.{DriveFault}
+use Rattle.drive_script.specs.declared.faults.DriveFault.TheVariants as faults
+use Rattle.script_runs.specs.Answers.{IsTooLong}
+
+-- the first n of the bytes to come went behind the bytes so far; none at the end
+pub record IsTaken (rest : List ℕ) (left : Option (List ℕ)) (bytes bytes' : List ℕ) (n : ℕ) : Type 0 where
+  pub told : left ≡ Some (drop n rest)
+  pub added : bytes' ≡ bytes ++ take n rest
+  pub at_the_end : n ≡ 0 → rest ≡ []
+
+-- why a piece wasn't read
+abbrev pub IsPieceFault : Type 0 → DriveFault → Type 0
+IsPieceFault SourceFailed faults.ReadFault = SourceFailed
+IsPieceFault SourceFailed faults.Memory = Unit {0}
+IsPieceFault SourceFailed _ = ⊥
+
+-- why a source wasn't read whole within the limit
+abbrev pub IsReadFault : Option (List ℕ) → Type 0 → DriveFault → Type 0
+IsReadFault left SourceFailed faults.TooLong = IfSome left IsTooLong
+IsReadFault left SourceFailed faults.ReadFault = SourceFailed
+IsReadFault left SourceFailed faults.Memory = Unit {0}
+IsReadFault left SourceFailed _ = ⊥

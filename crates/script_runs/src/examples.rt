@@ -1,0 +1,21 @@
+//! Worked examples: what the definitions say of whole scripts.
+
+ghost use Rattle.std.specs.Prelude.{◌≡◌, [], ◌∷◌, codes};
+ghost use Rattle.metrics_core.specs.Characters.{line};
+ghost use Rattle.drive_script.specs.Vectors.{basic, empty};
+ghost use Rattle.script_runs.specs.Answers.{report_of, report_text};
+ghost use Rattle.script_runs.specs.Headline.{IsPagesOf};
+ghost use Rattle.script_runs.specs.Vectors.{basic_page, pages};
+
+/// A script that registers one counter and adds 42 to it: its run is one page, and its report counts one.
+pub fn basic_example()
+    ensures computed { pages basic ≡ basic_page ∷ [] }
+    ensures run { IsPagesOf basic basic_page }
+    ensures report { line (report_text (report_of 1)) ≡ codes "pages 1 sent 0 unsent 0 dropped 0\n" }
+{}
+
+/// The empty script: its run writes nothing.
+pub fn empty_example()
+    ensures run { IsPagesOf empty [] }
+    ensures report { line (report_text (report_of 0)) ≡ codes "pages 0 sent 0 unsent 0 dropped 0\n" }
+{}

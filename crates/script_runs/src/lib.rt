@@ -1,0 +1,24 @@
+//! Runs of scripts: a script is read from a source, played on the exporter, and a page is written for each round; a run
+//! ends with a status and a line that says why.
+//!
+//! A run over a script in memory:
+//!
+//!     let status = run(rt, alloc, &["drive"], &mut source, &mut out, &mut err, &Free);
+#![tactic(auto)]
+
+mod driving;
+mod examples;
+mod gates;
+mod lanes;
+mod play;
+mod reading;
+mod report;
+mod running;
+mod say;
+
+pub use driving::drive;
+pub use examples::{basic_example, empty_example};
+pub use gates::{Free, Gate};
+pub use report::Report;
+pub use running::run;
+pub use say::say_fault;

@@ -1,0 +1,224 @@
+//! The play of a script: what each round does to the exporter, and the page that it writes.
+
+ghost use Rattle.std.specs.Prelude.{◌≡◌, ◌≤◌, [], fold, map, length, IfOk, IfErr, OnOk, OnErr};
+ghost use Rattle.metrics_core.specs.Outside.{Rose, GrewBy, GrewByPrefix};
+ghost use Rattle.drive_script.specs.Texts.{script_of, settings_of, round_of};
+ghost use Rattle.script_runs.specs.Answers.{IsPlayFault, report_of};
+ghost use Rattle.script_runs.specs.Built.{AreBuiltRounds};
+ghost use Rattle.script_runs.specs.Fitting.{CallsFit};
+ghost use Rattle.script_runs.specs.Orders.{ForSomeRun};
+ghost use Rattle.script_runs.specs.Play.{exporter_settings};
+
+use crate::gates::GateHook;
+use crate::lanes::lanes_of;
+use crate::{Gate, Report};
+use cell_lanes::run_lanes;
+use drive_script::{CallLine, DriveFault, Round, Script, Settings, Setup};
+use metrics_core::{Memory, MetricKind, SeriesId, Sink, write_whole};
+use prom_exporter::{BuildError, PrometheusBuilder, PrometheusState};
+use std::alloc::Global;
+use std::sync::Wait;
+use std::thread::Threads;
+
+/// Plays a script: the lanes of each round run side by side, and then a page goes to the sink, ended by the line `# EOF`.
+/// The gate is called around each call of a lane.
+pub fn play<R: Threads + Wait + Sync, G: Gate + Sync, K: Sink>(
+    rt: &R,
+    alloc: Global,
+    gate: &G,
+    script: &Script,
+    out: &mut K,
+) -> Result<Report, DriveFault>
+    requires built { AreBuiltRounds script.now.rounds.items }
+    requires fit { CallsFit [] (map round_of script.now.rounds.items) }
+    ensures pages { OnOk result (ForSomeRun (script_of script.now) (GrewBy (K.written out.old) (K.written out.new))) }
+    ensures counted { IfOk result (λ report. report ≡ report_of (length script.now.rounds.items)) }
+    ensures prefix { OnErr result (ForSomeRun (script_of script.now) (GrewByPrefix (K.written out.old) (K.written out.new))) }
+    ensures cause { IfErr result (IsPlayFault (Rose (K.faults out.old) (K.faults out.new))) }
+    ensures never_falls { K.faults out.old ≤ K.faults out.new }
+{
+    let mut player = match Player::new(alloc, &script.settings) {
+        Ok(player) => player,
+        Err(Memory) => return Err(DriveFault::Memory),
+    };
+    for round in &script.rounds {
+        match player.play_round(rt, alloc, gate, round, out) {
+            Ok(()) => (),
+            Err(fault) => return Err(fault),
+        }
+    }
+    Ok(Report {
+        pages: script.rounds.len() as u64,
+        sent: 0,
+        unsent: 0,
+        dropped: 0,
+    })
+}
+
+/// The exporter, and the series that each register line so far was given.
+#[derive(Drop)]
+pub struct Player {
+    pub exporter: PrometheusState,
+    pub handles: Vec<SeriesId>,
+}
+
+impl Player {
+    ghost use Rattle.std.specs.Prelude.{◌≡◌, ◌≤◌, ℕ, All, [], ◌∷◌, fold, map, IfOk, IfErr, OnOk, OnErr};
+    ghost use Rattle.metrics_core.specs.Outside.{Rose, GrewBy, GrewByPrefix};
+    ghost use Rattle.prom_format.specs.Pages.{page_text};
+    ghost use Rattle.prom_exporter.specs.State.{page_step};
+    ghost use Rattle.prom_exporter.specs.Exporter.{AllHome, page_families, state_of as prometheus_of};
+    ghost use Rattle.drive_script.specs.Script.{RoundText, SettingsText};
+    ghost use Rattle.drive_script.specs.Texts.{round_of, settings_of, setup_of, call_line_of};
+    ghost use Rattle.script_runs.specs.Answers.{IsPlayFault};
+    ghost use Rattle.script_runs.specs.Orders.{ForSomeOrders, IsCalled, round_text};
+    ghost use Rattle.script_runs.specs.Play.{after_round, play_start, setup_step, exporter_settings};
+    ghost use Rattle.script_runs.specs.Player.{state_of};
+    ghost use Rattle.script_runs.specs.Resting.{AllRest};
+    ghost use Rattle.script_runs.specs.Built.{AreBuiltSetups, IsBuiltSetup};
+    ghost use Rattle.script_runs.specs.Fitting.{CallsFit, FitsHandle};
+
+    /// A player before its first round, over an exporter with these settings.
+    fn new(alloc: Global, settings: &Settings) -> Result<Player, Memory>
+        ensures start { IfOk result (λ player. state_of player ≡ play_start) }
+        ensures settings { IfOk result (λ player. player.exporter.settings ≡ exporter_settings (settings_of settings.now)) }
+        ensures rest { IfOk result (λ player. AllRest player.exporter) }
+    {
+        let builder = builder_of(alloc, settings)?;
+        match builder.build_state(alloc) {
+            Ok(exporter) => Ok(Player {
+                exporter,
+                handles: Vec::new(alloc),
+            }),
+            Err(_) => Err(Memory),
+        }
+    }
+
+    /// Plays a round: its setup, its calls, its page.
+    fn play_round<R: Threads + Wait + Sync, G: Gate + Sync, K: Sink>(
+        &mut self,
+        rt: &R,
+        alloc: Global,
+        gate: &G,
+        round: &Round,
+        out: &mut K,
+    ) -> Result<(), DriveFault>
+        requires built { AreBuiltSetups round.now.setup.items }
+        requires fit { CallsFit self.old.handles.items (round_of round.now ∷ []) }
+        requires rest { AllRest self.old.exporter }
+        ensures rest { OnOk result (AllRest self.new.exporter) }
+        ensures settings { self.new.exporter.settings ≡ self.old.exporter.settings }
+        ensures played { (settings : SettingsText) → self.old.exporter.settings ≡ exporter_settings settings
+            → OnOk result (ForSomeOrders (state_of self.old) (round_of round.now) (λ orders.
+            (state_of self.new ≡ after_round settings (state_of self.old) (round_of round.now) orders)
+            × GrewBy (K.written out.old) (K.written out.new) (round_text settings (state_of self.old) (round_of round.now) orders))) }
+        ensures prefix { (settings : SettingsText) → self.old.exporter.settings ≡ exporter_settings settings
+            → OnErr result (ForSomeOrders (state_of self.old) (round_of round.now) (λ orders.
+            GrewByPrefix (K.written out.old) (K.written out.new) (round_text settings (state_of self.old) (round_of round.now) orders))) }
+        ensures cause { IfErr result (IsPlayFault (Rose (K.faults out.old) (K.faults out.new))) }
+        ensures never_falls { K.faults out.old ≤ K.faults out.new }
+    {
+        match self.set_up(alloc, &round.setup) {
+            Ok(()) => (),
+            Err(Memory) => return Err(DriveFault::Memory),
+        }
+        match self.make_calls(rt, alloc, gate, &round.calls) {
+            Ok(()) => (),
+            Err(Memory) => return Err(DriveFault::Memory),
+        }
+        self.write_page(alloc, round.moment, out)
+    }
+
+    /// Does the setup lines in order.
+    fn set_up(&mut self, alloc: Global, setup: &[Setup]) -> Result<(), Memory>
+        requires { AreBuiltSetups setup.now }
+        ensures settings { self.new.exporter.settings ≡ self.old.exporter.settings }
+        ensures rest { AllRest self.old.exporter → AllRest self.new.exporter }
+        ensures stepped { OnOk result (state_of self.new ≡ fold setup_step (state_of self.old) (map setup_of setup.now)) }
+    {
+        for line in setup {
+            match self.set_up_line(alloc, line) {
+                Ok(()) => (),
+                Err(refused) => return Err(refused),
+            }
+        }
+        Ok(())
+    }
+
+    /// Does one setup line.
+    fn set_up_line(&mut self, alloc: Global, line: &Setup) -> Result<(), Memory>
+        requires { IsBuiltSetup (setup_of line.now) }
+        ensures settings { self.new.exporter.settings ≡ self.old.exporter.settings }
+        ensures rest { AllRest self.old.exporter → AllRest self.new.exporter }
+        ensures stepped { OnOk result (state_of self.new ≡ setup_step (state_of self.old) (setup_of line.now)) }
+    {
+        let Setup::Register { kind, key } = line;
+        let id = match kind {
+            MetricKind::Counter => self.exporter.register_counter(alloc, key)?,
+            MetricKind::Gauge => self.exporter.register_gauge(alloc, key)?,
+            MetricKind::Histogram => unreachable!(),
+        };
+        self.handles.push(id)?;
+        Ok(())
+    }
+
+    /// Makes the calls of a round: its lanes run side by side, each with its own passes, and all passes are back at the end.
+    /// A lane that is refused memory makes no further call.
+    fn make_calls<R: Threads + Wait + Sync, G: Gate + Sync>(
+        &mut self,
+        rt: &R,
+        alloc: Global,
+        gate: &G,
+        calls: &[CallLine],
+    ) -> Result<(), Memory>
+        requires fit { All (λ line. FitsHandle self.old.handles.items (call_line_of line)) calls.now }
+        requires rest { AllRest self.old.exporter }
+        ensures rest { AllRest self.new.exporter }
+        ensures settings { self.new.exporter.settings ≡ self.old.exporter.settings }
+        ensures called { OnOk result ((round : RoundText) → round.calls ≡ map call_line_of calls.now → IsCalled (state_of self.old) round (state_of self.new)) }
+    {
+        let lanes = lanes_of(alloc, &self.exporter, &self.handles, calls)?;
+        run_lanes(rt, alloc, &GateHook { gate }, &mut self.exporter, &lanes)
+    }
+
+    /// Writes the page at a moment, ended by the line `# EOF`.
+    fn write_page<K: Sink>(
+        &mut self,
+        alloc: Global,
+        moment: u64,
+        out: &mut K,
+    ) -> Result<(), DriveFault>
+        requires home { AllHome self.old.exporter }
+        ensures same { self.new.exporter ≡ self.old.exporter }
+        ensures stepped { OnOk result (state_of self.new ≡ record (state_of self.old) { prometheus = page_step self.old.exporter.settings.idle moment (prometheus_of self.old.exporter) }) }
+        ensures page { OnOk result (GrewBy (K.written out.old) (K.written out.new) (page_text (page_families moment self.old.exporter))) }
+        ensures prefix { OnErr result (GrewByPrefix (K.written out.old) (K.written out.new) (page_text (page_families moment self.old.exporter))) }
+        ensures cause { IfErr result (IsPlayFault (Rose (K.faults out.old) (K.faults out.new))) }
+        ensures never_falls { K.faults out.old ≤ K.faults out.new }
+    {
+        match self.exporter.render_to_write(alloc, moment, out) {
+            Ok(()) => (),
+            Err(BuildError::WriteFault) => return Err(DriveFault::WriteFault),
+            Err(BuildError::Memory) => return Err(DriveFault::Memory),
+        }
+        match write_whole(out, b"# EOF\n") {
+            Ok(()) => Ok(()),
+            Err(_) => Err(DriveFault::WriteFault),
+        }
+    }
+}
+
+/// A builder of an exporter with these settings.
+fn builder_of(alloc: Global, settings: &Settings) -> Result<PrometheusBuilder, Memory>
+    ensures { IfOk result (λ builder. builder ≡ exporter_settings (settings_of settings.now)) }
+{
+    let mut builder = PrometheusBuilder::new(alloc)?;
+    for (key, value) in &settings.globals {
+        let (key, value) = (key.clone()?, value.clone()?);
+        builder = match builder.add_global_label(alloc, key, value) {
+            Ok(builder) => builder,
+            Err(_) => return Err(Memory),
+        };
+    }
+    Ok(builder)
+}

@@ -1,0 +1,76 @@
+//! The lines that a run leaves on `err`. They are written piece by piece and take no memory, so that want of memory is
+//! said too.
+
+ghost use Rattle.std.specs.Prelude.{◌≡◌, ◌≤◌, flat_map};
+ghost use Rattle.metrics_core.specs.Characters.{line};
+ghost use Rattle.metrics_core.specs.Outside.{Rose};
+ghost use Rattle.drive_script.specs.Faults.{fault_text};
+ghost use Rattle.script_runs.specs.Answers.{IsSaidText, report_text, usage_text};
+
+use crate::Report;
+use drive_script::DriveFault;
+use itoa::Buffer;
+use metrics_core::{Sink, write_whole};
+
+/// Says how the program is called.
+pub fn say_usage<E: Sink>(err: &mut E)
+    ensures said { IsSaidText (Rose (E.faults err.old) (E.faults err.new)) (E.written err.old) (E.written err.new) (line usage_text) }
+{
+    say(
+        err,
+        &[b"usage: drive [ADDRESS] | serve COUNT [NETWORK ..] | bench N\n"],
+    );
+}
+
+/// Says what a run did.
+pub fn say_report<E: Sink>(err: &mut E, report: &Report)
+    ensures said { IsSaidText (Rose (E.faults err.old) (E.faults err.new)) (E.written err.old) (E.written err.new) (line (report_text report.now)) }
+{
+    let (mut pages, mut sent) = (Buffer::new(), Buffer::new());
+    let (mut unsent, mut dropped) = (Buffer::new(), Buffer::new());
+    say(
+        err,
+        &[
+            b"pages ",
+            pages.format(report.pages).as_bytes(),
+            b" sent ",
+            sent.format(report.sent).as_bytes(),
+            b" unsent ",
+            unsent.format(report.unsent).as_bytes(),
+            b" dropped ",
+            dropped.format(report.dropped).as_bytes(),
+            b"\n",
+        ],
+    );
+}
+
+/// Says why a run ended before its last page.
+pub fn say_fault<E: Sink>(err: &mut E, fault: DriveFault)
+    ensures said { IsSaidText (Rose (E.faults err.old) (E.faults err.new)) (E.written err.old) (E.written err.new) (line (fault_text fault)) }
+{
+    match fault {
+        DriveFault::Script { line } => {
+            let mut number = Buffer::new();
+            say(
+                err,
+                &[b"script: line ", number.format(line).as_bytes(), b"\n"],
+            );
+        }
+        DriveFault::TooLong => say(err, &[b"script: longer than 67108864 bytes\n"]),
+        DriveFault::ReadFault => say(err, &[b"read failed\n"]),
+        DriveFault::WriteFault => say(err, &[b"write failed\n"]),
+        DriveFault::Memory => say(err, &[b"out of memory\n"]),
+    }
+}
+
+/// Writes some pieces, one after another. A failing `err` changes nothing else: what follows is left out.
+fn say<E: Sink>(err: &mut E, pieces: &[&[u8]])
+    ensures said { IsSaidText (Rose (E.faults err.old) (E.faults err.new)) (E.written err.old) (E.written err.new) (flat_map (λ piece. piece.now) pieces.now) }
+{
+    for piece in pieces {
+        match write_whole(err, piece) {
+            Ok(()) => (),
+            Err(_) => return,
+        }
+    }
+}

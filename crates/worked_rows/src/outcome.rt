@@ -1,0 +1,156 @@
+//! What comes of a row, beside what must come.
+
+use crate::row::{Device, Row};
+use metrics_core::{MemorySink, MemorySource};
+use script_runs::{Free, run};
+use std::alloc::Global;
+use std::io::ErrorKind;
+use std::rt::Files;
+use std::sync::Wait;
+use std::thread::Threads;
+use std::{fs, io};
+
+/// What a run answered, wrote and said.
+#[derive(Drop)]
+struct Outcome {
+    status: String,
+    pages: Vec<u8>,
+    said: Vec<u8>,
+}
+
+/// Whether what comes of a row is what must come. Where it isn't, it is printed.
+pub fn holds<R: Files + AllocGlobal + Print + Threads + Wait + Sync>(
+    rt: &R,
+    alloc: Global,
+    row: &Row,
+) -> io::Result<bool> {
+    let outcome = outcome_of(rt, alloc, row, script_of(rt, alloc, row)?)?;
+    let same = outcome.status == row.status
+        && is_wanted(rt, alloc, row, "said", &outcome.said)?
+        && (is_wanted(rt, alloc, row, "page", &outcome.pages)?
+            || is_other(rt, alloc, row, &outcome.pages)?);
+    if !same {
+        print_outcome(rt, alloc, row, &outcome)?;
+    }
+    Ok(same)
+}
+
+/// Plays a row over devices in memory.
+fn outcome_of<R: Threads + Wait + Sync>(
+    rt: &R,
+    alloc: Global,
+    row: &Row,
+    script: Vec<u8>,
+) -> io::Result<Outcome> {
+    let words = words_of(alloc, &row.words)?;
+    let failing = row.source.failing.to_vec(alloc)?;
+    let mut source = MemorySource::new(script, row.source.most.max(1), failing);
+    let mut out = sink(alloc, &row.out)?;
+    let mut err = sink(alloc, &row.err)?;
+    let status = run(rt, alloc, &words, &mut source, &mut out, &mut err, &Free);
+    Ok(Outcome {
+        status: format!(in alloc; "{status}")?,
+        pages: out.written().to_vec(alloc)?,
+        said: err.written().to_vec(alloc)?,
+    })
+}
+
+/// The words of a row.
+fn words_of(alloc: Global, words: &str) -> io::Result<Vec<&str>> {
+    let mut list = Vec::new(alloc);
+    for word in words.split(',') {
+        if !word.is_empty() {
+            list.push(word)?;
+        }
+    }
+    Ok(list)
+}
+
+/// A sink that behaves as a row says.
+fn sink(alloc: Global, device: &Device) -> io::Result<MemorySink> {
+    let failing = device.failing.to_vec(alloc)?;
+    Ok(MemorySink::new(alloc, device.most.max(1), failing))
+}
+
+/// The script of a row.
+fn script_of<R: Files + AllocGlobal>(rt: &R, alloc: Global, row: &Row) -> io::Result<Vec<u8>> {
+    if row.zeros > 0 {
+        return Ok(vec![in alloc; 0u8; row.zeros]?);
+    }
+    match file(rt, alloc, row, "script")? {
+        Some(script) => Ok(script),
+        None => Err(io::Error::from(ErrorKind::NotFound)),
+    }
+}
+
+/// Whether these are the bytes of a row's file with an ending; where the file isn't there, whether there are none.
+fn is_wanted<R: Files + AllocGlobal>(
+    rt: &R,
+    alloc: Global,
+    row: &Row,
+    ending: &str,
+    bytes: &[u8],
+) -> io::Result<bool> {
+    match file(rt, alloc, row, ending)? {
+        Some(wanted) => Ok(wanted.as_slice() == bytes),
+        None => Ok(bytes.is_empty()),
+    }
+}
+
+/// Whether these are the other pages that may come of a row.
+fn is_other<R: Files + AllocGlobal>(
+    rt: &R,
+    alloc: Global,
+    row: &Row,
+    bytes: &[u8],
+) -> io::Result<bool> {
+    match file(rt, alloc, row, "other")? {
+        Some(wanted) => Ok(wanted.as_slice() == bytes),
+        None => Ok(false),
+    }
+}
+
+/// The file of a row with an ending, or that of the row which it is like.
+fn file<R: Files + AllocGlobal>(
+    rt: &R,
+    alloc: Global,
+    row: &Row,
+    ending: &str,
+) -> io::Result<Option<Vec<u8>>> {
+    match file_at(rt, alloc, &row.name, ending)? {
+        Some(bytes) => Ok(Some(bytes)),
+        None => file_at(rt, alloc, &row.like, ending),
+    }
+}
+
+/// The file with a name and an ending, where there is one.
+fn file_at<R: Files + AllocGlobal>(
+    rt: &R,
+    alloc: Global,
+    name: &str,
+    ending: &str,
+) -> io::Result<Option<Vec<u8>>> {
+    match fs::read(rt, format!(in alloc; "{name}.{ending}")?) {
+        Ok(bytes) => Ok(Some(bytes)),
+        Err(error) if error.kind() == ErrorKind::NotFound => Ok(None),
+        Err(error) => Err(error),
+    }
+}
+
+/// Prints what came of a row that differs.
+fn print_outcome<R: AllocGlobal + Print>(
+    rt: &R,
+    alloc: Global,
+    row: &Row,
+    outcome: &Outcome,
+) -> io::Result<()> {
+    let pages = String::from_utf8_lossy(alloc, &outcome.pages)?;
+    let said = String::from_utf8_lossy(alloc, &outcome.said)?;
+    println!(rt;
+        "{} differs: status {}, said {}",
+        row.name,
+        outcome.status,
+        said.trim()
+    )?;
+    println!(rt; "{pages}")
+}
