@@ -23,6 +23,7 @@ impl Gate for Free {
 }
 
 /// A gate as the hook of lanes. A script has lanes 0 to 7, and fewer than 2^32 calls.
+#[derive(Drop)]
 pub(crate) struct GateHook<'a, G> {
     pub gate: &'a G,
 }
