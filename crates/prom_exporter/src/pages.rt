@@ -1,9 +1,11 @@
 //! The body of a page, written to a sink (Prometheus text exposition format, version 0.0.4).
 
-ghost use Rattle.std.specs.Prelude.{◌≡◌, ◌≤◌, ◌++◌, map, OnOk, OnErr, string_bytes};
+ghost use Rattle.std.specs.Prelude.{◌≡◌, ◌≤◌, ◌++◌, None, map, OnOk, OnErr, string_bytes};
 ghost use Rattle.std.specs.Map.Iter.{deref_pair};
+ghost use Rattle.metrics_core.specs.Numbers.{page_number};
 ghost use Rattle.metrics_core.specs.Outside.{Rose, GrewBy, GrewByPrefix};
 ghost use Rattle.prom_format.specs.LabelSets.{labels_of};
+ghost use Rattle.prom_format.specs.Lines.{metric_line};
 ghost use Rattle.prom_format.specs.Pages.{row_text, block_text, body_text};
 ghost use Rattle.prom_exporter.specs.Values.{group_of, value_row, value_family};
 
@@ -81,10 +83,25 @@ fn push_row<C: Shown>(
     cell: &C,
     globals: &IndexMap<String, String>,
 ) -> Result<(), Memory>
-    ensures { OnOk result (string_bytes buffer.new ≡ string_bytes buffer.old ++ row_text (value_row C.shown (labels_of globals.now.entries) name.now (key.now, cell.now))) }
+    ensures { OnOk result (string_bytes buffer.new ≡ string_bytes buffer.old
+        ++ row_text (value_row C.shown (labels_of globals.now.entries) name.now (key.now, cell.now))) }
 {
     let labels = LabelSet::from_key_and_global(alloc, key, globals)?;
+    push_labelled_row(alloc, buffer, name, &labels, cell)
+}
+
+/// Appends the row of a series with these labels.
+fn push_labelled_row<C: Shown>(
+    alloc: Global,
+    buffer: &mut String,
+    name: &str,
+    labels: &LabelSet,
+    cell: &C,
+) -> Result<(), Memory>
+    ensures { OnOk result (string_bytes buffer.new ≡ string_bytes buffer.old
+        ++ metric_line name.now None labels.now None (page_number (C.shown cell.now)) None) }
+{
     let mut value = String::new(alloc);
     cell.push_value(&mut value)?;
-    write_metric_line(buffer, name, None, &labels, None, value.as_str(), None)
+    write_metric_line(buffer, name, None, labels, None, value.as_str(), None)
 }

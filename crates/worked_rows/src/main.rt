@@ -36,6 +36,11 @@ fn plays<R: Files + AllocGlobal + Print + Threads + Wait + Sync>(
     alloc: Global,
     line: &str,
 ) -> io::Result<bool> {
-    let row = read_row(alloc, line)?;
-    holds(rt, alloc, &row)
+    match read_row(alloc, line) {
+        Ok(row) => holds(rt, alloc, &row),
+        Err(fault) => {
+            println!(rt; "no row: {line}")?;
+            Err(fault)
+        }
+    }
 }

@@ -9,8 +9,7 @@ use Rattle.prom_exporter.proofs.pages.push_row.Goals as goal
 pub returns : goal.returns
 returns g c =
     let shown = g.C.Shown.shown in
-    let text : c.as_str.result.now ≡ page_number (shown c.args.cell.now) =
-    c.as_str.ensures.value ∙ c.in_ok-push_value.ensures ∙ (λ j. c.new-value.ensures.bytes j ++ page_number (shown c.args.cell.now)) in
-    on_ok_weaker c.write_metric_line.result (λ grown. grown ∙ ap (λ row. string_bytes c.args.buffer.now ++ row)
-    ((λ j. metric_line c.args.name.now None (c.in_ok-labels.ensures.labels j) None (text j) None)
-    ∙ sym (row_text-value shown (labels_of c.args.globals.now.entries) c.args.name.now (c.args.key.now, c.args.cell.now)))) c.write_metric_line.ensures.ok
+    let value = page_number (shown c.args.cell.now) in
+    on_ok_weaker c.push_labelled_row.result (λ grown. grown ∙ ap (λ row. string_bytes c.args.buffer.now ++ row)
+    ((λ j. metric_line c.args.name.now None (c.in_ok-labels.ensures.labels j) None value None)
+    ∙ sym (row_text-value shown (labels_of c.args.globals.now.entries) c.args.name.now (c.args.key.now, c.args.cell.now)))) c.push_labelled_row.ensures
