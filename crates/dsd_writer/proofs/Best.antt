@@ -8,7 +8,7 @@ use Rattle.std.proofs.lemmas.List.Elements.{All-head, All-tail, All-cons, All-ni
 use Rattle.std.proofs.lemmas.List.Sums.{sum_by-append}
 use Rattle.metrics_core.specs.Characters.{colon}
 use Rattle.dsd_writer.specs.Cuts.{joined, full_cut, IsByWeight, IsBestCut}
-use Rattle.dsd_writer.specs.Lines.{Item, line_of, line_fits, kept_values, payload_fits, payloads_of}
+use Rattle.dsd_writer.specs.Lines.{ItemText, line_of, line_fits, kept_values, payload_fits, payloads_of}
 use Rattle.dsd_writer.specs.Writers.{AreStored, lines_in}
 use Rattle.dsd_writer.proofs.CutLemmas.{full_cut_is}
 use Rattle.dsd_writer.proofs.Fewest.{full_cut_fewest}
@@ -17,11 +17,11 @@ use Rattle.dsd_writer.proofs.Stored.{kept_fit}
 
 -- ---- values on lines
 
-lines_by_weight : (limit : ℕ) (item : Item) → IsByWeight (line_fits limit item) (λ value. length (colon ∷ value)) (length (line_of item [])) limit
+lines_by_weight : (limit : ℕ) (item : ItemText) → IsByWeight (line_fits limit item) (λ value. length (colon ∷ value)) (length (line_of item [])) limit
 lines_by_weight limit item run =
     ap (λ n. nat_le n limit) (length-line_of item run ∙ ap (λ n. length (line_of item []) + n) (length-flat_map (λ value. colon ∷ value) run))
 
-pub best_lines : (limit : ℕ) (item : Item) (values : List (List ℕ)) → IsBestCut (line_fits limit item) (kept_values limit item values) (full_cut (line_fits limit item) (kept_values limit item values))
+pub best_lines : (limit : ℕ) (item : ItemText) (values : List (List ℕ)) → IsBestCut (line_fits limit item) (kept_values limit item values) (full_cut (line_fits limit item) (kept_values limit item values))
 best_lines limit item values = record {
   full = full_cut_is (line_fits limit item) (kept_values limit item values) (kept_fit limit item values);
   fewest = full_cut_fewest (line_fits limit item) (λ value. length (colon ∷ value)) (length (line_of item [])) limit (lines_by_weight limit item) (kept_values limit item values);

@@ -8,7 +8,7 @@ use Rattle.std.proofs.lemmas.List.Concat.{flat_map-append}
 use Rattle.std.proofs.Math.Seq.{take-append_seam}
 use Rattle.dsd_writer.specs.Adding.{AddsValue}
 use Rattle.dsd_writer.specs.Cuts.{joined, full_cut, full_cut_behind}
-use Rattle.dsd_writer.specs.Lines.{Item, line_of, line_fits, values_text, ending_of, kept_values, left_out_values, lines_of}
+use Rattle.dsd_writer.specs.Lines.{ItemText, line_of, line_fits, values_text, ending_of, kept_values, left_out_values, lines_of}
 
 -- ---- lists of runs
 
@@ -27,39 +27,39 @@ values_text_push run t = flat_map-append (λ value. 58 ∷ value) run (t ∷ [])
 pub length-values_text_push : (run : List (List ℕ)) (t : List ℕ) → length (values_text (run ++ t ∷ [])) ≡ length (values_text run) + (1 + length t)
 length-values_text_push run t = omega (arith, ap length (values_text_push run t), length-append (values_text run) (58 ∷ t))
 
-pub length-line_of : (item : Item) (run : List (List ℕ)) → length (line_of item run) ≡ length (line_of item []) + length (values_text run)
+pub length-line_of : (item : ItemText) (run : List (List ℕ)) → length (line_of item run) ≡ length (line_of item []) + length (values_text run)
 length-line_of item run =
     omega (arith, length-append (item.name ++ values_text run) (ending_of item), length-append item.name (values_text run), length-append (item.name ++ []) (ending_of item), length-append item.name [])
 
-pub line_fits-within : (limit room : ℕ) (item : Item) (run : List (List ℕ)) → room + length (line_of item []) ≡ limit → length (values_text run) ≤ room → line_fits limit item run ≡ true
+pub line_fits-within : (limit room : ℕ) (item : ItemText) (run : List (List ℕ)) → room + length (line_of item []) ≡ limit → length (values_text run) ≤ room → line_fits limit item run ≡ true
 line_fits-within limit room item run split low = le-leb (length (line_of item run)) limit (omega (arith, length-line_of item run))
 
 past : (n limit : ℕ) → limit < n → nat_le n limit ≡ false
 past n limit h = grind (arith, nat_tests)
 
-pub line_fits-past : (limit room : ℕ) (item : Item) (run : List (List ℕ)) → room + length (line_of item []) ≡ limit → room < length (values_text run) → line_fits limit item run ≡ false
+pub line_fits-past : (limit room : ℕ) (item : ItemText) (run : List (List ℕ)) → room + length (line_of item []) ≡ limit → room < length (values_text run) → line_fits limit item run ≡ false
 line_fits-past limit room item run split high = past (length (line_of item run)) limit (omega (arith, length-line_of item run))
 
 -- ---- what is written, and what is to come
 
 -- the open line, without its ending
-abbrev pub opened : Item → List (List ℕ) → List ℕ
+abbrev pub opened : ItemText → List (List ℕ) → List ℕ
 opened item [] = []
 opened item (t ∷ run) = item.name ++ values_text (t ∷ run)
 
 -- the runs to come behind the run so far
-abbrev pub runs_behind : ℕ → Item → List (List ℕ) → List (List ℕ) → List (List (List ℕ))
+abbrev pub runs_behind : ℕ → ItemText → List (List ℕ) → List (List ℕ) → List (List (List ℕ))
 runs_behind limit item [] values = full_cut (line_fits limit item) values
 runs_behind limit item (t ∷ run) values = full_cut_behind (line_fits limit item) (t ∷ run) values
 
-pub record IsFilling (limit : ℕ) (item : Item) (values rest : List (List ℕ)) (bytes_before bytes : List ℕ) (lengths_before lengths : List ℕ) (used left_out : ℕ) (done : List (List (List ℕ))) (run : List (List ℕ)) : Type 0 where
+pub record IsFilling (limit : ℕ) (item : ItemText) (values rest : List (List ℕ)) (bytes_before bytes : List ℕ) (lengths_before lengths : List ℕ) (used left_out : ℕ) (done : List (List (List ℕ))) (run : List (List ℕ)) : Type 0 where
   pub written : bytes ≡ (bytes_before ++ joined (map (line_of item) done)) ++ opened item run
   pub counted : lengths ≡ lengths_before ++ map length (map (line_of item) done)
   pub weight : used ≡ length (values_text run)
   pub to_come : done ++ runs_behind limit item run (kept_values limit item rest) ≡ full_cut (line_fits limit item) (kept_values limit item values)
   pub dropped : left_out + length (left_out_values limit item rest) ≡ length (left_out_values limit item values)
 
-module _ (limit : ℕ) (item : Item) (values : List (List ℕ)) (bytes_before lengths_before : List ℕ) where
+module _ (limit : ℕ) (item : ItemText) (values : List (List ℕ)) (bytes_before lengths_before : List ℕ) where
   pub begun : (bytes : List ℕ) → bytes ≡ bytes_before → IsFilling limit item values values bytes_before bytes lengths_before lengths_before 0 0 [] []
   begun bytes same = record {
     written = same ∙ sym (append-nil bytes_before) ∙ sym (append-nil (bytes_before ++ []));
@@ -256,7 +256,7 @@ module _ (limit : ℕ) (item : Item) (values : List (List ℕ)) (bytes_before le
       ap (take (length lengths_before)) split ∙ take-append_seam lengths_before (sizes ++ more)
 
 -- where a line without values passes the limit, all values are left out
-pub none_fits : (limit : ℕ) (item : Item) (values : List (List ℕ)) → limit < length (line_of item []) → (kept_values limit item values ≡ []) × (left_out_values limit item values ≡ values)
+pub none_fits : (limit : ℕ) (item : ItemText) (values : List (List ℕ)) → limit < length (line_of item []) → (kept_values limit item values ≡ []) × (left_out_values limit item values ≡ values)
 none_fits limit item [] high = (refl, refl)
 none_fits limit item (t ∷ values) high =
     let fails = past (length (line_of item (t ∷ []))) limit (omega (arith, length-line_of item (t ∷ []))) in
@@ -268,7 +268,7 @@ none_fits limit item (t ∷ values) high =
 -- ---- room for what is to come
 
 -- a line is at least as long as with fewer values
-first_line : (limit : ℕ) (item : Item) (run values : List (List ℕ)) → length (line_of item run) ≤ length (joined (map (line_of item) (full_cut_behind (line_fits limit item) run values)))
+first_line : (limit : ℕ) (item : ItemText) (run values : List (List ℕ)) → length (line_of item run) ≤ length (joined (map (line_of item) (full_cut_behind (line_fits limit item) run values)))
 first_line limit item run [] = omega (arith, ap length (append-nil (line_of item run)))
 first_line limit item run (t ∷ values) =
     elim (line_fits limit item (run ++ t ∷ [])) as (λ b. length (line_of item run) ≤ length (joined (map (line_of item) (cond b (full_cut_behind (line_fits limit item) (run ++ t ∷ []) values) (run ∷ full_cut_behind (line_fits limit item) (t ∷ []) values))))) [
@@ -276,7 +276,7 @@ first_line limit item run (t ∷ values) =
       | false ↦ omega (arith, length-append (line_of item run) (joined (map (line_of item) (full_cut_behind (line_fits limit item) (t ∷ []) values))))
     ]
 
-some_line : (limit : ℕ) (item : Item) (run values : List (List ℕ)) → 0 < length (full_cut_behind (line_fits limit item) run values)
+some_line : (limit : ℕ) (item : ItemText) (run values : List (List ℕ)) → 0 < length (full_cut_behind (line_fits limit item) run values)
 some_line limit item run [] = omega arith
 some_line limit item run (t ∷ values) =
     elim (line_fits limit item (run ++ t ∷ [])) as (λ b. 0 < length (cond b (full_cut_behind (line_fits limit item) (run ++ t ∷ []) values) (run ∷ full_cut_behind (line_fits limit item) (t ∷ []) values))) [
@@ -284,12 +284,12 @@ some_line limit item run (t ∷ values) =
       | false ↦ omega arith
     ]
 
-pub record HasRoom (limit : ℕ) (item : Item) (values : List (List ℕ)) (bytes_before bytes lengths_before lengths : List ℕ) : Type 0 where
+pub record HasRoom (limit : ℕ) (item : ItemText) (values : List (List ℕ)) (bytes_before bytes lengths_before lengths : List ℕ) : Type 0 where
   pub for_bytes : length bytes + length (ending_of item) ≤ length bytes_before + length (joined (lines_of limit item values))
   pub for_lengths : length lengths < length lengths_before + length (lines_of limit item values)
 
 -- with an open line there is room for its end and its length among what is written at the end
-pub room_for_end : (limit : ℕ) (item : Item) (values rest : List (List ℕ)) (bytes_before bytes lengths_before lengths : List ℕ) (used left_out : ℕ) (done : List (List (List ℕ))) (run : List (List ℕ))
+pub room_for_end : (limit : ℕ) (item : ItemText) (values rest : List (List ℕ)) (bytes_before bytes lengths_before lengths : List ℕ) (used left_out : ℕ) (done : List (List (List ℕ))) (run : List (List ℕ))
     → IsFilling limit item values rest bytes_before bytes lengths_before lengths used left_out done run → 0 < used → HasRoom limit item values bytes_before bytes lengths_before lengths
 room_for_end limit item values rest bytes_before bytes lengths_before lengths used left_out done [] filling some = absurd (omega (arith, filling.weight))
 room_for_end limit item values rest bytes_before bytes lengths_before lengths used left_out done (r ∷ run) filling some =
@@ -312,14 +312,14 @@ room_for_end limit item values rest bytes_before bytes lengths_before lengths us
     }
 
 -- what a value would add
-pub record Addition (item : Item) (room bare used : ℕ) (text bytes lengths : List ℕ) : Type 0 where
+pub record Addition (item : ItemText) (room bare used : ℕ) (text bytes lengths : List ℕ) : Type 0 where
   pub bytes_after : List ℕ
   pub lengths_after : List ℕ
   pub used_after : ℕ
   pub adds : AddsValue item room bare used text bytes bytes_after lengths lengths_after used_after
   pub some : 0 < used_after
 
-pub addition : (item : Item) (room bare used : ℕ) (text bytes lengths : List ℕ) → Addition item room bare used text bytes lengths
+pub addition : (item : ItemText) (room bare used : ℕ) (text bytes lengths : List ℕ) → Addition item room bare used text bytes lengths
 addition item room bare used text bytes lengths =
     elim (cases_lt 0 used) [
       | inl some ↦ elim (cases_lt room (used + (1 + length text))) [

@@ -6,3 +6,4 @@ pub mod Stored
 pub mod Packed
 pub mod Best
 pub mod Spare
+pub mod Written

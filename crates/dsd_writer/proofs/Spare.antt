@@ -4,8 +4,9 @@ use Rattle.std.specs.Prelude.{All, IsOk, OnOk, Result, Ok, Err, Vec, vec_len, ve
 use Rattle.std.proofs.lemmas.List.{length-map}
 use Rattle.std.proofs.lemmas.List.Elements.{All-head, All-tail}
 use Rattle.metrics_core.specs.Characters.{newline}
+use Rattle.dsd_writer.specs.Appending.{Appends}
 use Rattle.dsd_writer.specs.Cuts.{joined, full_cut, full_cut_behind}
-use Rattle.dsd_writer.specs.Lines.{Item, ending_of, framed, kept_values, line_fits, line_of, lines_of, payload_fits, payloads_of, rate_text, tags_text, timestamp_text, values_text}
+use Rattle.dsd_writer.specs.Lines.{ItemText, ending_of, framed, kept_values, line_fits, line_of, lines_of, payload_fits, payloads_of, rate_text, tags_text, timestamp_text, values_text}
 use Rattle.dsd_writer.specs.Packing.{framed_payloads}
 use Rattle.dsd_writer.specs.Writers.{IsWithinSpare, WriterText, room_in, stored_bytes}
 use Rattle.dsd_writer.proofs.Best.{best_lines, joined_twice}
@@ -68,7 +69,7 @@ added_at_least on_stream limit lines more =
     omega (arith, stored_bytes-is on_stream limit (lines ++ more), stored_bytes-is on_stream limit lines, both, prefixes)
 
 -- a line has at least three bytes: a colon, a bar and a newline
-line_of_three : (item : Item) (value : List ℕ) (run : List (List ℕ)) → 3 ≤ length (line_of item (value ∷ run))
+line_of_three : (item : ItemText) (value : List ℕ) (run : List (List ℕ)) → 3 ≤ length (line_of item (value ∷ run))
 line_of_three item value run =
     omega (
       arith,
@@ -77,7 +78,7 @@ line_of_three item value run =
       length-append (item.type ++ rate_text item.rate ++ tags_text item.tags ++ timestamp_text item.timestamp) (newline ∷ []),
     )
 
-three_each : (item : Item) (runs : List (List (List ℕ))) → All (λ run. 0 < length run) runs → 3 * length (map (line_of item) runs) ≤ length (joined (map (line_of item) runs))
+three_each : (item : ItemText) (runs : List (List (List ℕ))) → All (λ run. 0 < length run) runs → 3 * length (map (line_of item) runs) ≤ length (joined (map (line_of item) runs))
 three_each item [] some = omega arith
 three_each item ([] ∷ runs) some = absurd (omega (arith, All-head (λ (run : List (List ℕ)). 0 < length run) [] runs some))
 three_each item ((value ∷ run) ∷ runs) some =
@@ -88,17 +89,9 @@ three_each item ((value ∷ run) ∷ runs) some =
       three_each item runs (All-tail (λ (run : List (List ℕ)). 0 < length run) (value ∷ run) runs some),
     )
 
-pub three_bytes_each : (limit : ℕ) (item : Item) (values : List (List ℕ)) → 3 * length (lines_of limit item values) ≤ length (joined (lines_of limit item values))
+pub three_bytes_each : (limit : ℕ) (item : ItemText) (values : List (List ℕ)) → 3 * length (lines_of limit item values) ≤ length (joined (lines_of limit item values))
 three_bytes_each limit item values =
     three_each item (full_cut (line_fits limit item) (kept_values limit item values)) (best_lines limit item values).full.cut.some
-
--- what a write does to the room of the two lists
-pub record UsesRoom {A T E : Type 0} (result : Result T E) (bytes bytes_after lengths lengths_after : Vec ℕ A) (lines : List (List ℕ)) : Type 0 where
-  pub bytes_now : OnOk result (bytes_after.items ≡ bytes.items ++ joined lines)
-  pub lengths_now : OnOk result (lengths_after.items ≡ lengths.items ++ map length lines)
-  pub bytes_capacity : vec_capacity bytes ≤ vec_capacity bytes_after
-  pub lengths_capacity : vec_capacity lengths ≤ vec_capacity lengths_after
-  pub no_memory : vec_len bytes + length (joined lines) ≤ vec_capacity bytes → vec_len lengths + length lines ≤ vec_capacity lengths → IsOk result
 
 room_is : {A : Type 0} (bytes bytes_after lengths lengths_after : Vec ℕ A) (lines : List (List ℕ)) → bytes_after.items ≡ bytes.items ++ joined lines → lengths_after.items ≡ lengths.items ++ map length lines
     → vec_capacity bytes ≤ vec_capacity bytes_after → vec_capacity lengths ≤ vec_capacity lengths_after → 3 * length lines ≤ length (joined lines)
@@ -106,19 +99,19 @@ room_is : {A : Type 0} (bytes bytes_after lengths lengths_after : Vec ℕ A) (li
 room_is bytes bytes_after lengths lengths_after lines bytes_now lengths_now bytes_room lengths_room three =
     omega (arith, ap length bytes_now, ap length lengths_now, length-append bytes.items (joined lines), length-append lengths.items (map length lines), length-map lines (λ (l : List ℕ). length l))
 
-pub within_spare : {A T E : Type 0} (result : Result T E) (old new : WriterText) (item : Item) (values : List (List ℕ)) (bytes bytes_after lengths lengths_after : Vec ℕ A)
+pub within_spare : {A T E : Type 0} (result : Result T E) (old new : WriterText) (item : ItemText) (values : List (List ℕ)) (bytes bytes_after lengths lengths_after : Vec ℕ A)
     → old.spare ≡ room_in bytes lengths → new.spare ≡ room_in bytes_after lengths_after
-    → UsesRoom result bytes bytes_after lengths lengths_after (lines_of old.limit item values) → IsWithinSpare result old new (lines_of old.limit item values)
-within_spare (Ok value) old new item values bytes bytes_after lengths lengths_after old_room new_room uses =
+    → Appends result bytes bytes_after lengths lengths_after (lines_of old.limit item values) → IsWithinSpare result old new (lines_of old.limit item values)
+within_spare (Ok value) old new item values bytes bytes_after lengths lengths_after old_room new_room appends =
     let lines = lines_of old.limit item values in
     let added = added_at_least old.on_stream old.limit old.lines lines in
-    let room = room_is bytes bytes_after lengths lengths_after lines uses.bytes_now uses.lengths_now uses.bytes_capacity uses.lengths_capacity (three_bytes_each old.limit item values) in
+    let room = room_is bytes bytes_after lengths lengths_after lines appends.bytes_now appends.lengths_now appends.bytes_capacity appends.lengths_capacity (three_bytes_each old.limit item values) in
     record { no_memory = λ _. refl; spare = omega (arith, added, room, old_room, new_room) }
-within_spare (Err refused) old new item values bytes bytes_after lengths lengths_after old_room new_room uses =
+within_spare (Err refused) old new item values bytes bytes_after lengths lengths_after old_room new_room appends =
     let lines = lines_of old.limit item values in
     let added = added_at_least old.on_stream old.limit old.lines lines in
     let three = three_bytes_each old.limit item values in
     record {
-      no_memory = λ within. uses.no_memory (omega (arith, added, three, within, old_room)) (omega (arith, added, three, within, old_room));
+      no_memory = λ within. appends.no_memory (omega (arith, added, three, within, old_room)) (omega (arith, added, three, within, old_room));
       spare = tt;
     }

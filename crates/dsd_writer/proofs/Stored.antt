@@ -1,12 +1,13 @@
 -- Lines stand one after another in the bytes of a writer, and further lines go behind them.
 use Rattle.std.proofs.Common.{◌≡◌, ℕ, ◌≤◌, true, false, cond, List, [], ◌∷◌, ◌++◌, length, map, drop, refl, sym, ap, ◌∙◌, subst}
-use Rattle.std.specs.Prelude.{All, IsTrue, Result, Ok, Err, OnOk, OnErr}
+use Rattle.std.specs.Prelude.{All, IsTrue, Result, Ok, Err, OnOk, OnErr, Vec}
 use Rattle.std.proofs.Math.Seq.{take-append_seam, drop-append_seam}
 use Rattle.std.proofs.lemmas.Bool.{leb-true}
 use Rattle.std.proofs.lemmas.List.{map-append}
 use Rattle.std.proofs.lemmas.List.Elements.{All-head, All-tail, All-cons, All-nil, All-append}
+use Rattle.dsd_writer.specs.Appending.{Appends}
 use Rattle.dsd_writer.specs.Cuts.{joined, full_cut}
-use Rattle.dsd_writer.specs.Lines.{Item, line_of, line_fits, kept_values, lines_of}
+use Rattle.dsd_writer.specs.Lines.{ItemText, line_of, line_fits, kept_values, lines_of}
 use Rattle.dsd_writer.specs.Writers.{AreStored, lines_in}
 use Rattle.dsd_writer.proofs.CutLemmas.{full_cut_is}
 use Rattle.dsd_writer.proofs.Filling.{joined-append}
@@ -19,7 +20,7 @@ lines_in-joined (x ∷ xs) =
     ∙ ap (λ lines. x ∷ lines) (lines_in-joined xs)
 
 -- every value that is kept fits alone
-pub kept_fit : (limit : ℕ) (item : Item) (values : List (List ℕ)) → All (λ value. IsTrue (line_fits limit item (value ∷ []))) (kept_values limit item values)
+pub kept_fit : (limit : ℕ) (item : ItemText) (values : List (List ℕ)) → All (λ value. IsTrue (line_fits limit item (value ∷ []))) (kept_values limit item values)
 kept_fit limit item [] = All-nil (λ (value : List ℕ). IsTrue (line_fits limit item (value ∷ [])))
 kept_fit limit item (value ∷ values) =
     (elim (line_fits limit item (value ∷ [])) as (λ b. line_fits limit item (value ∷ []) ≡ b → All (λ value. IsTrue (line_fits limit item (value ∷ []))) (cond b (value ∷ kept_values limit item values) (kept_values limit item values))) [
@@ -27,7 +28,7 @@ kept_fit limit item (value ∷ values) =
       | false ↦ λ e. kept_fit limit item values
     ]) refl
 
-lines_fit : (limit : ℕ) (item : Item) (runs : List (List (List ℕ))) → All (λ run. IsTrue (line_fits limit item run)) runs → All (λ line. length line ≤ limit) (map (line_of item) runs)
+lines_fit : (limit : ℕ) (item : ItemText) (runs : List (List (List ℕ))) → All (λ run. IsTrue (line_fits limit item run)) runs → All (λ line. length line ≤ limit) (map (line_of item) runs)
 lines_fit limit item [] fit = All-nil (λ (line : List ℕ). length line ≤ limit)
 lines_fit limit item (run ∷ runs) fit =
     All-cons (λ (line : List ℕ). length line ≤ limit) (line_of item run) (map (line_of item) runs)
@@ -35,7 +36,7 @@ lines_fit limit item (run ∷ runs) fit =
     (lines_fit limit item runs (All-tail (λ (run : List (List ℕ)). IsTrue (line_fits limit item run)) run runs fit))
 
 -- no line passes the limit
-pub lines_within : (limit : ℕ) (item : Item) (values : List (List ℕ)) → All (λ line. length line ≤ limit) (lines_of limit item values)
+pub lines_within : (limit : ℕ) (item : ItemText) (values : List (List ℕ)) → All (λ line. length line ≤ limit) (lines_of limit item values)
 lines_within limit item values =
     let cut = full_cut_is (line_fits limit item) (kept_values limit item values) (kept_fit limit item values) in
     lines_fit limit item (full_cut (line_fits limit item) (kept_values limit item values)) cut.cut.within
@@ -76,18 +77,17 @@ pub record AreWritten {T E : Type 0} (result : Result T E) (limit : ℕ) (length
   pub ok : OnOk result (lines_in lengths_after bytes_after ≡ lines_in lengths bytes ++ lines)
   pub err : OnErr result (lines_in lengths_after bytes_after ≡ lines_in lengths bytes)
 
-pub written_after : {T E : Type 0} (result : Result T E) (limit : ℕ) (item : Item) (values : List (List ℕ)) (lengths bytes lengths_after bytes_after : List ℕ) → AreStored limit lengths bytes
-    → OnOk result (bytes_after ≡ bytes ++ joined (lines_of limit item values)) → OnOk result (lengths_after ≡ lengths ++ map length (lines_of limit item values))
-    → OnErr result (bytes_after ≡ bytes) → OnErr result (lengths_after ≡ lengths)
-    → AreWritten result limit lengths bytes lengths_after bytes_after (lines_of limit item values)
-written_after (Ok value) limit item values lengths bytes lengths_after bytes_after stored bytes_ok lengths_ok bytes_err lengths_err =
-    let more = stored_more limit lengths bytes lengths_after bytes_after (lines_of limit item values) stored (lines_within limit item values) bytes_ok lengths_ok in
+pub written_after : {T E A : Type 0} (result : Result T E) (limit : ℕ) (item : ItemText) (values : List (List ℕ)) (bytes bytes_after lengths lengths_after : Vec ℕ A) → AreStored limit lengths.items bytes.items
+    → Appends result bytes bytes_after lengths lengths_after (lines_of limit item values)
+    → AreWritten result limit lengths.items bytes.items lengths_after.items bytes_after.items (lines_of limit item values)
+written_after (Ok value) limit item values bytes bytes_after lengths lengths_after stored appends =
+    let more = stored_more limit lengths.items bytes.items lengths_after.items bytes_after.items (lines_of limit item values) stored (lines_within limit item values) appends.bytes_now appends.lengths_now in
     record { stored = more.stored; ok = more.lines_are; err = tt }
-written_after (Err refused) limit item values lengths bytes lengths_after bytes_after stored bytes_ok lengths_ok bytes_err lengths_err =
-    let P : List ℕ → Type 0 = λ l. AreStored limit l bytes in
-    let Q : List ℕ → Type 0 = λ b. AreStored limit lengths_after b in
+written_after (Err refused) limit item values bytes bytes_after lengths lengths_after stored appends =
+    let P : List ℕ → Type 0 = λ l. AreStored limit l bytes.items in
+    let Q : List ℕ → Type 0 = λ b. AreStored limit lengths_after.items b in
     record {
-      stored = subst Q (sym bytes_err) (subst P (sym lengths_err) stored);
+      stored = subst Q (sym appends.bytes_kept) (subst P (sym appends.lengths_kept) stored);
       ok = tt;
-      err = ap (λ l. lines_in l bytes_after) lengths_err ∙ ap (lines_in lengths) bytes_err;
+      err = ap (λ l. lines_in l bytes_after.items) appends.lengths_kept ∙ ap (lines_in lengths.items) appends.bytes_kept;
     }

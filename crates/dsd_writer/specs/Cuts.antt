@@ -1,5 +1,5 @@
 -- How a list is cut into runs within a limit, in order, each run full before the next begins (this project's rule).
-use Rattle.std.specs.Prelude.{◌≡◌, ℕ, ◌+◌, ◌<◌, ◌≤◌, Bool, nat_le, List, [], ◌∷◌, ◌++◌, length, sum_by, All, IsTrue, IsFalse, if◌then◌else◌}
+use Rattle.std.specs.Prelude.{◌≡◌, ℕ, ◌+◌, ◌<◌, ◌≤◌, Bool, nat_le, List, [], ◌∷◌, ◌++◌, length, sum, sum_by, All, IsTrue, IsFalse, if◌then◌else◌}
 
 -- the runs, one after another
 abbrev pub joined : {A : Type 0} → List (List A) → List A
@@ -47,3 +47,11 @@ IsFewest {A} fits xs runs = (others : List (List A)) → IsCut fits xs others �
 pub record IsBestCut {A : Type 0} (fits : List A → Bool) (xs : List A) (runs : List (List A)) : Type 0 where
   pub full : IsFullCut fits xs runs
   pub fewest : IsFewest fits xs runs
+
+-- whether the weights of a run and a weight of its own, `bare`, are at most the limit
+abbrev pub weigh_within : ℕ → ℕ → List ℕ → Bool
+weigh_within bare limit run = nat_le (bare + sum run) limit
+
+-- each text has at most so many bytes
+abbrev pub AreWithin : ℕ → List (List ℕ) → Type 0
+AreWithin limit texts = All (λ text. length text ≤ limit) texts

@@ -5,6 +5,7 @@ pub mod Packing
 pub mod Left
 pub mod Items
 pub mod Adding
+pub mod Appending
 pub mod Rooms
 pub mod Results
 pub mod Vectors

@@ -11,7 +11,7 @@ use Rattle.dsd_writer.specs.Cuts.{joined, full_cut, IsBestCut}
 
 -- what lines of one series say beside their values: the name with the prefix, the type (`c`, `g`, `h` or `d`), and where
 -- there are any a sample rate in billionths, tags and a timestamp in seconds
-pub record Item : Type 0 where
+pub record ItemText : Type 0 where
   pub name : List ℕ
   pub type : List ℕ
   pub rate : Option ℤ
@@ -62,33 +62,33 @@ abbrev pub values_text : List (List ℕ) → List ℕ
 values_text values = flat_map (λ value. colon ∷ value) values
 
 -- what stands behind the values
-abbrev pub ending_of : Item → List ℕ
+abbrev pub ending_of : ItemText → List ℕ
 ending_of item = line (codes "|" ++ item.type ++ rate_text item.rate ++ tags_text item.tags ++ timestamp_text item.timestamp)
 
 -- the line of an item with these values
-abbrev pub line_of : Item → List (List ℕ) → List ℕ
+abbrev pub line_of : ItemText → List (List ℕ) → List ℕ
 line_of item values = item.name ++ values_text values ++ ending_of item
 
 -- whether the line with these values is within the limit
-abbrev pub line_fits : ℕ → Item → List (List ℕ) → Bool
+abbrev pub line_fits : ℕ → ItemText → List (List ℕ) → Bool
 line_fits limit item values = nat_le (length (line_of item values)) limit
 
 -- a value is left out where the line with this value alone passes the limit
-abbrev pub is_left_out : ℕ → Item → List ℕ → Bool
+abbrev pub is_left_out : ℕ → ItemText → List ℕ → Bool
 is_left_out limit item value = not (line_fits limit item (value ∷ []))
 
-abbrev pub kept_values : ℕ → Item → List (List ℕ) → List (List ℕ)
+abbrev pub kept_values : ℕ → ItemText → List (List ℕ) → List (List ℕ)
 kept_values limit item values = filter (λ value. line_fits limit item (value ∷ [])) values
 
-abbrev pub left_out_values : ℕ → Item → List (List ℕ) → List (List ℕ)
+abbrev pub left_out_values : ℕ → ItemText → List (List ℕ) → List (List ℕ)
 left_out_values limit item values = filter (is_left_out limit item) values
 
 -- the lines of an item: the full cut of its kept values
-abbrev pub lines_of : ℕ → Item → List (List ℕ) → List (List ℕ)
+abbrev pub lines_of : ℕ → ItemText → List (List ℕ) → List (List ℕ)
 lines_of limit item values = map (line_of item) (full_cut (line_fits limit item) (kept_values limit item values))
 
 -- the lines of an item are a full cut of its kept values, and no other cut within the limit has fewer
-abbrev pub IsBestLines : ℕ → Item → List (List ℕ) → Type 0
+abbrev pub IsBestLines : ℕ → ItemText → List (List ℕ) → Type 0
 IsBestLines limit item values = IsBestCut (line_fits limit item) (kept_values limit item values) (full_cut (line_fits limit item) (kept_values limit item values))
 
 -- whether lines together are within the limit of a payload

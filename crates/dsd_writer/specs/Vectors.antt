@@ -3,12 +3,12 @@ use Rattle.std.specs.Prelude.{◌≡◌, ℕ, codes, pos, refl, decimal, List, [
 use Rattle.std.specs.Fmt.{digits}
 use Rattle.metrics_core.specs.Numbers.{whole, dogstatsd_number}
 use Rattle.metrics_core.specs.Keys.{LabelText}
-use Rattle.dsd_writer.specs.Lines.{Item, line_of, lines_of, left_out_values, payloads_of, framed, prefixed}
+use Rattle.dsd_writer.specs.Lines.{ItemText, line_of, lines_of, left_out_values, payloads_of, framed, prefixed}
 
 abbrev label : List ℕ → List ℕ → LabelText
 label k v = record { key = k; value = v }
 
-abbrev counter : List ℕ → Item
+abbrev counter : List ℕ → ItemText
 counter n = record { name = n; type = codes "c"; rate = None; tags = []; timestamp = None }
 
 pub tagged_counter : line_of (record (counter (prefixed (Some (codes "server1")) (codes "test_counter"))) { tags = label (codes "foo") (codes "bar") ∷ label (codes "baz") (codes "quux") ∷ label (codes "gfoo") (codes "bar") ∷ label (codes "gbaz") (codes "quux") ∷ []; timestamp = Some 234567 }) (decimal 777 ∷ [])
@@ -33,7 +33,7 @@ pub sampled_line : line_of (record (counter (codes "h")) { type = codes "h"; rat
 unfolding digits
 sampled_line = refl
 
-abbrev distribution : Item
+abbrev distribution : ItemText
 distribution = record (counter (codes "h")) { type = codes "d" }
 
 abbrev one_two_three : List (List ℕ)

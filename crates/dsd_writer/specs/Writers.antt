@@ -1,9 +1,11 @@
 -- What contracts see of a writer of payloads, and how its lines stand in its bytes.
-use Rattle.std.specs.Prelude.{◌≡◌, ℕ, ◌+◌, ◌-◌, ◌*◌, ◌≤◌, min, Bool, List, [], ◌∷◌, ◌++◌, length, map, take, drop, All, Option, ℤ, Vec, Result, IsOk, OnOk, OnErr, vec_len, vec_capacity}
+use Rattle.std.specs.Prelude.{◌≡◌, ℕ, ◌+◌, ◌-◌, ◌*◌, ◌≤◌, min, Bool, List, [], ◌∷◌, ◌++◌, length, map, take, drop, All, Option, None, option_map, Vec, Result, IsOk, IfOk, OnOk, OnErr, vec_len, vec_capacity}
 use Rattle.metrics_core.specs.Keys.{LabelText, KeyText}
+use Rattle.metrics_core.specs.declared.numbers.Fixed.{Fixed as FixedOf}
 use Rattle.dsd_writer.specs.Cuts.{joined}
-use Rattle.dsd_writer.specs.Lines.{Item, prefixed, payloads_of}
+use Rattle.dsd_writer.specs.Lines.{ItemText, prefixed, lines_of, payloads_of}
 use Rattle.dsd_writer.specs.Packing.{framed_payloads}
+use Rattle.dsd_writer.specs.Results.{Written, written_of}
 
 -- the limit of a payload in bytes, whether each payload is led by its length, the tags that every line has, the lines so
 -- far, and how many bytes can be written without memory
@@ -26,15 +28,28 @@ pub record IsEmptied {T E : Type 0} (result : Result T E) (old new : WriterText)
   pub ok : OnOk result (new.lines ≡ [])
   pub err : OnErr result (new.lines ≡ old.lines)
 
--- what the lines of a series say beside their values: the tags of the series stand before those that every line has
-abbrev pub item_of : List ℕ → Option (List ℕ) → KeyText → List LabelText → Option ℤ → Option ℕ → Item
-item_of type prefix key global_tags rate timestamp = record {
+-- What the lines of a series say beside their values, without sample rate and timestamp: the tags of the series stand before
+-- those that every line has.
+abbrev pub item_of : List ℕ → Option (List ℕ) → KeyText → List LabelText → ItemText
+item_of type prefix key global_tags = record {
   name = prefixed prefix key.name;
   type = type;
-  rate = rate;
+  rate = None;
   tags = key.labels ++ global_tags;
-  timestamp = timestamp;
+  timestamp = None;
 }
+
+-- the same in a writer
+abbrev pub item_in : WriterText → List ℕ → Option (List ℕ) → KeyText → ItemText
+item_in writer type prefix key = item_of type prefix key writer.global_tags
+
+-- the same at a moment in seconds, where there is one
+abbrev pub timed : Option ℕ → ItemText → ItemText
+timed timestamp item = record item { timestamp = timestamp }
+
+-- the same with a sample rate, where there is one
+abbrev pub sampled : Option FixedOf → ItemText → ItemText
+sampled rate item = record item { rate = option_map (λ rate. rate.0) rate }
 
 -- lists of these lengths, one after another at the front of the bytes
 abbrev pub lines_in : List ℕ → List ℕ → List (List ℕ)
@@ -65,3 +80,12 @@ added_bytes writer lines =
 pub record IsWithinSpare {T E : Type 0} (result : Result T E) (old new : WriterText) (lines : List (List ℕ)) : Type 0 where
   pub no_memory : added_bytes old lines ≤ old.spare → IsOk result
   pub spare : OnOk result (old.spare ≤ new.spare + added_bytes old lines)
+
+-- A write of an item with these values: its lines stand behind those that were there, and the answer counts them and the values
+-- that are left out; or the lines are as they were. Where there is room enough it takes no memory.
+pub record Writes {E : Type 0} (result : Result Written E) (old new : WriterText) (item : ItemText) (values : List (List ℕ)) : Type 0 where
+  pub settings : SameSettings old new
+  pub lines : OnOk result (new.lines ≡ old.lines ++ lines_of old.limit item values)
+  pub written : IfOk result (λ written. written ≡ written_of old.limit item values)
+  pub err : OnErr result (new.lines ≡ old.lines)
+  pub spare : IsWithinSpare result old new (lines_of old.limit item values)

@@ -1,11 +1,10 @@
 //! What the lines of one series say beside their values.
 
-ghost use Rattle.std.specs.Prelude.{◌≡◌, ◌+◌, ◌≤◌, [], ◌++◌, length, vec_len, vec_capacity, option_copied, None};
-ghost use Rattle.std.specs.Option.{option_map};
+ghost use Rattle.std.specs.Prelude.{◌≡◌, ◌+◌, ◌≤◌, [], ◌++◌, length, vec_len, vec_capacity, option_copied};
 ghost use Rattle.dsd_writer.specs.Items.{type_text};
 ghost use Rattle.dsd_writer.specs.Lines.{ending_of};
 ghost use Rattle.dsd_writer.specs.Rooms.{Leaves};
-ghost use Rattle.dsd_writer.specs.Writers.{item_of};
+ghost use Rattle.dsd_writer.specs.Writers.{item_of, sampled, timed};
 
 use crate::parts::{
     behind_all_tags, behind_rate, behind_timestamp, push_all_tags, push_rate, push_timestamp,
@@ -52,7 +51,7 @@ pub(crate) struct Item<'a> {
 impl<'a> Model for Item<'a> {
     ghost use Rattle.std.specs.Prelude.{option_copied, option_map, ◌++◌};
     ghost use Rattle.dsd_writer.specs.Items.{type_text};
-    ghost use Rattle.dsd_writer.specs.Lines.{Item as ItemText, prefixed};
+    ghost use Rattle.dsd_writer.specs.Lines.{ItemText, prefixed};
 
     ghost Value = { ItemText };
 
@@ -73,7 +72,7 @@ impl<'a> Item<'a> {
         key: &'a Key,
         global_tags: &'a [Label],
     ) -> Item<'a>
-        ensures { result ≡ item_of (type_text line_type) (option_copied prefix.entry) key.now global_tags.now None None }
+        ensures { result ≡ item_of (type_text line_type) (option_copied prefix.entry) key.now global_tags.now }
     {
         Item {
             prefix,
@@ -88,14 +87,14 @@ impl<'a> Item<'a> {
 
     /// The same with a timestamp in seconds, where there is one.
     pub(crate) fn at(self, timestamp: Option<u64>) -> Item<'a>
-        ensures { result ≡ record self.entry { timestamp = timestamp } }
+        ensures { result ≡ timed timestamp self.entry }
     {
         Item { timestamp, ..self }
     }
 
     /// The same with a sample rate, where there is one.
     pub(crate) fn sampled(self, rate: Option<Fixed>) -> Item<'a>
-        ensures { result ≡ record self.entry { rate = option_map (λ rate. rate.0) rate } }
+        ensures { result ≡ sampled rate self.entry }
     {
         Item { rate, ..self }
     }

@@ -2,6 +2,7 @@
 
 ghost use Rattle.std.specs.Prelude.{◌≡◌, ℕ, List, ◌+◌, ◌-◌, ◌^◌, ◌<◌, ◌≤◌, [], ◌∷◌, ◌++◌, IsOk, OnErr, OnOk, IfOk, IfSome, IsNone, ◌↔◌, length, map, take, vec_len, vec_capacity};
 ghost use Rattle.dsd_writer.specs.Adding.{AddsValue};
+ghost use Rattle.dsd_writer.specs.Appending.{Appends};
 ghost use Rattle.dsd_writer.specs.Cuts.{joined};
 ghost use Rattle.dsd_writer.specs.Results.{written_of};
 ghost use Rattle.dsd_writer.specs.Lines.{ending_of, left_out_values, line_of, lines_of, spelled_values};
@@ -57,7 +58,8 @@ fn continue_line(
     ensures lengths_capacity { vec_capacity lengths.old ≤ vec_capacity lengths.new }
     ensures bytes_room { OnOk result (vec_len bytes.new + frame.ending ≤ vec_capacity bytes.new) }
     ensures lengths_room { OnOk result (vec_len lengths.new < vec_capacity lengths.new) }
-    ensures no_memory { vec_len bytes.old + 1 + length text.now + frame.ending ≤ vec_capacity bytes.old → vec_len lengths.old < vec_capacity lengths.old → IsOk result }
+    ensures no_memory { vec_len bytes.old + 1 + length text.now + frame.ending ≤ vec_capacity bytes.old
+        → vec_len lengths.old < vec_capacity lengths.old → IsOk result }
 {
     reserve(bytes, lengths, 1 + text.len() + frame.ending)?;
     push_value(bytes, text);
@@ -76,7 +78,8 @@ fn begin_line(
     requires ending { frame.ending ≡ length (ending_of item.now) }
     requires fits { length text.now + frame.bare < 2 ^ 62 }
     ensures bytes { OnOk result (bytes.new.items ≡ bytes.old.items ++ item.now.name ++ 58 ∷ text.now) }
-    ensures bytes_len { OnOk result (vec_len bytes.new ≡ vec_len bytes.old + length item.now.name + 1 + length text.now) }
+    ensures bytes_len { let taken = length item.now.name + 1 + length text.now in
+        OnOk result (vec_len bytes.new ≡ vec_len bytes.old + taken) }
     ensures err_bytes { OnErr result (bytes.new.items ≡ bytes.old.items) }
     ensures lengths { lengths.new.items ≡ lengths.old.items }
     ensures lengths_len { vec_len lengths.new ≡ vec_len lengths.old }
@@ -84,7 +87,8 @@ fn begin_line(
     ensures lengths_capacity { vec_capacity lengths.old ≤ vec_capacity lengths.new }
     ensures bytes_room { OnOk result (vec_len bytes.new + frame.ending ≤ vec_capacity bytes.new) }
     ensures lengths_room { OnOk result (vec_len lengths.new < vec_capacity lengths.new) }
-    ensures no_memory { vec_len bytes.old + 1 + length text.now + frame.bare ≤ vec_capacity bytes.old → vec_len lengths.old < vec_capacity lengths.old → IsOk result }
+    ensures no_memory { vec_len bytes.old + 1 + length text.now + frame.bare ≤ vec_capacity bytes.old
+        → vec_len lengths.old < vec_capacity lengths.old → IsOk result }
 {
     reserve(bytes, lengths, 1 + text.len() + frame.bare)?;
     item.push_name(bytes);
@@ -125,7 +129,8 @@ fn add_value(
     requires alone { length text.now < frame.room }
     requires bytes_room { 0 < used → vec_len bytes.old + frame.ending ≤ vec_capacity bytes.old }
     requires lengths_room { 0 < used → vec_len lengths.old < vec_capacity lengths.old }
-    ensures adds { IfOk result (λ now. AddsValue item.now frame.room frame.bare used text.now bytes.old.items bytes.new.items lengths.old.items lengths.new.items now) }
+    ensures adds { IfOk result (AddsValue item.now frame.room frame.bare used text.now
+        bytes.old.items bytes.new.items lengths.old.items lengths.new.items) }
     ensures within { IfOk result (λ now. now ≤ frame.room) }
     ensures bytes_room { OnOk result (vec_len bytes.new + frame.ending ≤ vec_capacity bytes.new) }
     ensures lengths_room { OnOk result (vec_len lengths.new < vec_capacity lengths.new) }
@@ -133,8 +138,11 @@ fn add_value(
     ensures kept_lengths { take (length lengths.old.items) lengths.new.items ≡ lengths.old.items }
     ensures bytes_capacity { vec_capacity bytes.old ≤ vec_capacity bytes.new }
     ensures lengths_capacity { vec_capacity lengths.old ≤ vec_capacity lengths.new }
-    ensures no_memory { (bytes_after lengths_after : List ℕ) (used_after : ℕ) → AddsValue item.now frame.room frame.bare used text.now bytes.old.items bytes_after lengths.old.items lengths_after used_after
-        → length bytes_after + frame.ending ≤ vec_capacity bytes.old → length lengths_after < vec_capacity lengths.old → IsOk result }
+    ensures no_memory { (bytes_after lengths_after : List ℕ) (used_after : ℕ)
+        → AddsValue item.now frame.room frame.bare used text.now
+            bytes.old.items bytes_after lengths.old.items lengths_after used_after
+        → length bytes_after + frame.ending ≤ vec_capacity bytes.old
+        → length lengths_after < vec_capacity lengths.old → IsOk result }
 {
     let taken = 1 + text.len();
     if used == 0 {
@@ -160,15 +168,19 @@ fn fill(
     values: &[Fixed],
 ) -> Result<u64, Memory>
     requires { limit ≤ 4294967295 }
-    ensures bytes { OnOk result (bytes.new.items ≡ bytes.old.items ++ joined (lines_of limit item.now (spelled_values values.now))) }
-    ensures lengths { OnOk result (lengths.new.items ≡ lengths.old.items ++ map length (lines_of limit item.now (spelled_values values.now))) }
-    ensures left_out { IfOk result (λ left_out. left_out ≡ length (left_out_values limit item.now (spelled_values values.now))) }
+    ensures bytes { let lines = lines_of limit item.now (spelled_values values.now) in
+        OnOk result (bytes.new.items ≡ bytes.old.items ++ joined lines) }
+    ensures lengths { let lines = lines_of limit item.now (spelled_values values.now) in
+        OnOk result (lengths.new.items ≡ lengths.old.items ++ map length lines) }
+    ensures left_out { let out = left_out_values limit item.now (spelled_values values.now) in
+        IfOk result (λ left_out. left_out ≡ length out) }
     ensures kept_bytes { take (length bytes.old.items) bytes.new.items ≡ bytes.old.items }
     ensures kept_lengths { take (length lengths.old.items) lengths.new.items ≡ lengths.old.items }
     ensures bytes_capacity { vec_capacity bytes.old ≤ vec_capacity bytes.new }
     ensures lengths_capacity { vec_capacity lengths.old ≤ vec_capacity lengths.new }
-    ensures no_memory { vec_len bytes.old + length (joined (lines_of limit item.now (spelled_values values.now))) ≤ vec_capacity bytes.old
-        → vec_len lengths.old + length (lines_of limit item.now (spelled_values values.now)) ≤ vec_capacity lengths.old → IsOk result }
+    ensures no_memory { let lines = lines_of limit item.now (spelled_values values.now) in
+        vec_len bytes.old + length (joined lines) ≤ vec_capacity bytes.old
+        → vec_len lengths.old + length lines ≤ vec_capacity lengths.old → IsOk result }
 {
     let Some(frame) = frame_of(limit, item) else {
         return Ok(values.len() as u64);
@@ -200,15 +212,9 @@ pub(crate) fn write_points(
     values: &[Fixed],
 ) -> Result<WriteResult, Memory>
     requires { limit ≤ 4294967295 }
-    ensures bytes { OnOk result (bytes.new.items ≡ bytes.old.items ++ joined (lines_of limit item.now (spelled_values values.now))) }
-    ensures lengths { OnOk result (lengths.new.items ≡ lengths.old.items ++ map length (lines_of limit item.now (spelled_values values.now))) }
+    ensures appends { let lines = lines_of limit item.now (spelled_values values.now) in
+        Appends result bytes.old bytes.new lengths.old lengths.new lines }
     ensures written { IfOk result (λ written. written ≡ written_of limit item.now (spelled_values values.now)) }
-    ensures err_bytes { OnErr result (bytes.new.items ≡ bytes.old.items) }
-    ensures err_lengths { OnErr result (lengths.new.items ≡ lengths.old.items) }
-    ensures bytes_capacity { vec_capacity bytes.old ≤ vec_capacity bytes.new }
-    ensures lengths_capacity { vec_capacity lengths.old ≤ vec_capacity lengths.new }
-    ensures no_memory { vec_len bytes.old + length (joined (lines_of limit item.now (spelled_values values.now))) ≤ vec_capacity bytes.old
-        → vec_len lengths.old + length (lines_of limit item.now (spelled_values values.now)) ≤ vec_capacity lengths.old → IsOk result }
 {
     let end = bytes.len();
     let count = lengths.len();

@@ -1,7 +1,7 @@
 //! Lines packed into payloads.
 
-ghost use Rattle.std.specs.Prelude.{◌≡◌, ◌≤◌, [], ◌++◌, IfOk, OnOk, length, map, All};
-ghost use Rattle.dsd_writer.specs.Cuts.{IsBestCut, full_cut};
+ghost use Rattle.std.specs.Prelude.{◌≡◌, ◌≤◌, [], ◌++◌, IfOk, OnOk, length};
+ghost use Rattle.dsd_writer.specs.Cuts.{AreWithin, IsBestCut, full_cut};
 ghost use Rattle.dsd_writer.specs.Lines.{framed, payload_fits, payloads_of};
 ghost use Rattle.dsd_writer.specs.Packing.{framed_payloads, texts_of};
 ghost use Rattle.dsd_writer.specs.Writers.{AreStored, lines_in};
@@ -35,9 +35,11 @@ pub(crate) fn pack(
 ) -> Result<(), Memory>
     requires stored { AreStored limit lengths.now bytes.now }
     requires empty { packed.old.items ≡ [] }
-    ensures payloads { OnOk result (texts_of packed.new.items ≡ framed_payloads on_stream (payloads_of limit (lines_in lengths.now bytes.now))) }
-    ensures best { IsBestCut (payload_fits limit) (lines_in lengths.now bytes.now) (full_cut (payload_fits limit) (lines_in lengths.now bytes.now)) }
-    ensures within { All (λ payload. length payload ≤ limit) (payloads_of limit (lines_in lengths.now bytes.now)) }
+    ensures payloads { let payloads = payloads_of limit (lines_in lengths.now bytes.now) in
+        OnOk result (texts_of packed.new.items ≡ framed_payloads on_stream payloads) }
+    ensures best { let lines = lines_in lengths.now bytes.now in
+        IsBestCut (payload_fits limit) lines (full_cut (payload_fits limit) lines) }
+    ensures within { AreWithin limit (payloads_of limit (lines_in lengths.now bytes.now)) }
 {
     let mut payload: Vec<u8> = Vec::new(alloc);
     let mut rest = bytes;

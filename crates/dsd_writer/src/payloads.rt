@@ -1,9 +1,9 @@
 //! The payloads of a writer, handed out one after another.
 
-ghost use Rattle.std.specs.Prelude.{◌≡◌, ◌≤◌, [], ◌∷◌, ⊤, All, IfNone, IfOk, MatchOption, length};
+ghost use Rattle.std.specs.Prelude.{◌≡◌, [], ◌∷◌, ⊤, IfNone, IfOk, MatchOption, length};
 ghost use Rattle.std.specs.Borrow.{sem, follows_so};
 ghost use mathlib.Core.Option.{none};
-ghost use Rattle.dsd_writer.specs.Cuts.{IsBestCut, full_cut};
+ghost use Rattle.dsd_writer.specs.Cuts.{AreWithin, IsBestCut, full_cut};
 ghost use Rattle.dsd_writer.specs.Lines.{payload_fits, payloads_of};
 ghost use Rattle.dsd_writer.specs.Packing.{framed_payloads};
 ghost use Rattle.dsd_writer.specs.Left.{payloads_left};
@@ -30,7 +30,8 @@ impl<'a> Payloads<'a> {
 
     /// The next payload; none exactly where none is left.
     pub fn next_payload(&mut self) -> Option<&'a [u8]>
-        ensures next { MatchOption result (payloads_left self.old ≡ []) (λ payload. payloads_left self.old ≡ payload.now ∷ payloads_left self.new) }
+        ensures next { MatchOption result (payloads_left self.old ≡ [])
+            (λ payload. payloads_left self.old ≡ payload.now ∷ payloads_left self.new) }
         ensures none { IfNone result (payloads_left self.new ≡ []) }
     {
         let (first, rest) = self.rest.split_first()?;
@@ -43,10 +44,13 @@ impl PayloadWriter {
     /// All lines so far in the fewest payloads that keep their order, each within the limit. The writer has no lines then. A
     /// refused call leaves the lines in the writer.
     pub fn payloads(&mut self) -> Result<Payloads<'_>, Memory>
-        ensures* empties { sem 𝓛 (follows_so the_row the_row self.entry.ghost_name none (λ _ _. ⊤) (λ after. IsEmptied result self.old after)) }
-        ensures payloads { IfOk result (λ payloads. payloads_left payloads ≡ framed_payloads self.old.on_stream (payloads_of self.old.limit self.old.lines)) }
-        ensures best { IsBestCut (payload_fits self.old.limit) self.old.lines (full_cut (payload_fits self.old.limit) self.old.lines) }
-        ensures within { All (λ payload. length payload ≤ self.old.limit) (payloads_of self.old.limit self.old.lines) }
+        ensures* empties { sem 𝓛 (follows_so the_row the_row self.entry.ghost_name none
+            (λ _ _. ⊤) (λ after. IsEmptied result self.old after)) }
+        ensures payloads { let packed = payloads_of self.old.limit self.old.lines in
+            IfOk result (λ payloads. payloads_left payloads ≡ framed_payloads self.old.on_stream packed) }
+        ensures best { let fits = payload_fits self.old.limit in
+            IsBestCut fits self.old.lines (full_cut fits self.old.lines) }
+        ensures within { AreWithin self.old.limit (payloads_of self.old.limit self.old.lines) }
     {
         let alloc = *self.packed.allocator();
         self.packed.clear();

@@ -1,7 +1,7 @@
 //! Lines appended to bytes: the line of one point, and the pieces of lines of many.
 
-ghost use Rattle.std.specs.Prelude.{◌≡◌, ◌+◌, ◌<◌, ◌≤◌, [], ◌∷◌, ◌++◌, IsOk, OnErr, OnOk, IfOk, length, map, vec_len, vec_capacity};
-ghost use Rattle.dsd_writer.specs.Cuts.{joined};
+ghost use Rattle.std.specs.Prelude.{◌≡◌, ◌+◌, ◌<◌, ◌≤◌, [], ◌∷◌, ◌++◌, IsOk, OnOk, IfOk, length, vec_len, vec_capacity};
+ghost use Rattle.dsd_writer.specs.Appending.{Appends};
 ghost use Rattle.dsd_writer.specs.Lines.{ending_of, line_of, lines_of};
 ghost use Rattle.dsd_writer.specs.Results.{written_of};
 ghost use Rattle.dsd_writer.specs.Rooms.{Leaves};
@@ -68,7 +68,8 @@ pub(crate) fn reserve(
     ensures lengths_capacity { vec_capacity lengths.old ≤ vec_capacity lengths.new }
     ensures bytes_room { OnOk result (vec_len bytes.new + additional ≤ vec_capacity bytes.new) }
     ensures lengths_room { OnOk result (vec_len lengths.new < vec_capacity lengths.new) }
-    ensures no_memory { vec_len bytes.old + additional ≤ vec_capacity bytes.old → vec_len lengths.old < vec_capacity lengths.old → IsOk result }
+    ensures no_memory { vec_len bytes.old + additional ≤ vec_capacity bytes.old
+        → vec_len lengths.old < vec_capacity lengths.old → IsOk result }
 {
     bytes.reserve(additional as usize)?;
     lengths.reserve(1)?;
@@ -84,15 +85,9 @@ pub(crate) fn write_point(
     text: &NumberText<'_>,
 ) -> Result<WriteResult, Memory>
     requires { limit ≤ 4294967295 }
-    ensures bytes { OnOk result (bytes.new.items ≡ bytes.old.items ++ joined (lines_of limit item.now (text.now ∷ []))) }
-    ensures lengths { OnOk result (lengths.new.items ≡ lengths.old.items ++ map length (lines_of limit item.now (text.now ∷ []))) }
+    ensures appends { let lines = lines_of limit item.now (text.now ∷ []) in
+        Appends result bytes.old bytes.new lengths.old lengths.new lines }
     ensures written { IfOk result (λ written. written ≡ written_of limit item.now (text.now ∷ [])) }
-    ensures err_bytes { OnErr result (bytes.new.items ≡ bytes.old.items) }
-    ensures err_lengths { OnErr result (lengths.new.items ≡ lengths.old.items) }
-    ensures bytes_capacity { vec_capacity bytes.old ≤ vec_capacity bytes.new }
-    ensures lengths_capacity { vec_capacity lengths.old ≤ vec_capacity lengths.new }
-    ensures no_memory { vec_len bytes.old + length (joined (lines_of limit item.now (text.now ∷ []))) ≤ vec_capacity bytes.old
-        → vec_len lengths.old + length (lines_of limit item.now (text.now ∷ [])) ≤ vec_capacity lengths.old → IsOk result }
 {
     let Some(left) = behind_line(limit, item, text) else {
         return Ok(WriteResult::new(0, 1));

@@ -1,12 +1,10 @@
 //! The writer of payloads: points become lines, and lines are kept until their payloads are asked for.
 
-ghost use Rattle.std.specs.Prelude.{◌≡◌, ◌≤◌, [], ◌∷◌, ◌++◌, codes, decimal, IfOk, OnErr, OnOk, None, option_copied};
-ghost use Rattle.std.specs.Option.{option_map};
+ghost use Rattle.std.specs.Prelude.{◌≡◌, ◌≤◌, [], ◌∷◌, codes, decimal, OnOk, option_copied};
 ghost use Rattle.metrics_core.specs.Numbers.{dogstatsd_number};
 ghost use Rattle.dsd_writer.specs.Items.{type_text};
-ghost use Rattle.dsd_writer.specs.Lines.{IsBestLines, lines_of, spelled_values};
-ghost use Rattle.dsd_writer.specs.Results.{written_of};
-ghost use Rattle.dsd_writer.specs.Writers.{IsWithinSpare, SameSettings, item_of};
+ghost use Rattle.dsd_writer.specs.Lines.{IsBestLines, spelled_values};
+ghost use Rattle.dsd_writer.specs.Writers.{SameSettings, Writes, item_in, sampled, timed};
 
 use crate::WriteResult;
 use crate::items::{Item, LineType};
@@ -98,11 +96,8 @@ impl PayloadWriter {
         timestamp: Option<u64>,
         prefix: Option<&str>,
     ) -> Result<WriteResult, Memory>
-        ensures settings { SameSettings self.old self.new }
-        ensures lines { OnOk result (self.new.lines ≡ self.old.lines ++ lines_of self.old.limit (item_of (codes "c") (option_copied prefix.entry) key.now self.old.global_tags None timestamp) (decimal value ∷ [])) }
-        ensures written { IfOk result (λ written. written ≡ written_of self.old.limit (item_of (codes "c") (option_copied prefix.entry) key.now self.old.global_tags None timestamp) (decimal value ∷ [])) }
-        ensures err { OnErr result (self.new.lines ≡ self.old.lines) }
-        ensures spare { IsWithinSpare result self.old self.new (lines_of self.old.limit (item_of (codes "c") (option_copied prefix.entry) key.now self.old.global_tags None timestamp) (decimal value ∷ [])) }
+        ensures writes { let item = item_in self.old (codes "c") (option_copied prefix.entry) key.now in
+            Writes result self.old self.new (timed timestamp item) (decimal value ∷ []) }
     {
         let mut digits = Buffer::new();
         let text = NumberText::of_count(&mut digits, value);
@@ -117,11 +112,8 @@ impl PayloadWriter {
         timestamp: Option<u64>,
         prefix: Option<&str>,
     ) -> Result<WriteResult, Memory>
-        ensures settings { SameSettings self.old self.new }
-        ensures lines { OnOk result (self.new.lines ≡ self.old.lines ++ lines_of self.old.limit (item_of (codes "g") (option_copied prefix.entry) key.now self.old.global_tags None timestamp) (dogstatsd_number value.0 ∷ [])) }
-        ensures written { IfOk result (λ written. written ≡ written_of self.old.limit (item_of (codes "g") (option_copied prefix.entry) key.now self.old.global_tags None timestamp) (dogstatsd_number value.0 ∷ [])) }
-        ensures err { OnErr result (self.new.lines ≡ self.old.lines) }
-        ensures spare { IsWithinSpare result self.old self.new (lines_of self.old.limit (item_of (codes "g") (option_copied prefix.entry) key.now self.old.global_tags None timestamp) (dogstatsd_number value.0 ∷ [])) }
+        ensures writes { let item = item_in self.old (codes "g") (option_copied prefix.entry) key.now in
+            Writes result self.old self.new (timed timestamp item) (dogstatsd_number value.0 ∷ []) }
     {
         let mut whole = Buffer::new();
         let mut fraction = Buffer::new();
@@ -140,12 +132,10 @@ impl PayloadWriter {
         maybe_sample_rate: Option<Fixed>,
         prefix: Option<&str>,
     ) -> Result<WriteResult, Memory>
-        ensures settings { SameSettings self.old self.new }
-        ensures lines { OnOk result (self.new.lines ≡ self.old.lines ++ lines_of self.old.limit (item_of (codes "h") (option_copied prefix.entry) key.now self.old.global_tags (option_map (λ rate. rate.0) maybe_sample_rate) None) (spelled_values values.now)) }
-        ensures written { IfOk result (λ written. written ≡ written_of self.old.limit (item_of (codes "h") (option_copied prefix.entry) key.now self.old.global_tags (option_map (λ rate. rate.0) maybe_sample_rate) None) (spelled_values values.now)) }
-        ensures best { IsBestLines self.old.limit (item_of (codes "h") (option_copied prefix.entry) key.now self.old.global_tags (option_map (λ rate. rate.0) maybe_sample_rate) None) (spelled_values values.now) }
-        ensures err { OnErr result (self.new.lines ≡ self.old.lines) }
-        ensures spare { IsWithinSpare result self.old self.new (lines_of self.old.limit (item_of (codes "h") (option_copied prefix.entry) key.now self.old.global_tags (option_map (λ rate. rate.0) maybe_sample_rate) None) (spelled_values values.now)) }
+        ensures writes { let item = item_in self.old (codes "h") (option_copied prefix.entry) key.now in
+            Writes result self.old self.new (sampled maybe_sample_rate item) (spelled_values values.now) }
+        ensures best { let item = item_in self.old (codes "h") (option_copied prefix.entry) key.now in
+            IsBestLines self.old.limit (sampled maybe_sample_rate item) (spelled_values values.now) }
     {
         self.write_many(LineType::Histogram, key, values, maybe_sample_rate, prefix)
     }
@@ -159,12 +149,10 @@ impl PayloadWriter {
         maybe_sample_rate: Option<Fixed>,
         prefix: Option<&str>,
     ) -> Result<WriteResult, Memory>
-        ensures settings { SameSettings self.old self.new }
-        ensures lines { OnOk result (self.new.lines ≡ self.old.lines ++ lines_of self.old.limit (item_of (codes "d") (option_copied prefix.entry) key.now self.old.global_tags (option_map (λ rate. rate.0) maybe_sample_rate) None) (spelled_values values.now)) }
-        ensures written { IfOk result (λ written. written ≡ written_of self.old.limit (item_of (codes "d") (option_copied prefix.entry) key.now self.old.global_tags (option_map (λ rate. rate.0) maybe_sample_rate) None) (spelled_values values.now)) }
-        ensures best { IsBestLines self.old.limit (item_of (codes "d") (option_copied prefix.entry) key.now self.old.global_tags (option_map (λ rate. rate.0) maybe_sample_rate) None) (spelled_values values.now) }
-        ensures err { OnErr result (self.new.lines ≡ self.old.lines) }
-        ensures spare { IsWithinSpare result self.old self.new (lines_of self.old.limit (item_of (codes "d") (option_copied prefix.entry) key.now self.old.global_tags (option_map (λ rate. rate.0) maybe_sample_rate) None) (spelled_values values.now)) }
+        ensures writes { let item = item_in self.old (codes "d") (option_copied prefix.entry) key.now in
+            Writes result self.old self.new (sampled maybe_sample_rate item) (spelled_values values.now) }
+        ensures best { let item = item_in self.old (codes "d") (option_copied prefix.entry) key.now in
+            IsBestLines self.old.limit (sampled maybe_sample_rate item) (spelled_values values.now) }
     {
         self.write_many(
             LineType::Distribution,
@@ -184,11 +172,8 @@ impl PayloadWriter {
         prefix: Option<&str>,
         text: &NumberText<'_>,
     ) -> Result<WriteResult, Memory>
-        ensures settings { SameSettings self.old self.new }
-        ensures lines { OnOk result (self.new.lines ≡ self.old.lines ++ lines_of self.old.limit (item_of (type_text line_type) (option_copied prefix.entry) key.now self.old.global_tags None timestamp) (text.now ∷ [])) }
-        ensures written { IfOk result (λ written. written ≡ written_of self.old.limit (item_of (type_text line_type) (option_copied prefix.entry) key.now self.old.global_tags None timestamp) (text.now ∷ [])) }
-        ensures err { OnErr result (self.new.lines ≡ self.old.lines) }
-        ensures spare { IsWithinSpare result self.old self.new (lines_of self.old.limit (item_of (type_text line_type) (option_copied prefix.entry) key.now self.old.global_tags None timestamp) (text.now ∷ [])) }
+        ensures writes { let item = item_in self.old (type_text line_type) (option_copied prefix.entry) key.now in
+            Writes result self.old self.new (timed timestamp item) (text.now ∷ []) }
     {
         let item = Item::new(line_type, prefix, key, self.global_tags.as_slice()).at(timestamp);
         write_point(&mut self.bytes, &mut self.lengths, self.limit, &item, text)
@@ -203,11 +188,8 @@ impl PayloadWriter {
         rate: Option<Fixed>,
         prefix: Option<&str>,
     ) -> Result<WriteResult, Memory>
-        ensures settings { SameSettings self.old self.new }
-        ensures lines { OnOk result (self.new.lines ≡ self.old.lines ++ lines_of self.old.limit (item_of (type_text line_type) (option_copied prefix.entry) key.now self.old.global_tags (option_map (λ rate. rate.0) rate) None) (spelled_values values.now)) }
-        ensures written { IfOk result (λ written. written ≡ written_of self.old.limit (item_of (type_text line_type) (option_copied prefix.entry) key.now self.old.global_tags (option_map (λ rate. rate.0) rate) None) (spelled_values values.now)) }
-        ensures err { OnErr result (self.new.lines ≡ self.old.lines) }
-        ensures spare { IsWithinSpare result self.old self.new (lines_of self.old.limit (item_of (type_text line_type) (option_copied prefix.entry) key.now self.old.global_tags (option_map (λ rate. rate.0) rate) None) (spelled_values values.now)) }
+        ensures writes { let item = item_in self.old (type_text line_type) (option_copied prefix.entry) key.now in
+            Writes result self.old self.new (sampled rate item) (spelled_values values.now) }
     {
         let item = Item::new(line_type, prefix, key, self.global_tags.as_slice()).sampled(rate);
         write_points(
