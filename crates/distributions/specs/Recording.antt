@@ -1,5 +1,5 @@
 -- What a distribution keeps of the samples that were recorded.
-use Rattle.std.specs.Prelude.{◌≡◌, ℕ, List, map, ℤ}
+use Rattle.std.specs.Prelude.{◌≡◌, ℕ, List, [], ◌∷◌, ◌++◌, map, ℤ}
 use Rattle.std.specs.Arc.{arc_value}
 use Rattle.metrics_core.specs.Numbers.{add_128}
 use Rattle.metrics_core.specs.declared.numbers.Fixed.{Fixed}
@@ -8,6 +8,7 @@ use Rattle.metrics_registry.specs.Cumulative as cumulative
 use Rattle.native_histograms.specs.Native as native
 use Rattle.rolling_summaries.specs.Window.{Sample}
 use Rattle.rolling_summaries.specs.Summaries.{added}
+use Rattle.rolling_summaries.specs.Standing.{NoneAfter, NeverFall}
 use Rattle.rolling_summaries.specs.Standing as rolling
 use Rattle.distributions.specs.declared.distribution.Distribution.{Distribution}
 use Rattle.distributions.specs.declared.distribution.Distribution.TheVariants as variants
@@ -18,6 +19,9 @@ use Rattle.distributions.specs.Kinds.{DistributionKind, NativeHistogram, Histogr
 -- a sample: its value in billionths, and its moment
 abbrev pub sample_of : Fixed × ℕ → Sample
 sample_of sample = record { value = sample.0.0; moment = sample.1 }
+
+abbrev pub samples_of : List (Fixed × ℕ) → List Sample
+samples_of samples = map sample_of samples
 
 abbrev pub values_of : List Sample → List ℤ
 values_of samples = map (λ sample. sample.value) samples
@@ -52,3 +56,16 @@ StandsFor (Summary summary) samples (variants.Summary window quantiles sum) =
     × (sum ≡ sample_sum (values_of samples))
 StandsFor (NativeHistogram config) samples (variants.NativeHistogram histogram) = native.StandsFor config (values_of samples) histogram
 StandsFor _ _ _ = ⊥
+
+-- One more sample behind those that a distribution stood for, whatever its kind and these were: where none of them is after it,
+-- the distribution then stands for all.
+abbrev pub StandsForOneMore : Distribution → Sample → Distribution → Type 0
+StandsForOneMore old sample new =
+    (kind : DistributionKind) (before : List Sample) → StandsFor kind before old → NoneAfter sample.moment before
+    → StandsFor kind (before ++ sample ∷ []) new
+
+-- the same of further samples, where moments never fall
+abbrev pub StandsForMore : Distribution → List Sample → Distribution → Type 0
+StandsForMore old samples new =
+    (kind : DistributionKind) (before : List Sample) → StandsFor kind before old → NeverFall (before ++ samples)
+    → StandsFor kind (before ++ samples) new

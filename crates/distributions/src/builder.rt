@@ -44,9 +44,21 @@ impl Model for DistributionBuilder {
 
     ghost Value = { DistributionRules };
 
-    ghost view = { λ b. record { native_for = b.native_histogram_overrides; buckets_for = saying bounds_of b.bucket_overrides; buckets = option_map bounds_of b.buckets; summary = record { quantiles = (arc_value b.quantiles).items; bucket_count = non_zero_u32_get b.bucket_count; bucket_duration = b.bucket_duration } } };
+    ghost view = { λ b. record {
+      native_for = b.native_histogram_overrides;
+      buckets_for = saying bounds_of b.bucket_overrides;
+      buckets = option_map bounds_of b.buckets;
+      summary = record {
+        quantiles = (arc_value b.quantiles).items;
+        bucket_count = non_zero_u32_get b.bucket_count;
+        bucket_duration = b.bucket_duration;
+      };
+    } };
 
-    ghost invariant = { λ b. (0 < b.bucket_duration) × (non_zero_u32_get b.bucket_count * b.bucket_duration < 2 ^ 64) × IfSome b.buckets (λ bounds. has_bound bounds ≡ true) × (all_have_bounds b.bucket_overrides ≡ true) };
+    ghost invariant = { λ b. (0 < b.bucket_duration)
+      × (non_zero_u32_get b.bucket_count * b.bucket_duration < 2 ^ 64)
+      × IfSome b.buckets (λ bounds. has_bound bounds ≡ true)
+      × (all_have_bounds b.bucket_overrides ≡ true) };
 }
 
 impl DistributionBuilder {
@@ -65,7 +77,10 @@ impl DistributionBuilder {
         requires bounds_for { all_have_bounds bucket_overrides.items ≡ true }
         requires wide { 0 < duration_or_default bucket_duration }
         requires fits { count_or_default bucket_count * duration_or_default bucket_duration < 2 ^ 64 }
-        ensures kinds { let given = given_rules quantiles.items bucket_duration buckets bucket_count bucket_overrides.items native_histogram_overrides.items in IfOk result (λ builder. (name : List ℕ) → kind_for builder name ≡ kind_for given name) }
+        ensures kinds { let overrides = bucket_overrides.items in
+            let natives = native_histogram_overrides.items in
+            let given = given_rules quantiles.items bucket_duration buckets bucket_count overrides natives in
+            IfOk result (λ builder. (name : List ℕ) → kind_for builder name ≡ kind_for given name) }
     {
         let quantiles = Arc::new(alloc, quantiles)?;
         let bucket_overrides = Rules::new(alloc, bucket_overrides)?;
@@ -114,7 +129,9 @@ impl DistributionBuilder {
 
     /// The bounds of a name without a native rule: those of the first bucket matcher that fits it, or the general ones.
     fn bounds_for(&self, name: &str) -> Option<&[Fixed]>
-        ensures kind { bucket_kind (rule_for self.now.buckets_for name.now) (general_kind self.now.summary self.now.buckets) ≡ kind_of_bounds self.now.summary (option_copied result) }
+        ensures kind { let general = general_kind self.now.summary self.now.buckets in
+            bucket_kind (rule_for self.now.buckets_for name.now) general
+            ≡ kind_of_bounds self.now.summary (option_copied result) }
         ensures some { IfSome result (λ bounds. 0 < length bounds.now) }
     {
         match self.bucket_overrides.get(name) {

@@ -1,14 +1,20 @@
 //! The distributions of histogram series.
 
-ghost use Rattle.std.specs.Prelude.{◌≡◌, ◌<◌, ◌≤◌, ◌*◌, ◌^◌, ◌++◌, ◌∷◌, [], List, length, map, take, IfOk, IfErr, OnOk, OnErr};
+ghost use Rattle.std.specs.Prelude.{◌≡◌, ◌<◌, ◌*◌, ◌^◌, [], length, map, take, IfOk, IfErr, OnOk, OnErr};
 ghost use Rattle.std.specs.List.{FoldsTo};
 ghost use Rattle.std.specs.Arc.{arc_value};
 ghost use Rattle.std.specs.Int.NonZero.{non_zero_u32_get};
-ghost use Rattle.rolling_summaries.specs.Window.{Sample};
-ghost use Rattle.rolling_summaries.specs.Standing.{NoneAfter, NeverFall};
-ghost use Rattle.distributions.specs.Kinds.{DistributionKind};
 ghost use Rattle.distributions.specs.Kinds as kinds;
-ghost use Rattle.distributions.specs.Recording.{Records, StandsFor, sample_of, summed, done_of};
+ghost use Rattle.distributions.specs.Recording.{
+  Records,
+  StandsFor,
+  StandsForOneMore,
+  StandsForMore,
+  sample_of,
+  samples_of,
+  summed,
+  done_of,
+};
 
 use metrics_core::{Fixed, Memory};
 use metrics_registry::{CumulativeHistogram, Quantile};
@@ -57,7 +63,11 @@ impl Distribution {
     ) -> Distribution
         requires wide { 0 < bucket_duration }
         requires fits { non_zero_u32_get bucket_count * bucket_duration < 2 ^ 64 }
-        ensures { StandsFor (kinds.Summary (record { quantiles = (arc_value quantiles).items; bucket_count = non_zero_u32_get bucket_count; bucket_duration = bucket_duration })) [] result }
+        ensures { StandsFor (kinds.Summary (record {
+          quantiles = (arc_value quantiles).items;
+          bucket_count = non_zero_u32_get bucket_count;
+          bucket_duration = bucket_duration;
+        })) [] result }
     {
         let window = RollingSummary::new(alloc, bucket_count, bucket_duration);
         Distribution::Summary(window, quantiles, 0)
@@ -77,13 +87,15 @@ impl Distribution {
         alloc: Global,
         samples: &[(Fixed, u64)],
     ) -> Result<(), RecordSamplesFault>
-        ensures recorded { OnOk result (FoldsTo Records self.old (map sample_of samples.now) self.new) }
-        ensures stands { OnOk result ((kind : DistributionKind) (before : List Sample) → StandsFor kind before self.old → NeverFall (before ++ map sample_of samples.now) → StandsFor kind (before ++ map sample_of samples.now) self.new) }
+        ensures recorded { OnOk result (FoldsTo Records self.old (samples_of samples.now) self.new) }
+        ensures stands { OnOk result (StandsForMore self.old (samples_of samples.now) self.new) }
 
         // After a refusal the first `done` samples are recorded and no more.
         ensures within { IfErr result (λ fault. done_of fault < length samples.now) }
-        ensures stopped { IfErr result (λ fault. FoldsTo Records self.old (map sample_of (take (done_of fault) samples.now)) self.new) }
-        ensures stands_so_far { IfErr result (λ fault. (kind : DistributionKind) (before : List Sample) → StandsFor kind before self.old → NeverFall (before ++ map sample_of (take (done_of fault) samples.now)) → StandsFor kind (before ++ map sample_of (take (done_of fault) samples.now)) self.new) }
+        ensures stopped { IfErr result (λ fault. let first = samples_of (take (done_of fault) samples.now) in
+            FoldsTo Records self.old first self.new) }
+        ensures stands_so_far { IfErr result (λ fault. let first = samples_of (take (done_of fault) samples.now) in
+            StandsForMore self.old first self.new) }
     {
         for (done, (value, moment)) in samples.iter().enumerate() {
             let Ok(()) = self.record(alloc, *value, *moment) else {
@@ -95,8 +107,8 @@ impl Distribution {
 
     /// Records one sample, or changes nothing.
     fn record(&mut self, alloc: Global, value: Fixed, moment: u64) -> Result<(), Memory>
-        ensures recorded { OnOk result (Records self.old (record { value = value.0; moment = moment }) self.new) }
-        ensures stands { OnOk result ((kind : DistributionKind) (before : List Sample) → StandsFor kind before self.old → NoneAfter moment before → StandsFor kind (before ++ record { value = value.0; moment = moment } ∷ []) self.new) }
+        ensures recorded { OnOk result (Records self.old (sample_of (value, moment)) self.new) }
+        ensures stands { OnOk result (StandsForOneMore self.old (sample_of (value, moment)) self.new) }
         ensures refused { OnErr result (self.new ≡ self.old) }
     {
         match self {

@@ -33,8 +33,10 @@ impl<T> Rules<T> {
     pub(crate) fn new(alloc: Global, given: Vec<(Matcher, T)>) -> Result<Rules<T>, Memory>
     where
         T: Drop,
-        ensures among { IfOk result (λ rules. (test : T → Bool) → list_all (λ rule. test rule.1) given.items ≡ true → list_all (λ rule. test rule.1) rules ≡ true) }
-        ensures same { IfOk result (λ rules. (name : List ℕ) → rule_for rules name ≡ rule_for (rules_of given.items) name) }
+        ensures among { IfOk result (λ rules. (test : T → Bool)
+            → list_all (λ rule. test rule.1) given.items ≡ true → list_all (λ rule. test rule.1) rules ≡ true) }
+        ensures same { IfOk result (λ rules. (name : List ℕ)
+            → rule_for rules name ≡ rule_for (rules_of given.items) name) }
     {
         // The law of the order of matchers is called for the proof, which cites it.
         matchers_are_ordered();
@@ -55,7 +57,8 @@ impl<T> Rules<T> {
 
 /// The value of the first matcher that fits a name.
 fn first_fitting<'a, T>(by_matcher: &'a BTreeMap<Matcher, T>, name: &str) -> Option<&'a T>
-    ensures { option_copied result ≡ option_map (λ rule. rule.1) (rule_for (rules_of by_matcher.now.entries) name.now) }
+    ensures { let fitting = rule_for (rules_of by_matcher.now.entries) name.now in
+        option_copied result ≡ option_map (λ rule. rule.1) fitting }
 {
     // The law of the order of matchers, and `len`, whose clause is that the map is in order, are called for the proof.
     matchers_are_ordered();

@@ -64,8 +64,10 @@ fn refused(reason: Result<String, AllocError>) -> BuildError
 
 /// The UDP address of a numeric socket.
 fn read_udp(alloc: Global, text: &str) -> Result<RemoteAddr, BuildError>
-    ensures read { IfOk result (λ remote. (a : SocketAddr) × IsSocket text.now a × (remote_text remote ≡ RemoteText.Udp a)) }
-    ensures refused { IfErr result (λ fault. ((a : SocketAddr) → ¬ (IsSocket text.now a)) × RefusedAs (no_socket_text text.now) fault) }
+    ensures read { IfOk result (λ remote.
+        (a : SocketAddr) × IsSocket text.now a × (remote_text remote ≡ RemoteText.Udp a)) }
+    ensures refused { IfErr result (λ fault.
+        ((a : SocketAddr) → ¬ (IsSocket text.now a)) × RefusedAs (no_socket_text text.now) fault) }
 {
     match read_socket(text) {
         Some(socket) => Ok(RemoteAddr::Udp(socket)),
@@ -82,16 +84,10 @@ fn read_behind(alloc: Global, scheme: &str, rest: &str) -> Result<RemoteAddr, Bu
         return read_udp(alloc, rest);
     }
     if is_same(scheme, "unix") {
-        return match String::from_str(alloc, rest) {
-            Ok(path) => Ok(RemoteAddr::Unix(path)),
-            Err(_) => Err(BuildError::Memory),
-        };
+        return Ok(RemoteAddr::Unix(String::from_str(alloc, rest)?));
     }
     if is_same(scheme, "unixgram") {
-        return match String::from_str(alloc, rest) {
-            Ok(path) => Ok(RemoteAddr::Unixgram(path)),
-            Err(_) => Err(BuildError::Memory),
-        };
+        return Ok(RemoteAddr::Unixgram(String::from_str(alloc, rest)?));
     }
     Err(refused(format!(in alloc;
         "invalid scheme '{scheme}' (expected 'udp', 'unix', or 'unixgram')"

@@ -1,7 +1,8 @@
 -- What a bucket gets, and what becomes of buckets when the schema falls.
-use Rattle.std.specs.Prelude.{◌≡◌, ℕ, ◌+◌, ◌/◌, ◌<◌, ◌==◌, Bool, ◌&&◌, nat_lt, List, ◌++◌, map, length, replicate, ℤ, pos, negsuc, ◌-ℤ◌, neg_ℤ, FitsSigned, count_by, Option, Some, unwrap_or, if◌then◌else◌}
+use Rattle.std.specs.Prelude.{◌≡◌, ℕ, ◌+◌, ◌/◌, ◌<◌, ◌==◌, Bool, ◌&&◌, nat_lt, List, ◌++◌, map, length, replicate, ℤ, pos, negsuc, ◌-ℤ◌, neg_ℤ, FitsSigned, count_by, Option, Some, is_none, unwrap_or, if◌then◌else◌}
 use Rattle.std.specs.Int.{w64}
 use Rattle.std.specs.List.{AllByRecursion}
+use Rattle.std.specs.Map.{lookup}
 use Rattle.std.specs.Ordering.{int_eq}
 use Rattle.metrics_core.specs.Numbers.{in_64_bits}
 use Rattle.native_histograms.specs.Native.{NativeText, buckets_of, positive_buckets, negative_buckets, zero_count, native_depth}
@@ -38,6 +39,11 @@ pub record Sides : Type 0 where
 abbrev pub is_full : ℕ → ℕ → List ℤ → List ℤ → ℤ → Bool
 is_full max_buckets depth found others index =
     nat_lt depth 4 && ((count_by (int_eq index) found == 0) && nat_lt max_buckets (length (buckets_of found) + length (buckets_of others) + 1))
+
+-- whether an index opens a bucket over the greatest number in the buckets of a sign, beside those of the other
+abbrev pub opens_over : ℕ → List (ℤ × ℕ) → List (ℤ × ℕ) → ℤ → Bool
+opens_over max_buckets side other index =
+    is_none (lookup (int_eq index) side) && nat_lt max_buckets (length side + length other + 1)
 
 -- the sides after so many more of an index
 abbrev pub sides_behind : Bool → ℕ → List ℤ → List ℤ → ℤ × ℕ → Sides

@@ -1,11 +1,11 @@
 //! The buckets of a histogram: of each sign, from each index to how many values have it.
 
-ghost use Rattle.std.specs.Prelude.{◌≡◌, [], ℤ, ◌+◌, ◌*◌, ◌^◌, ◌<◌, ◌≤◌, IfOk, OnOk, OnErr, IsTrue, None, is_none, ◌&&◌, nat_lt, length};
+ghost use Rattle.std.specs.Prelude.{◌≡◌, [], ℤ, ◌+◌, ◌*◌, ◌^◌, ◌<◌, ◌≤◌, IfOk, OnOk, OnErr, IsTrue, None, ◌&&◌, nat_lt};
 ghost use Rattle.std.specs.Map.{lookup};
 ghost use Rattle.std.specs.Ordering.{int_cmp, int_eq};
 ghost use Rattle.std.specs.BTreeMap.{IsOrdered};
 ghost use Rattle.native_histograms.specs.Native.{index_of, opens_beside};
-ghost use Rattle.native_histograms.specs.Placed.{half_up, raised_at, Raises, Halves, Places, Adds};
+ghost use Rattle.native_histograms.specs.Placed.{half_up, raised_at, opens_over, Sides, Raises, Halves, Places, Adds};
 
 use crate::NativeHistogramConfig;
 use metrics_core::{Fixed, Memory};
@@ -52,7 +52,8 @@ impl Buckets {
         ensures added { OnOk result (Adds config.now (buckets_text self.old) (value.0, count) (buckets_text self.new)) }
         ensures depth { self.old.depth ≤ 4 → self.new.depth ≤ 4 }
         ensures refused { OnErr result (buckets_text self.new ≡ buckets_text self.old) }
-        ensures opens { OnErr result (IsTrue (opens_beside config.now self.old.depth self.old.positive.entries self.old.negative.entries value.0)) }
+        ensures opens { let old = buckets_text self.old in
+            OnErr result (IsTrue (opens_beside config.now old.depth old.positive old.negative value.0)) }
     {
         let threshold = config.zero_threshold().0;
         if value.0 > threshold {
@@ -142,7 +143,8 @@ fn half_up(index: i32) -> i32
 
 /// Raises the count at an index, modulo 2^64.
 fn add(buckets: &mut BTreeMap<i32, u64>, index: i32, count: u64) -> Result<(), Memory>
-    ensures raised { OnOk result ((i : ℤ) → lookup (int_eq i) buckets.new.entries ≡ raised_at index count i (lookup (int_eq i) buckets.old.entries)) }
+    ensures raised { OnOk result ((i : ℤ) → lookup (int_eq i) buckets.new.entries
+        ≡ raised_at index count i (lookup (int_eq i) buckets.old.entries)) }
     ensures ordered { IsOrdered int_cmp buckets.new }
     ensures refused { OnErr result (buckets.new.entries ≡ buckets.old.entries) }
     ensures absent { OnErr result (lookup (int_eq index) buckets.old.entries ≡ None) }
@@ -183,7 +185,7 @@ fn opens_too_many(
     index: i32,
 ) -> bool
     ensures absent { IsTrue result → lookup (int_eq index) side.now.entries ≡ None }
-    ensures opens { result ≡ (is_none (lookup (int_eq index) side.now.entries) && nat_lt max_buckets (length side.now.entries + length other.now.entries + 1)) }
+    ensures opens { result ≡ opens_over max_buckets side.now.entries other.now.entries index }
 {
     !side.contains_key(&index)
         && side.len() as u128 + other.len() as u128 + 1 > u128::from(max_buckets)
@@ -198,7 +200,7 @@ fn is_full(
     index: i32,
 ) -> bool
     ensures absent { IsTrue result → lookup (int_eq index) side.now.entries ≡ None }
-    ensures full { result ≡ (nat_lt depth 4 && (is_none (lookup (int_eq index) side.now.entries) && nat_lt max_buckets (length side.now.entries + length other.now.entries + 1))) }
+    ensures full { result ≡ (nat_lt depth 4 && opens_over max_buckets side.now.entries other.now.entries index) }
 {
     depth < 4 && opens_too_many(side, other, max_buckets, index)
 }
@@ -215,7 +217,9 @@ fn place(
     count: u32,
 ) -> Result<(), Memory>
     requires { 0 < count }
-    ensures placed { OnOk result (Places max_buckets (record { depth = depth.old; side = side.old.entries; other = other.old.entries }) (index, count) (record { depth = depth.new; side = side.new.entries; other = other.new.entries })) }
+    ensures placed { let old : Sides = record { depth = depth.old; side = side.old.entries; other = other.old.entries } in
+        let new : Sides = record { depth = depth.new; side = side.new.entries; other = other.new.entries } in
+        OnOk result (Places max_buckets old (index, count) new) }
     ensures depth { depth.old ≤ 4 → depth.new ≤ 4 }
     ensures refused_depth { OnErr result (depth.new ≡ depth.old) }
     ensures refused_side { OnErr result (side.new.entries ≡ side.old.entries) }

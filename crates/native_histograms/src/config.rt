@@ -21,11 +21,23 @@ impl Model for NativeHistogramConfig {
 
     ghost Value = { NativeText };
 
-    ghost view = { λ c. record { depth = c.depth; max_buckets = c.max_buckets; threshold = c.zero_threshold.0 } };
+    ghost view = { λ c. record {
+      depth = c.depth;
+      max_buckets = c.max_buckets;
+      threshold = c.zero_threshold.0;
+    } };
 
-    ghost inverse = { λ t. record { depth = t.depth; max_buckets = t.max_buckets; zero_threshold = record { 0 = t.threshold } } };
+    ghost inverse = { λ t. record {
+      depth = t.depth;
+      max_buckets = t.max_buckets;
+      zero_threshold = record { 0 = t.threshold };
+    } };
 
-    ghost invariant = { λ c. IsInRange (record { depth = c.depth; max_buckets = c.max_buckets; threshold = c.zero_threshold.0 }) };
+    ghost invariant = { λ c. IsInRange (record {
+      depth = c.depth;
+      max_buckets = c.max_buckets;
+      threshold = c.zero_threshold.0;
+    }) };
 }
 
 impl NativeHistogramConfig {

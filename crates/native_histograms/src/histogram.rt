@@ -30,7 +30,15 @@ impl Model for NativeHistogram {
 
     ghost Value = { NativeHistogramText };
 
-    ghost view = { λ h. record { config = h.config; depth = h.buckets.depth; positive = h.buckets.positive.entries; negative = h.buckets.negative.entries; zeros = h.buckets.zeros; sum = h.sum; count = h.count } };
+    ghost view = { λ h. record {
+      config = h.config;
+      depth = h.buckets.depth;
+      positive = h.buckets.positive.entries;
+      negative = h.buckets.negative.entries;
+      zeros = h.buckets.zeros;
+      sum = h.sum;
+      count = h.count;
+    } };
 
     ghost invariant = { λ h. (h.buckets.depth ≤ 4) × FitsSigned w128 h.sum };
 }

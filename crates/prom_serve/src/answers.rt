@@ -13,10 +13,7 @@ use std::alloc::Global;
 fn phrase_of(status: StatusCode) -> &'static str
     ensures { result.now ≡ phrase status }
 {
-    match status.canonical_reason() {
-        Some(phrase) => phrase,
-        None => "",
-    }
+    status.canonical_reason().unwrap_or("")
 }
 
 /// The answer of a refused request: its status, and no body.
@@ -78,10 +75,7 @@ pub fn respond(alloc: Global, allowed: bool, head: &[u8], page: &str) -> Result<
             }
         }
     };
-    match answer {
-        Ok(text) => Ok(text.into_bytes()),
-        Err(refused) => Err(refused),
-    }
+    Ok(answer?.into_bytes())
 }
 
 /// A law: no request has two answers.

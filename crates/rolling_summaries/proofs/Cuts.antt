@@ -11,6 +11,7 @@ use Rattle.rolling_summaries.specs.declared.buckets.Bucket.{Bucket}
 use Rattle.rolling_summaries.specs.Window.{Sample}
 use Rattle.rolling_summaries.specs.Summaries.{Summary, kept_by, kept_after, added}
 use Rattle.rolling_summaries.specs.Standing.{NoneAfter, StandsFor, same_samples, Addition, added_samples, added_all, NeverFall, SameInAnyCuts}
+use Rattle.rolling_summaries.specs.StandingLaws.{none-after}
 use Rattle.rolling_summaries.proofs.Landed.{Lands, lands, taker-newest, stands-more}
 
 -- one sample more
@@ -45,17 +46,6 @@ stands-any : (n : ℕ) (v : ℤ) (t : ℕ) (summary : Summary) (samples : List S
     → StandsFor (added t v n summary) (samples ++ same_samples v t n)
 stands-any zero v t summary samples some wide stands before = subst (StandsFor summary) (sym (append-nil samples)) stands
 stands-any (suc n) v t summary samples some wide stands before = stands-more summary.limit summary.width summary.kept summary.count t n v samples some wide stands before
-
--- ---- moments that never fall
-
-at-middle : (t : ℕ) (xs ys : List Sample) (y : Sample) → All (λ s. t ≤ s.moment) (xs ++ y ∷ ys) → t ≤ y.moment
-at-middle t [] ys y all = All-head (λ (s : Sample). t ≤ s.moment) y ys all
-at-middle t (x ∷ xs) ys y all = at-middle t xs ys y (All-tail (λ (s : Sample). t ≤ s.moment) x (xs ++ y ∷ ys) all)
-
-none-after : (xs ys : List Sample) (y : Sample) → NeverFall (xs ++ y ∷ ys) → NoneAfter y.moment xs
-none-after [] ys y rising = All-nil (λ (s : Sample). s.moment ≤ y.moment)
-none-after (x ∷ xs) ys y rising =
-    All-cons (λ (s : Sample). s.moment ≤ y.moment) x xs (at-middle x.moment xs ys y rising.0) (none-after xs ys y rising.1)
 
 -- ---- calls in turn
 

@@ -4,7 +4,7 @@ use Rattle.std.specs.List.{All}
 use Rattle.metrics_core.specs.Numbers.{in_64_bits}
 use Rattle.metrics_registry.specs.Quantiles.{ascending}
 use Rattle.rolling_summaries.specs.declared.buckets.Bucket.{Bucket}
-use Rattle.rolling_summaries.specs.Window.{Sample, begin_behind, begins}
+use Rattle.rolling_summaries.specs.Window.{Sample, begin_behind, begins, window}
 use Rattle.rolling_summaries.specs.Summaries.{Summary, newest_begin, added}
 
 -- no sample is after t
@@ -46,6 +46,18 @@ pub record StandsFor (summary : Summary) (samples : List Sample) : Type 0 where
   pub count : summary.count ≡ in_64_bits (length samples)
   pub newest : newest_begin summary.kept ≡ last_begin summary.width (summary.limit * summary.width) samples
   pub holds : (t : ℕ) → NoneAfter t samples → Hold summary.width (summary.limit * summary.width) t summary.kept (begun_samples summary.width (summary.limit * summary.width) samples)
+
+-- Samples at a moment behind those that a summary stood for, whatever these were: where none of them is after that moment, the
+-- summary then stands for all.
+abbrev pub StandsForMore : Summary → ℕ → List Sample → Summary → Type 0
+StandsForMore old moment more new =
+    (samples : List Sample) → StandsFor old samples → NoneAfter moment samples → StandsFor new (samples ++ more)
+
+-- the values of the window at a moment, in order, whatever samples the summary stands for: none is to be after that moment
+abbrev pub ShowsWindow : Summary → ℕ → List ℤ → Type 0
+ShowsWindow summary moment values =
+    (samples : List Sample) → StandsFor summary samples → NoneAfter moment samples
+    → values ≡ ascending (window summary.width (summary.limit * summary.width) moment samples)
 
 -- so many samples of a value at a moment
 abbrev pub same_samples : ℤ → ℕ → ℕ → List Sample

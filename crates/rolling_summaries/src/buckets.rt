@@ -128,7 +128,8 @@ fn begin_bucket(
     requires some { 0 < limit }
     requires wide { 0 < width }
     requires fits { limit * width < 2 ^ 64 }
-    ensures begun { OnOk result (kept.new.items ≡ begun limit width now (replicate count value.0) (kept_in_window (limit * width) now kept.old.items)) }
+    ensures begun { let left = kept_in_window (limit * width) now kept.old.items in
+        OnOk result (kept.new.items ≡ begun limit width now (replicate count value.0) left) }
     ensures refused { OnErr result (kept.new.items ≡ kept.old.items) }
 {
     let span = u64::from(limit) * width;
@@ -169,7 +170,8 @@ pub fn put(
 /// The values of the buckets in the window at a moment.
 pub fn values_in_window(alloc: Global, kept: &[Bucket], span: u64, now: u64) -> Result<Bag, Memory>
     ensures none { kept.now ≡ [] → IsOk result }
-    ensures values { IfOk result (λ bag. bag ≡ ascending (flat_map (λ bucket. bucket.values) (kept_in_window span now kept.now))) }
+    ensures values { let shown = flat_map (λ bucket. bucket.values) (kept_in_window span now kept.now) in
+        IfOk result (λ bag. bag ≡ ascending shown) }
 {
     let mut bag = Bag::new(alloc);
     for bucket in kept {

@@ -1,11 +1,9 @@
 //! Summaries over a window that moves on with time.
 
-ghost use Rattle.std.specs.Prelude.{◌≡◌, ℕ, ◌<◌, ◌≤◌, ◌*◌, ◌^◌, ◌==◌, ◌++◌, [], List, length, IfOk, IsOk, OnOk, OnErr};
+ghost use Rattle.std.specs.Prelude.{◌≡◌, ◌<◌, ◌≤◌, ◌*◌, ◌^◌, ◌==◌, [], length, IfOk, IsOk, OnOk, OnErr};
 ghost use Rattle.std.specs.Int.NonZero.{non_zero_u32_get};
-ghost use Rattle.metrics_registry.specs.Quantiles.{ascending};
-ghost use Rattle.rolling_summaries.specs.Window.{Sample, window};
 ghost use Rattle.rolling_summaries.specs.Summaries.{empty_summary, added, snapshot_at};
-ghost use Rattle.rolling_summaries.specs.Standing.{StandsFor, NoneAfter, same_samples};
+ghost use Rattle.rolling_summaries.specs.Standing.{StandsFor, StandsForMore, ShowsWindow, same_samples};
 
 use crate::Bucket;
 use crate::buckets::{put, values_in_window};
@@ -41,7 +39,12 @@ impl Model for RollingSummary {
 
     ghost Value = { Summary };
 
-    ghost view = { λ s. record { limit = s.limit; width = s.width; kept = s.kept.items; count = s.count } };
+    ghost view = { λ s. record {
+      limit = s.limit;
+      width = s.width;
+      kept = s.kept.items;
+      count = s.count;
+    } };
 
     ghost invariant = { λ s. IsBuilt s.limit s.width s.kept.items };
 }
@@ -84,7 +87,7 @@ impl RollingSummary {
         ensures added { OnOk result (self.new ≡ added now value.0 count self.old) }
         ensures refused { OnErr result (self.new ≡ self.old) }
         ensures none { count ≡ 0 → IsOk result }
-        ensures stands { OnOk result ((samples : List Sample) → StandsFor self.old samples → NoneAfter now samples → StandsFor self.new (samples ++ same_samples value.0 now count)) }
+        ensures stands { OnOk result (StandsForMore self.old now (same_samples value.0 now count) self.new) }
     {
         if count == 0 {
             return Ok(());
@@ -107,7 +110,7 @@ impl RollingSummary {
     pub fn snapshot(&self, alloc: Global, now: u64) -> Result<Bag, Memory>
         ensures none { self.now.kept ≡ [] → IsOk result }
         ensures snapshot { IfOk result (λ bag. bag ≡ snapshot_at now self.now) }
-        ensures window { IfOk result (λ bag. (samples : List Sample) → StandsFor self.now samples → NoneAfter now samples → bag ≡ ascending (window self.now.width (self.now.limit * self.now.width) now samples)) }
+        ensures window { IfOk result (ShowsWindow self.now now) }
     {
         let span = u64::from(self.limit) * self.width;
         values_in_window(alloc, self.kept.as_slice(), span, now)
