@@ -56,9 +56,9 @@ impl Model for DistributionBuilder {
     } };
 
     ghost invariant = { λ b. (0 < b.bucket_duration)
-      × (non_zero_u32_get b.bucket_count * b.bucket_duration < 2 ^ 64)
-      × IfSome b.buckets (λ bounds. has_bound bounds ≡ true)
-      × (all_have_bounds b.bucket_overrides ≡ true) };
+        × (non_zero_u32_get b.bucket_count * b.bucket_duration < 2 ^ 64)
+        × IfSome b.buckets (λ bounds. has_bound bounds ≡ true)
+        × (all_have_bounds b.bucket_overrides ≡ true) };
 }
 
 impl DistributionBuilder {

@@ -1,6 +1,6 @@
 -- How many bytes further lines add to payloads, and that room for them is enough.
 use Rattle.std.proofs.Common.{◌≡◌, ℕ, ◌+◌, ◌-◌, ◌*◌, ◌<◌, ◌≤◌, Bool, true, false, cond, List, [], ◌∷◌, ◌++◌, length, map, refl, ap, ◌∙◌, arith, length-append}
-use Rattle.std.specs.Prelude.{All, IsOk, OnOk, Result, Ok, Err, Vec, vec_len, vec_capacity}
+use Rattle.std.specs.Prelude.{All, Result, Ok, Err, Vec, vec_capacity}
 use Rattle.std.proofs.lemmas.List.{length-map}
 use Rattle.std.proofs.lemmas.List.Elements.{All-head, All-tail}
 use Rattle.metrics_core.specs.Characters.{newline}

@@ -1,6 +1,6 @@
 -- A write over the bytes and the lengths that a writer keeps.
 use Rattle.std.proofs.Common.{◌≡◌, ℕ, Bool, List, refl, subst}
-use Rattle.std.specs.Prelude.{Result, Ok, Err, IfOk, Vec}
+use Rattle.std.specs.Prelude.{Result, IfOk, Vec}
 use Rattle.metrics_core.specs.Keys.{LabelText}
 use Rattle.dsd_writer.specs.Appending.{Appends}
 use Rattle.dsd_writer.specs.Lines.{ItemText, lines_of}

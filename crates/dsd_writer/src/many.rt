@@ -140,7 +140,7 @@ fn add_value(
     ensures lengths_capacity { vec_capacity lengths.old ≤ vec_capacity lengths.new }
     ensures no_memory { (bytes_after lengths_after : List ℕ) (used_after : ℕ)
         → AddsValue item.now frame.room frame.bare used text.now
-            bytes.old.items bytes_after lengths.old.items lengths_after used_after
+        bytes.old.items bytes_after lengths.old.items lengths_after used_after
         → length bytes_after + frame.ending ≤ vec_capacity bytes.old
         → length lengths_after < vec_capacity lengths.old → IsOk result }
 {

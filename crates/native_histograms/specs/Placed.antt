@@ -35,6 +35,9 @@ pub record Sides : Type 0 where
   pub side : List (ℤ × ℕ)
   pub other : List (ℤ × ℕ)
 
+abbrev pub sides : ℕ → List (ℤ × ℕ) → List (ℤ × ℕ) → Sides
+sides depth side other = record { depth = depth; side = side; other = other }
+
 -- whether an index opens a bucket over the greatest number while the schema may fall
 abbrev pub is_full : ℕ → ℕ → List ℤ → List ℤ → ℤ → Bool
 is_full max_buckets depth found others index =

@@ -5,7 +5,7 @@ ghost use Rattle.std.specs.Map.{lookup};
 ghost use Rattle.std.specs.Ordering.{int_cmp, int_eq};
 ghost use Rattle.std.specs.BTreeMap.{IsOrdered};
 ghost use Rattle.native_histograms.specs.Native.{index_of, opens_beside};
-ghost use Rattle.native_histograms.specs.Placed.{half_up, raised_at, opens_over, Sides, Raises, Halves, Places, Adds};
+ghost use Rattle.native_histograms.specs.Placed.{half_up, raised_at, opens_over, sides, Raises, Halves, Places, Adds};
 
 use crate::NativeHistogramConfig;
 use metrics_core::{Fixed, Memory};
@@ -217,8 +217,8 @@ fn place(
     count: u32,
 ) -> Result<(), Memory>
     requires { 0 < count }
-    ensures placed { let old : Sides = record { depth = depth.old; side = side.old.entries; other = other.old.entries } in
-        let new : Sides = record { depth = depth.new; side = side.new.entries; other = other.new.entries } in
+    ensures placed { let old = sides depth.old side.old.entries other.old.entries in
+        let new = sides depth.new side.new.entries other.new.entries in
         OnOk result (Places max_buckets old (index, count) new) }
     ensures depth { depth.old ≤ 4 → depth.new ≤ 4 }
     ensures refused_depth { OnErr result (depth.new ≡ depth.old) }

@@ -23,5 +23,7 @@ returns c =
     let item_is = c.sampled-item.ensures ∙ ap (λ (item : ItemText). sampled c.args.rate item) (c.new.ensures ∙ ap series c.as_slice.ensures.value) in
     let written = written_in c.write_points.result inside.limit inside.on_stream inside.global_tags.items inside.bytes bytes inside.lengths lengths
     c.sampled-item.result (sampled c.args.rate (series inside.global_tags.items)) (spelled_values c.args.values.now) c.self.invariant c.write_points.ensures.appends c.write_points.ensures.written item_is in
-    record { writes = subst (λ (old : WriterText). Writes c.write_points.result old (kept_writer inside.limit inside.on_stream inside.global_tags.items bytes lengths)
-    (sampled c.args.rate (item_in old (type_text c.args.line_type) (option_copied c.args.prefix) c.args.key.now)) (spelled_values c.args.values.now)) c.self.view_is written }
+    record {
+      writes = subst (λ (old : WriterText). Writes c.write_points.result old (kept_writer inside.limit inside.on_stream inside.global_tags.items bytes lengths)
+          (sampled c.args.rate (item_in old (type_text c.args.line_type) (option_copied c.args.prefix) c.args.key.now)) (spelled_values c.args.values.now)) c.self.view_is written;
+    }

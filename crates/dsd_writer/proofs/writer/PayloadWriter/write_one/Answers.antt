@@ -23,5 +23,7 @@ returns c =
     let item_is = c.at-item.ensures ∙ ap (λ (item : ItemText). timed c.args.timestamp item) (c.new.ensures ∙ ap series c.as_slice.ensures.value) in
     let written = written_in c.write_point.result inside.limit inside.on_stream inside.global_tags.items inside.bytes bytes inside.lengths lengths
     c.at-item.result (timed c.args.timestamp (series inside.global_tags.items)) (c.args.text.now ∷ []) c.self.invariant c.write_point.ensures.appends c.write_point.ensures.written item_is in
-    record { writes = subst (λ (old : WriterText). Writes c.write_point.result old (kept_writer inside.limit inside.on_stream inside.global_tags.items bytes lengths)
-    (timed c.args.timestamp (item_in old (type_text c.args.line_type) (option_copied c.args.prefix) c.args.key.now)) (c.args.text.now ∷ [])) c.self.view_is written }
+    record {
+      writes = subst (λ (old : WriterText). Writes c.write_point.result old (kept_writer inside.limit inside.on_stream inside.global_tags.items bytes lengths)
+          (timed c.args.timestamp (item_in old (type_text c.args.line_type) (option_copied c.args.prefix) c.args.key.now)) (c.args.text.now ∷ [])) c.self.view_is written;
+    }
