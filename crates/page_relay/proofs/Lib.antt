@@ -1,0 +1,11 @@
+pub mod Options
+pub mod Names
+pub mod Texts
+pub mod Labels
+pub mod Values
+pub mod Utf8
+pub mod Forms
+pub mod Streams
+pub mod Growing
+pub mod BadLines
+pub mod Readers

@@ -1,0 +1,5 @@
+pub mod Streams
+pub mod Values
+pub mod Reading
+pub mod Fitting
+pub mod Vectors

@@ -1,0 +1,15 @@
+//! Pages of several exporters: a stream of pages is read, and its first bad line is named where it is none (Prometheus text
+//! exposition format, version 0.0.4).
+#![tactic(auto)]
+
+mod cursor;
+mod faults;
+mod lines;
+mod pages;
+mod progress;
+mod reader;
+
+pub use faults::RelayFault;
+pub use pages::{Family, Page, PageRow};
+pub use prom_format::FamilyType as Shape;
+pub use reader::read_pages;
