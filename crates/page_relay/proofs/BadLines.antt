@@ -1,9 +1,9 @@
 -- The lines of some bytes, and the first bad one of them.
-use Rattle.std.proofs.Common.{◌≡◌, ◌≢◌, ℕ, suc, ◌+◌, ◌<◌, Bool, true, false, not, ◌==◌, cond, List, [], ◌∷◌, ◌++◌, length, take, drop, refl, sym, ap, subst, ◌∙◌, append_assoc, arith, ◌⊎◌, inl, inr}
+use Rattle.std.proofs.Common.{◌≡◌, ◌≢◌, ℕ, suc, ◌+◌, ◌<◌, ◌≤◌, Bool, true, false, not, ◌==◌, cond, List, [], ◌∷◌, ◌++◌, length, take, drop, refl, sym, ap, subst, ◌∙◌, append_assoc, arith, ◌⊎◌, inl, inr}
 use Rattle.std.specs.Prelude.{flat_map, IsUtf8, if◌then◌else◌}
 use Rattle.std.specs.List.{position_or_len}
 use Rattle.std.proofs.Math.Numerals.{one-add}
-use Rattle.std.proofs.lemmas.Bool.{and_from, eqb-true}
+use Rattle.std.proofs.lemmas.Bool.{and_from, eqb-true, cases_lt}
 use Rattle.std.proofs.lemmas.List.{length-append, length_push, take_at, take-append-le, take-append-drop, append-nil}
 use Rattle.metrics_core.specs.Characters.{newline, line}
 use Rattle.prom_format.specs.Pages.{Family}
@@ -150,3 +150,16 @@ ends_badly bytes done x l ended split none count begins why =
       bad = λ within. absurd (omega (arith, count, within, ap length lines));
       first = λ k less. subst (λ ls. BeginsStream (flat_map line (take k ls))) (sym lines) (fewer k done begins);
     }
+
+-- ---- there is one first bad line
+
+earlier_none : (bytes : List ℕ) (k l : ℕ) → IsFirstBadLine bytes k → IsFirstBadLine bytes l → k < l → ⊥
+earlier_none bytes k l hk hl less = hk.bad (omega (arith, less, hl.is_line.1)) (hl.first k less)
+
+pub bad_lines_same : (bytes : List ℕ) (k l : ℕ) → IsFirstBadLine bytes k → IsFirstBadLine bytes l → k ≡ l
+bad_lines_same bytes k l hk hl = by (cases_lt k l) (cases_lt l k)
+  where
+    by : (k < l) ⊎ (l ≤ k) → (l < k) ⊎ (k ≤ l) → k ≡ l
+    by (inl less) other = absurd (earlier_none bytes k l hk hl less)
+    by (inr le) (inl less) = absurd (earlier_none bytes l k hl hk less)
+    by (inr le) (inr ge) = omega (arith, le, ge)

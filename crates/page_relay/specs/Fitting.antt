@@ -1,5 +1,5 @@
 -- Which lines may stand next on a page, and how the pages so far grow by one.
-use Rattle.std.specs.Prelude.{◌≡◌, ◌⊎◌, ℕ, ◌==◌, List, [], ◌∷◌, ◌++◌, map, take, drop, Some, codes, flat_map, All, IsUtf8, string_bytes, if◌then◌else◌}
+use Rattle.std.specs.Prelude.{◌≡◌, ◌⊎◌, ℕ, ◌==◌, List, [], ◌∷◌, ◌++◌, map, take, drop, Some, codes, flat_map, All, IsUtf8, Option, MatchOption, string_bytes, if◌then◌else◌}
 use Rattle.std.specs.List.{position_or_len}
 use Rattle.metrics_core.specs.Characters.{space, line}
 use Rattle.prom_format.specs.Names.{IsMetricName}
@@ -14,8 +14,8 @@ use Rattle.page_relay.specs.declared.progress.Begun.{Begun}
 use Rattle.page_relay.specs.declared.progress.Begun.TheVariants as opened
 use Rattle.page_relay.specs.declared.progress.Progress.{Progress}
 
--- where the next line stands: at the start of a page, behind a block, behind the help line of a name, behind a type line,
--- or behind a row
+-- where the next line stands: at the start of a page, behind a block, behind the help line of a name, behind a type
+-- line, or behind a row
 pub data Place : Type 0 where
   Start : Place
   Between : Place
@@ -27,7 +27,8 @@ pub data Place : Type 0 where
 abbrev pub name_in : List ℕ → List ℕ
 name_in text = take (position_or_len (λ c. c == space) text) text
 
--- the place behind a line, by its first characters: a comment is told by its third one, `T` of a type line and `H` of a help line
+-- the place behind a line, by its first characters: a comment is told by its third one, `T` of a type line and `H` of a
+-- help line
 abbrev pub place_behind_comment : List ℕ → Place
 place_behind_comment [] = Start
 place_behind_comment (b ∷ []) = Start
@@ -47,7 +48,8 @@ place_behind_all place (first ∷ lines) = place_behind_all (place_behind first)
 abbrev pub FitsBetween : List ℕ → Type 0
 FitsBetween text =
     (text ≡ codes "# EOF")
-    ⊎ (((name help : List ℕ) × IsHelpLine text name help) ⊎ ((name : List ℕ) × (type : FamilyType) × IsTypeLine text name type))
+    ⊎ (((name help : List ℕ) × IsHelpLine text name help)
+    ⊎ ((name : List ℕ) × (type : FamilyType) × IsTypeLine text name type))
 
 -- the line may stand at this place
 abbrev pub Fits : Place → List ℕ → Type 0
@@ -77,13 +79,18 @@ begun_of (opened.Helped name help) = Help (string_bytes name) (string_bytes help
 begun_of (opened.Block family) = Block (family_of family)
 
 abbrev pub parts_so_far : List Page → List RelayFamily → Begun → SoFar
-parts_so_far pages families begun = record { pages = map families_of pages; families = map family_of families; begun = begun_of begun }
+parts_so_far pages families begun = record {
+  pages = map families_of pages;
+  families = map family_of families;
+  begun = begun_of begun;
+}
 
 abbrev pub so_far : Progress → SoFar
 so_far progress = parts_so_far progress.pages.items progress.families.items progress.begun
 
 abbrev pub block_so_far : Family → List ℕ
-block_so_far family = help_text family.name family.help ++ type_line_text family.name family.type ++ flat_map row_text family.rows
+block_so_far family =
+    help_text family.name family.help ++ type_line_text family.name family.type ++ flat_map row_text family.rows
 
 abbrev pub begun_text : BegunText → List ℕ
 begun_text Nothing = []
@@ -127,3 +134,7 @@ pub record TakesLine (old : SoFar) (text : List ℕ) (new : SoFar) : Type 0 wher
   pub sound : IsSound new
   pub grown : text_so_far new ≡ text_so_far old ++ line text
   pub place : place_of new ≡ place_behind text
+
+-- the progress behind one more line that may stand there, or nothing where it may not
+abbrev pub IsNext : Type 0 → SoFar → List ℕ → Option Progress → Type 0
+IsNext may old text next = MatchOption next (¬ may) (λ new. TakesLine old text (so_far new))

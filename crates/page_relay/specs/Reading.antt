@@ -1,6 +1,8 @@
--- What is read from the front of a line: a word that stands there, or nothing where none does. That each word is read in
--- one way is proved.
-use Rattle.std.specs.Prelude.{◌≡◌, ◌≢◌, ℕ, Bool, true, false, ◌&&◌, ◌||◌, ◌==◌, IsTrue, List, [], ◌∷◌, ◌++◌, ◌+◌, ◌-◌, take, drop, length, replicate, ℤ, codes, flat_map, All, IsUtf8}
+-- What is read from the front of a line: a word that stands there, or nothing where none does. That each word is read
+-- in one way is proved.
+use Rattle.std.specs.Prelude.{◌≡◌, ◌≢◌, ℕ, Bool, true, false, ◌&&◌, ◌||◌, ◌==◌, IsTrue, List, [], ◌∷◌, ◌++◌, ◌+◌, ◌-◌, take, drop, length, replicate, ℤ, codes, flat_map, All, IsUtf8, Option, MatchOption, string_bytes}
+use Rattle.std.specs.declared.alloc.Global.{Global}
+use Rattle.std.specs.declared.string.String.{String}
 use Rattle.std.specs.List.{position_or_len}
 use Rattle.std.specs.Int.{w128}
 use Rattle.std.specs.Int.RustNames.{FitsSigned}
@@ -57,7 +59,8 @@ TextEnds in_label [] = Unit {0}
 TextEnds in_label (c ∷ rest) = (in_label && c == quote) ≡ true
 
 abbrev pub NoText : Bool → List ℕ → Type 0
-NoText in_label bytes = (text rest : List ℕ) → IsUtf8 text → TextEnds in_label rest → bytes ≢ escaped in_label text ++ rest
+NoText in_label bytes =
+    (text rest : List ℕ) → IsUtf8 text → TextEnds in_label rest → bytes ≢ escaped in_label text ++ rest
 
 pub record TakesText (in_label : Bool) (bytes text rest : List ℕ) : Type 0 where
   pub utf8 : IsUtf8 text
@@ -79,7 +82,9 @@ pub record TakesLabel (bytes : List ℕ) (label : LabelText) (rest : List ℕ) :
 
 -- a label set, and the space behind it
 abbrev pub NoLabelSet : List ℕ → Type 0
-NoLabelSet bytes = (labels : List LabelText) (rest : List ℕ) → All IsReadableLabel labels → bytes ≢ label_set_text labels ++ codes " " ++ rest
+NoLabelSet bytes =
+    (labels : List LabelText) (rest : List ℕ) → All IsReadableLabel labels
+    → bytes ≢ label_set_text labels ++ codes " " ++ rest
 
 pub record TakesLabelSet (bytes : List ℕ) (labels : List LabelText) (rest : List ℕ) : Type 0 where
   pub readable : All IsReadableLabel labels
@@ -113,3 +118,13 @@ pub record IsRowLine (line : List ℕ) (row : Row) : Type 0 where
   pub labels : All IsReadableLabel row.labels
   pub fits : FitsSigned w128 row.value
   pub spelled : line ≡ row.name ++ label_set_text row.labels ++ codes " " ++ page_number row.value
+
+-- what a function that reads a value answers: the value that the text is the spelling of
+abbrev pub IsValueOf : List ℕ → Option ℤ → Type 0
+IsValueOf text read = MatchOption read (NoValue text) (λ value. (text ≡ page_number value) × FitsSigned w128 value)
+
+-- what is read of a type line
+abbrev pub IsTypeOf : List ℕ → Option (String Global × FamilyType) → Type 0
+IsTypeOf line read = MatchOption read
+    ((name : List ℕ) (type : FamilyType) → ¬ IsTypeLine line name type)
+    (λ read. IsTypeLine line (string_bytes read.0) read.1)

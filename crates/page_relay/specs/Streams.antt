@@ -30,12 +30,16 @@ abbrev pub ended_lines : List ℕ → List (List ℕ)
 ended_lines [] = []
 ended_lines (c ∷ bytes) = if c == newline then [] ∷ ended_lines bytes else in_front c (ended_lines bytes)
 
+-- the first line, without its newline, and what stands behind that
+abbrev pub IsSplit : List ℕ → List ℕ → List ℕ → Type 0
+IsSplit bytes first rest = (bytes ≡ line first ++ rest) × (ended_lines bytes ≡ first ∷ ended_lines rest)
+
 -- the first l lines, newlines included
 abbrev pub first_lines : ℕ → List ℕ → List ℕ
 first_lines l bytes = flat_map line (take l (ended_lines bytes))
 
--- Line l, from 1, is the first bad one of bytes that are no stream: no stream begins with the first l lines, and with any
--- fewer some stream begins. Where some stream begins with all lines, it is the number of newlines plus one.
+-- Line l, from 1, is the first bad one of bytes that are no stream: no stream begins with the first l lines, and with
+-- any fewer some stream begins. Where some stream begins with all lines, it is the number of newlines plus one.
 pub record IsFirstBadLine (bytes : List ℕ) (l : ℕ) : Type 0 where
   pub no_stream : (pages : List (List Family)) → ¬ IsStream bytes pages
   pub is_line : (1 ≤ l) × (l ≤ length (ended_lines bytes) + 1)

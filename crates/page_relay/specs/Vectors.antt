@@ -6,7 +6,12 @@ use Rattle.prom_format.specs.declared.families.FamilyType.TheVariants.{Counter}
 use Rattle.page_relay.specs.Streams.{ended_lines, first_lines}
 
 abbrev pub basic : Family
-basic = record { help = None; name = codes "basic_counter"; type = Counter; rows = record { name = codes "basic_counter"; labels = []; value = pos 42000000000 } ∷ [] }
+basic = record {
+  help = None;
+  name = codes "basic_counter";
+  type = Counter;
+  rows = record { name = codes "basic_counter"; labels = []; value = pos 42000000000 } ∷ [];
+}
 
 pub basic_page : page_text (basic ∷ []) ≡ codes "# TYPE basic_counter counter\nbasic_counter 42\n\n# EOF\n"
 unfolding digits

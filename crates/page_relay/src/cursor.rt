@@ -27,8 +27,8 @@ use crate::Shape;
 use metrics_core::Memory;
 use std::alloc::Global;
 
-/// The bytes of a line that are still to be read. Where a method answers `None` nothing that it is to take stands at the
-/// front, and the cursor is of no use afterwards; `literal` leaves it as it was.
+/// The bytes of a line that are still to be read. Where a method answers `None` nothing that it is to take stands at
+/// the front, and the cursor is of no use afterwards; `literal` leaves it as it was.
 #[derive(Drop)]
 pub(crate) struct Cursor<'a> {
     pub(crate) rest: &'a [u8],

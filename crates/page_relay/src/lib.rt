@@ -1,15 +1,17 @@
-//! Pages of several exporters: a stream of pages is read, and its first bad line is named where it is none (Prometheus text
-//! exposition format, version 0.0.4).
+//! Pages of several exporters: a stream of pages is read, and its first bad line is named where it is none (Prometheus
+//! text exposition format, version 0.0.4).
 #![tactic(auto)]
 
 mod cursor;
 mod faults;
+mod laws;
 mod lines;
 mod pages;
 mod progress;
 mod reader;
 
 pub use faults::RelayFault;
+pub use laws::one_first_bad_line;
 pub use pages::{Family, Page, PageRow};
 pub use prom_format::FamilyType as Shape;
 pub use reader::read_pages;

@@ -2,12 +2,8 @@
 
 ghost use Rattle.std.specs.Prelude.{◌≡◌, ◌≤◌, ◌==◌, ◌+◌, List, ℕ, drop, length, IfOk, MatchOption, string_bytes};
 ghost use Rattle.std.specs.List.{position_or_len};
-ghost use Rattle.std.specs.Int.{w128};
-ghost use Rattle.std.specs.Int.RustNames.{FitsSigned};
-ghost use Rattle.metrics_core.specs.Numbers.{page_number};
 ghost use Rattle.prom_format.specs.Pages.{Row};
-ghost use Rattle.prom_format.specs.declared.families.FamilyType.{FamilyType};
-ghost use Rattle.page_relay.specs.Reading.{all_places, NoValue, IsHelpLine, IsTypeLine, IsRowLine};
+ghost use Rattle.page_relay.specs.Reading.{all_places, IsHelpLine, IsRowLine, IsTypeOf, IsValueOf};
 ghost use Rattle.page_relay.specs.Values.{row_of};
 
 use crate::cursor::Cursor;
@@ -42,8 +38,7 @@ pub(crate) fn read_help_line(alloc: Global, line: &[u8]) -> Result<Option<(Strin
 
 /// The name and the type of a type line.
 pub(crate) fn read_type_line(alloc: Global, line: &[u8]) -> Result<Option<(String, Shape)>, Memory>
-    ensures { IfOk result (λ read. MatchOption read ((name : List ℕ) (type : FamilyType) → ¬ IsTypeLine line.now name type)
-        (λ read. IsTypeLine line.now (string_bytes read.0) read.1)) }
+    ensures { IfOk result (IsTypeOf line.now) }
 {
     let mut cursor = Cursor::new(line);
     if cursor.literal(b"# TYPE ").is_none() {
@@ -83,10 +78,10 @@ pub(crate) fn read_row(alloc: Global, line: &[u8]) -> Result<Option<PageRow>, Me
     }))
 }
 
-/// The value that this text is the one spelling of. The value is read with as many places behind the point as billionths
-/// have; any other spelling of it is refused.
+/// The value that this text is the one spelling of. The value is read with as many places behind the point as
+/// billionths have; any other spelling of it is refused.
 fn read_value(alloc: Global, text: &[u8]) -> Result<Option<i128>, Memory>
-    ensures { IfOk result (λ read. MatchOption read (NoValue text.now) (λ value. (text.now ≡ page_number value) × FitsSigned w128 value)) }
+    ensures { IfOk result (IsValueOf text.now) }
 {
     let digits = read_digits(alloc, text)?;
     let Ok(digits) = str::from_utf8(digits.as_slice()) else {

@@ -8,7 +8,7 @@ ghost use Rattle.page_relay.specs.Fitting.{
   Fits,
   FitsBetween,
   Helped,
-  TakesLine,
+  IsNext,
   text_so_far,
   place_of,
   place_in_rows,
@@ -58,8 +58,8 @@ impl Progress {
 
     /// Takes the next line, or answers `None` where it may not stand here.
     pub(crate) fn take_line(self, alloc: Global, line: &[u8]) -> Result<Option<Progress>, Memory>
-        ensures { IsSound (so_far self) → IfOk result (λ next. MatchOption next
-            (¬ (IsUtf8 line.now × Fits (place_of (so_far self)) line.now)) (λ next. TakesLine (so_far self) line.now (so_far next))) }
+        ensures { IsSound (so_far self)
+            → IfOk result (IsNext (IsUtf8 line.now × Fits (place_of (so_far self)) line.now) (so_far self) line.now) }
     {
         if str::from_utf8(line).is_err() {
             return Ok(None);
@@ -99,8 +99,9 @@ fn begin_block(
     families: Vec<Family>,
     line: &[u8],
 ) -> Result<Option<Progress>, Memory>
-    ensures { IsUtf8 line.now → IsSound (parts_so_far pages.items families.items opened.Between) → IfOk result (λ next. MatchOption next
-        (¬ FitsBetween line.now) (λ next. TakesLine (parts_so_far pages.items families.items opened.Between) line.now (so_far next))) }
+    ensures { IsUtf8 line.now → IsSound (parts_so_far pages.items families.items opened.Between)
+        → IfOk result (IsNext (FitsBetween line.now)
+        (parts_so_far pages.items families.items opened.Between) line.now) }
 {
     if line == b"# EOF".as_slice() {
         pages.push(Page { families })?;
@@ -143,8 +144,9 @@ fn type_block(
     help: String,
     line: &[u8],
 ) -> Result<Option<Progress>, Memory>
-    ensures { IsUtf8 line.now → IsSound (parts_so_far pages.items families.items (opened.Helped name help)) → IfOk result (λ next. MatchOption next
-        (¬ Fits (Helped (string_bytes name)) line.now) (λ next. TakesLine (parts_so_far pages.items families.items (opened.Helped name help)) line.now (so_far next))) }
+    ensures { IsUtf8 line.now → IsSound (parts_so_far pages.items families.items (opened.Helped name help))
+        → IfOk result (IsNext (Fits (Helped (string_bytes name)) line.now)
+        (parts_so_far pages.items families.items (opened.Helped name help)) line.now) }
 {
     let Some((typed, shape)) = read_type_line(alloc, line)? else {
         return Ok(None);
@@ -173,8 +175,9 @@ fn grow_block(
     mut family: Family,
     line: &[u8],
 ) -> Result<Option<Progress>, Memory>
-    ensures { IsUtf8 line.now → IsSound (parts_so_far pages.items families.items (opened.Block family)) → IfOk result (λ next. MatchOption next
-        (¬ Fits (place_in_rows (family_of family).rows) line.now) (λ next. TakesLine (parts_so_far pages.items families.items (opened.Block family)) line.now (so_far next))) }
+    ensures { IsUtf8 line.now → IsSound (parts_so_far pages.items families.items (opened.Block family))
+        → IfOk result (IsNext (Fits (place_in_rows (family_of family).rows) line.now)
+        (parts_so_far pages.items families.items (opened.Block family)) line.now) }
 {
     if line.is_empty() && !family.rows.is_empty() {
         families.push(family)?;

@@ -1,8 +1,7 @@
 //! The reader of streams of pages.
 
 ghost use Rattle.std.specs.Prelude.{◌≡◌, ◌<◌, ◌∷◌, ◌++◌, [], length, map, IfOk, IfErr, MatchOption};
-ghost use Rattle.metrics_core.specs.Characters.{line};
-ghost use Rattle.page_relay.specs.Streams.{IsStream, ended_lines};
+ghost use Rattle.page_relay.specs.Streams.{IsStream, IsSplit, ended_lines};
 ghost use Rattle.page_relay.specs.Values.{families_of, IsReadingFault};
 
 use crate::lines::count_before;
@@ -10,7 +9,8 @@ use crate::progress::Progress;
 use crate::{Page, RelayFault};
 use std::alloc::Global;
 
-/// Reads pages that stand one after the other, none or more. Bytes that are no stream are refused with their first bad line.
+/// Reads pages that stand one after the other, none or more. Bytes that are no stream are refused with their first bad
+/// line.
 pub fn read_pages(alloc: Global, bytes: &[u8]) -> Result<Vec<Page>, RelayFault>
     ensures stream { IfOk result (λ pages. IsStream bytes.now (map families_of pages.items)) }
     ensures refused { IfErr result (IsReadingFault bytes.now) }
@@ -38,8 +38,9 @@ pub fn read_pages(alloc: Global, bytes: &[u8]) -> Result<Vec<Page>, RelayFault>
 /// The first line, without its newline, and the bytes behind that, where a newline ends it.
 fn split_line(bytes: &[u8]) -> Option<(&[u8], &[u8])>
     ensures split { MatchOption result (ended_lines bytes.now ≡ [])
-        (λ parts. (bytes.now ≡ line parts.0.now ++ parts.1.now) × (ended_lines bytes.now ≡ parts.0.now ∷ ended_lines parts.1.now)) }
-    ensures shorter { MatchOption result (ended_lines bytes.now ≡ []) (λ parts. length parts.1.now < length bytes.now) }
+        (λ parts. IsSplit bytes.now parts.0.now parts.1.now) }
+    ensures shorter { MatchOption result (ended_lines bytes.now ≡ [])
+        (λ parts. length parts.1.now < length bytes.now) }
 {
     let end = count_before(bytes, b'\n');
     if end == bytes.len() {

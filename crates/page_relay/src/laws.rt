@@ -1,0 +1,12 @@
+//! What holds of streams by their definitions alone. The functions do nothing.
+
+ghost use Rattle.std.specs.Prelude.{◌≡◌, ℕ, List};
+ghost use Rattle.prom_format.specs.Pages.{Family};
+ghost use Rattle.page_relay.specs.Streams.{IsStream, IsFirstBadLine};
+
+/// Bytes have at most one first bad line, and those that have one are no stream.
+pub fn one_first_bad_line()
+    ensures same { (bytes : List ℕ) (k l : ℕ) → IsFirstBadLine bytes k → IsFirstBadLine bytes l → k ≡ l }
+    ensures no_stream { (bytes : List ℕ) (l : ℕ) (pages : List (List Family))
+        → IsFirstBadLine bytes l → ¬ IsStream bytes pages }
+{}
