@@ -77,12 +77,12 @@ no_line (c ∷ d) f x e = cc
 line_split : (d f x : List ℕ) → (line d ++ f) ++ x ≡ d ++ (newline ∷ (f ++ x))
 line_split d f x = append_assoc (line d) f x ∙ append_assoc d (newline ∷ []) (f ++ x)
 
-record More (done lines : List (List ℕ)) (x : List ℕ) : Type 0 where
-  more : List (List ℕ)
-  split : lines ≡ done ++ more
-  rest : x ≡ flat_map line more
+pub record More (done lines : List (List ℕ)) (x : List ℕ) : Type 0 where
+  pub more : List (List ℕ)
+  pub split : lines ≡ done ++ more
+  pub rest : x ≡ flat_map line more
 
-lines_told : (done lines : List (List ℕ)) (x : List ℕ) → AreLines done → AreLines lines → flat_map line done ++ x ≡ flat_map line lines → More done lines x
+pub lines_told : (done lines : List (List ℕ)) (x : List ℕ) → AreLines done → AreLines lines → flat_map line done ++ x ≡ flat_map line lines → More done lines x
 lines_told [] lines x hd hl e = record { more = lines; split = refl; rest = e }
 lines_told (d ∷ done) [] x hd hl e = absurd (no_line d (flat_map line done) x e)
 lines_told (d ∷ done) (l ∷ lines) x hd hl e =

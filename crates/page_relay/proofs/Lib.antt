@@ -8,4 +8,5 @@ pub mod Forms
 pub mod Streams
 pub mod Growing
 pub mod BadLines
+pub mod OneStream
 pub mod Readers

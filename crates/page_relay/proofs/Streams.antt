@@ -1,5 +1,5 @@
 -- The lines of a stream: each may stand behind the one before, and the bytes tell them.
-use Rattle.std.proofs.Common.{◌≡◌, ℕ, ◌+◌, ◌<◌, Bool, true, false, not, ◌&&◌, ◌==◌, ℤ, List, [], ◌∷◌, ◌++◌, length, take, map, refl, sym, ap, subst, ◌∙◌, append_assoc, arith, ◌⊎◌, inl, inr, cond}
+use Rattle.std.proofs.Common.{◌≡◌, ◌≢◌, ℕ, ◌+◌, ◌<◌, Bool, true, false, not, ◌&&◌, ◌==◌, ℤ, List, [], ◌∷◌, ◌++◌, length, take, map, refl, sym, ap, subst, ◌∙◌, append_assoc, arith, ◌⊎◌, inl, inr, cond}
 use Rattle.std.specs.Prelude.{codes, flat_map, All, IsUtf8, Option, Some, None, if◌then◌else◌}
 use Rattle.std.specs.List.{list_all, position_or_len}
 use Rattle.std.specs.Int.{w128}
@@ -290,7 +290,7 @@ fit_first_row (row ∷ rows) some printable fits =
     let fit = All-head Fitting row rows fits in
     ((row_is_line row here fit, λ utf8. (row, row_fits row here fit utf8)), subst (λ p. AreFit p (rows_lines rows)) (sym (row_behind row here)) (fit_rows rows (All-tail IsPrintableRow row rows printable) (All-tail Fitting row rows fits)))
 
-abbrev IsBetween : Place → Type 0
+abbrev pub IsBetween : Place → Type 0
 IsBetween place = (place ≡ Start) ⊎ (place ≡ Between)
 
 fits_between : (place : Place) (text : List ℕ) → IsBetween place → FitsBetween text → Fits place text
@@ -325,22 +325,52 @@ pub flat_append : (xs ys : List (List ℕ)) → flat_map line (xs ++ ys) ≡ fla
 flat_append [] ys = refl
 flat_append (x ∷ xs) ys = ap (λ l. line x ++ l) (flat_append xs ys) ∙ sym (append_assoc (line x) (flat_map line xs) (flat_map line ys))
 
-record Lines (bytes : List ℕ) (place : Place) : Type 0 where
-  lines : List (List ℕ)
-  are : bytes ≡ flat_map line lines
-  fit : AreFit place lines
-  ends : IsBetween (place_behind_all place lines)
+-- no page ends with these lines
+abbrev pub AreInner : List (List ℕ) → Type 0
+AreInner [] = Unit {0}
+AreInner (text ∷ lines) = (place_behind text ≢ Start) × AreInner lines
 
-body_lines : (place : Place) (families : List Family) → IsBetween place → All IsPrintable families → AreInRange families → Lines (body_text families) place
-body_lines place [] between printable fits = record { lines = []; are = refl; fit = tt; ends = between }
+inner_append : (xs ys : List (List ℕ)) → AreInner xs → AreInner ys → AreInner (xs ++ ys)
+inner_append [] ys hx hy = hy
+inner_append (x ∷ xs) ys hx hy = (hx.0, inner_append xs ys hx.1 hy)
+
+inner_rows : (rows : List Row) → All IsPrintableRow rows → AreInner (rows_lines rows)
+inner_rows [] printable = (λ e. cc, tt)
+inner_rows (row ∷ rows) printable =
+    let behind = row_behind row (All-head IsPrintableRow row rows printable) in
+    (λ e. let same : InRows ≡ Start = sym behind ∙ e in cc, inner_rows rows (All-tail IsPrintableRow row rows printable))
+
+inner_type : (family : Family) → IsPrintable family → AreInner (type_line_of family.name family.type ∷ rows_lines family.rows)
+inner_type family printable = (λ e. cc, inner_rows family.rows printable.rows)
+
+inner_block : (family : Family) → IsPrintable family → AreInner (block_lines family)
+inner_block family printable = by family.help
+  where
+    by : (help : Option (List ℕ)) → AreInner (help_lines family.name help ++ type_line_of family.name family.type ∷ rows_lines family.rows)
+    by None = inner_type family printable
+    by (Some help) =
+        let behind = help_place (help_line_of family.name help) family.name help printable.named refl in
+        (λ e. let same : Helped family.name ≡ Start = sym behind ∙ e in cc, inner_type family printable)
+
+pub record Lines (bytes : List ℕ) (place : Place) : Type 0 where
+  pub lines : List (List ℕ)
+  pub are : bytes ≡ flat_map line lines
+  pub fit : AreFit place lines
+  pub inner : AreInner lines
+  pub ends : IsBetween (place_behind_all place lines)
+
+pub body_lines : (place : Place) (families : List Family) → IsBetween place → All IsPrintable families → AreInRange families → Lines (body_text families) place
+body_lines place [] between printable fits = record { lines = []; are = refl; fit = tt; inner = tt; ends = between }
 body_lines place (family ∷ families) between printable fits =
+    let here = All-head IsPrintable family families printable in
     let behind = body_lines Between families (inr refl) (All-tail IsPrintable family families printable) (All-tail HasValuesInRange family families fits) in
     let is_between = block_behind place family in
     record {
       lines = block_lines family ++ behind.lines;
       are = (λ j. block_is family j ++ behind.are j) ∙ sym (flat_append (block_lines family) behind.lines);
-      fit = fit_append place (block_lines family) behind.lines (fit_block place family between (All-head IsPrintable family families printable) (All-head HasValuesInRange family families fits))
+      fit = fit_append place (block_lines family) behind.lines (fit_block place family between here (All-head HasValuesInRange family families fits))
           (subst (λ p. AreFit p behind.lines) (sym is_between) behind.fit);
+      inner = inner_append (block_lines family) behind.lines (inner_block family here) behind.inner;
       ends = subst IsBetween (sym (place_append place (block_lines family) behind.lines ∙ ap (λ p. place_behind_all p behind.lines) is_between)) behind.ends;
     }
 

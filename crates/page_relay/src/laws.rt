@@ -4,6 +4,12 @@ ghost use Rattle.std.specs.Prelude.{◌≡◌, ℕ, List};
 ghost use Rattle.prom_format.specs.Pages.{Family};
 ghost use Rattle.page_relay.specs.Streams.{IsStream, IsFirstBadLine};
 
+/// A stream is read in one way: bytes are a stream of one list of pages at most.
+pub fn one_stream()
+    ensures { (bytes : List ℕ) (pages others : List (List Family))
+        → IsStream bytes pages → IsStream bytes others → pages ≡ others }
+{}
+
 /// Bytes have at most one first bad line, and those that have one are no stream.
 pub fn one_first_bad_line()
     ensures same { (bytes : List ℕ) (k l : ℕ) → IsFirstBadLine bytes k → IsFirstBadLine bytes l → k ≡ l }

@@ -11,7 +11,7 @@ mod progress;
 mod reader;
 
 pub use faults::RelayFault;
-pub use laws::one_first_bad_line;
+pub use laws::{one_first_bad_line, one_stream};
 pub use pages::{Family, Page, PageRow};
 pub use prom_format::FamilyType as Shape;
 pub use reader::read_pages;
