@@ -24,7 +24,7 @@ use Rattle.page_relay.proofs.Values.{in_number, number_low, number_all}
 use Rattle.page_relay.proofs.Utf8.{one_ascii}
 use Rattle.page_relay.proofs.Streams.{row_line, type_place, help_place, row_place_of, pages_stream}
 
-flat_push : {X : Type 0} (f : X → List ℕ) (xs : List X) (x : X) → flat_map f (xs ++ x ∷ []) ≡ flat_map f xs ++ f x
+pub flat_push : {X : Type 0} (f : X → List ℕ) (xs : List X) (x : X) → flat_map f (xs ++ x ∷ []) ≡ flat_map f xs ++ f x
 flat_push f [] x = append-nil (f x)
 flat_push f (y ∷ xs) x = ap (λ l. f y ++ l) (flat_push f xs x) ∙ sym (append_assoc (f y) (flat_map f xs) (f x))
 

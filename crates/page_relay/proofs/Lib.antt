@@ -9,4 +9,5 @@ pub mod Streams
 pub mod Growing
 pub mod BadLines
 pub mod OneStream
+pub mod Writing
 pub mod Readers

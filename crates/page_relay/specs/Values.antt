@@ -4,6 +4,7 @@ use Rattle.std.specs.Option.{option_map}
 use Rattle.std.specs.declared.string.String.{String}
 use Rattle.std.specs.declared.alloc.Global.{Global}
 use Rattle.metrics_core.specs.Keys.{LabelText}
+use Rattle.metrics_core.specs.Outside.{Rose}
 use Rattle.prom_format.specs.Pages as text
 use Rattle.page_relay.specs.Streams.{IsFirstBadLine}
 use Rattle.page_relay.specs.declared.faults.RelayFault.{RelayFault}
@@ -35,3 +36,10 @@ IsReadingFault bytes (faults.Syntax line) = IsFirstBadLine bytes line
 IsReadingFault bytes (faults.Conflict page name) = ⊥
 IsReadingFault bytes faults.WriteFault = ⊥
 IsReadingFault bytes faults.Memory = Unit {0}
+
+-- the cause of a refused writing: the faults of the sink rose; want of memory is free
+abbrev pub IsWritingFault : ℕ → ℕ → RelayFault → Type 0
+IsWritingFault old new (faults.Syntax line) = ⊥
+IsWritingFault old new (faults.Conflict page name) = ⊥
+IsWritingFault old new faults.WriteFault = Rose old new
+IsWritingFault old new faults.Memory = Unit {0}

@@ -1,5 +1,5 @@
-//! Pages of several exporters: a stream of pages is read, and its first bad line is named where it is none (Prometheus
-//! text exposition format, version 0.0.4).
+//! Pages of several exporters: a stream of pages is read, its first bad line is named where it is none, and pages are
+//! written (Prometheus text exposition format, version 0.0.4).
 #![tactic(auto)]
 
 mod cursor;
@@ -9,9 +9,11 @@ mod lines;
 mod pages;
 mod progress;
 mod reader;
+mod writer;
 
 pub use faults::RelayFault;
 pub use laws::{one_first_bad_line, one_stream};
 pub use pages::{Family, Page, PageRow};
 pub use prom_format::FamilyType as Shape;
 pub use reader::read_pages;
+pub use writer::write_page;
