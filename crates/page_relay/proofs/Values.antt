@@ -16,7 +16,7 @@ use Rattle.std.proofs.lemmas.Str.Parse.{digit_from_value, IsNumeralModel, numera
 use Rattle.metrics_core.specs.Characters.{is_digit, minus_sign, full_stop}
 use Rattle.metrics_core.specs.Numbers.{padded, without_trailing_zeros, before_zeros, fraction_text, page_number, one}
 use Rattle.std.proofs.lemmas.Str.{IsUtf8-from_ascii}
-use Rattle.prom_format.proofs.Digits.{fraction_text-some, decimal-one_before}
+use Rattle.metrics_core.proofs.Digits.{fraction_text-some, decimal-one_before}
 use Rattle.page_relay.specs.Reading.{all_places}
 use Rattle.page_relay.proofs.Names.{kind_ascii}
 
@@ -166,7 +166,7 @@ fraction_places negative m small = by (cases_eq (m % one) 0)
         let trimmed = without_trailing_zeros (padded 9 (m % one)) in
         let zeros = refilled (padded 9 (m % one)) in
         let nine_long = padded_length (m % one) (omega arith) in
-        ap (λ l. all_places (whole ++ l)) (fraction_text-some (m % one) some) ∙ places_some whole trimmed all
+        ap (λ l. all_places (whole ++ l)) (fraction_text-some [] (m % one) some) ∙ places_some whole trimmed all
         ∙ ap (λ n. whole ++ (trimmed ++ replicate (n - length trimmed) 48)) (sym nine_long) ∙ ap (λ l. whole ++ l) zeros
 
 -- the digits so far, with the zeros that they want
@@ -297,7 +297,7 @@ fraction_number f small = by (cases_eq f 0)
     by : (f ≡ 0) ⊎ (f ≡ 0 → ⊥) → list_all in_number (fraction_text [] f) ≡ true
     by (inl none) = ap (λ n. list_all in_number (fraction_text [] n)) none
     by (inr some) =
-        ap (list_all in_number) (fraction_text-some f some)
+        ap (list_all in_number) (fraction_text-some [] f some)
         ∙ whole_number (without_trailing_zeros (padded 9 f)) (digits_whole (without_trailing_zeros (padded 9 f)) (trimmed_digits (padded 9 f) (padded_digits f small)))
 
 signed_number : (negative : Bool) (m : ℕ) → m < 2 ^ 128 → list_all in_number (signed_whole negative m ++ fraction_text [] (m % one)) ≡ true

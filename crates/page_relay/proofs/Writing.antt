@@ -2,7 +2,7 @@
 use Rattle.std.proofs.Common.{◌≡◌, ℕ, ◌+◌, ◌<◌, List, [], ◌∷◌, ◌++◌, length, take, map, get_or, refl, sym, ap, ◌∙◌, append_assoc, arith}
 use Rattle.std.specs.Prelude.{codes, flat_map, Option, Some, None, Result, Ok, Err, OnErr}
 use Rattle.std.proofs.lemmas.List.{take_more, map_push, append-nil}
-use Rattle.metrics_core.specs.Outside.{GrewByFront}
+use Rattle.metrics_core.specs.Outside.{GrewByPrefix}
 use Rattle.metrics_core.specs.Keys.{LabelText}
 use Rattle.prom_format.specs.Pages.{label_text, labels_text, label_set_text}
 use Rattle.page_relay.proofs.Growing.{flat_push}
@@ -43,9 +43,9 @@ pub row_parts : (old name labels number : List ℕ) → ((((old ++ name) ++ labe
 row_parts old name labels number = simp append_assoc
 
 -- nothing written is a front of anything
-pub nothing_written : (old : Option (List ℕ)) (whole : List ℕ) → GrewByFront old old whole
+pub nothing_written : (old : Option (List ℕ)) (whole : List ℕ) → GrewByPrefix old old whole
 nothing_written None whole = tt
-nothing_written (Some before) whole = (whole, record { front = []; cut = refl; written = ap Some (sym (append-nil before)) })
+nothing_written (Some before) whole = (whole, record { prefix = []; cut = refl; written = ap Some (sym (append-nil before)) })
 
 pub holds_on_err : {A E : Type 0} (r : Result A E) (P : Type 0) → P → OnErr r P
 holds_on_err (Ok x) P h = tt

@@ -7,8 +7,8 @@ use Rattle.page_relay.proofs.writer.write_page.Goals as goal
 pub returns-in_err-text-clause-page : goal.returns-in_err-text-clause-page
 returns-in_err-text-clause-page g c = page_read (families_of c.args.page.now) c.requires
 
-pub returns-in_err-text-clause-front : goal.returns-in_err-text-clause-front
-returns-in_err-text-clause-front g c = holds_on_err c.from_residual.result _ (nothing_written (g.K.Sink.written c.args.sink.now) (page_text (families_of c.args.page.now)))
+pub returns-in_err-text-clause-prefix : goal.returns-in_err-text-clause-prefix
+returns-in_err-text-clause-prefix g c = holds_on_err c.from_residual.result _ (nothing_written (g.K.Sink.written c.args.sink.now) (page_text (families_of c.args.page.now)))
 
 pub returns-then-is_err-clause-page : goal.returns-then-is_err-clause-page
 returns-then-is_err-clause-page g c = page_read (families_of c.args.page.now) c.requires
