@@ -16,10 +16,10 @@ use std::{fs, io};
 /// Plays each row of the table, and says which differ and how many hold.
 fn main(rt: HostRuntime) -> io::Result<()> {
     let table = fs::read_to_string(&rt, "rows")?;
-    let mut held = 0;
+    let mut held = 0u64;
     for line in table.lines() {
         if is_row(line) && plays(&rt, rt.alloc(), line)? {
-            held += 1;
+            held = held.saturating_add(1);
         }
     }
     println!(rt; "{held} rows hold")
