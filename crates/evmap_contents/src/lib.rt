@@ -16,6 +16,3 @@ pub use inner::Inner;
 pub use key::KeyClone;
 pub use laws::forms_change_no_value;
 pub use write::{Contents, Write};
-
-#[cfg(test)]
-mod tests;

@@ -1,4 +1,4 @@
--- A reader may go to another thread.
+-- A reader may go to another thread, and threads may share a factory.
 use denote.RattleType.{RattleType}
 use denote.Param.Send.{IsSend, IsSync, sendable}
 use denote.Param.SendFields.{declared_send, declared_sync}
@@ -28,6 +28,11 @@ module _ (K V M P S L H : RattleType) (hash : Hash.Ghosts K.Denot) (eq : Partial
     Factory-send ky vs vy ms my sy =
         let s = Store-sync ky vs vy ms my sy in
         declared_send (Factory.the_type K V M P S L H hash eq whole same hashes build hasher rule) (search (sendable, crosses, factory.the_send) depth 20, tt)
+
+    pub Factory-sync : IsSync K → IsSend V → IsSync V → IsSend M → IsSync M → IsSync S → IsSync (Factory.the_row K V M P S L H hash eq whole same hashes build hasher rule)
+    Factory-sync ky vs vy ms my sy =
+        let s = Store-sync ky vs vy ms my sy in
+        declared_sync (Factory.the_type K V M P S L H hash eq whole same hashes build hasher rule) (search (sendable, crosses, factory.the_sync) depth 20, tt)
 
     pub Handle-send : IsSync K → IsSend V → IsSync V → IsSend M → IsSync M → IsSync S → IsSend (Handle.the_row K V M P S L H hash eq whole same hashes build hasher rule)
     Handle-send ky vs vy ms my sy =

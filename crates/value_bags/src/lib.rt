@@ -19,6 +19,3 @@ pub use keep::{Keep, KeepAll};
 pub use laws::counts_of_values;
 pub use listing::ValuesIter;
 pub use values::Values;
-
-#[cfg(test)]
-mod tests;
