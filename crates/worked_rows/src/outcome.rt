@@ -18,40 +18,84 @@ struct Outcome {
     said: Vec<u8>,
 }
 
+/// What a run is over.
+#[derive(Drop)]
+struct Devices {
+    source: MemorySource,
+    out: MemorySink,
+    err: MemorySink,
+}
+
 /// Whether what comes of a row is what must come. Where it isn't, it is printed.
 pub fn holds<R: Files + AllocGlobal + Print + Threads + Wait + Sync>(
     rt: &R,
     alloc: Global,
     row: &Row,
 ) -> io::Result<bool> {
-    let outcome = outcome_of(rt, alloc, row, script_of(rt, alloc, row)?)?;
+    let outcome = outcome_of(rt, alloc, row)?;
+    is_told_right(rt, alloc, row, &outcome)
+}
+
+/// Whether an outcome is what must come. Where it isn't, it is printed.
+fn is_told_right<R: Files + AllocGlobal + Print>(
+    rt: &R,
+    alloc: Global,
+    row: &Row,
+    outcome: &Outcome,
+) -> io::Result<bool> {
     let same = outcome.status == row.status
         && is_wanted(rt, alloc, row, "said", &outcome.said)?
         && (is_wanted(rt, alloc, row, "page", &outcome.pages)?
             || is_other(rt, alloc, row, &outcome.pages)?);
     if !same {
-        print_outcome(rt, alloc, row, &outcome)?;
+        print_outcome(rt, alloc, row, outcome)?;
     }
     Ok(same)
 }
 
 /// Plays a row over devices in memory.
-fn outcome_of<R: Threads + Wait + Sync>(
+fn outcome_of<R: Files + AllocGlobal + Threads + Wait + Sync>(
     rt: &R,
     alloc: Global,
     row: &Row,
-    script: Vec<u8>,
 ) -> io::Result<Outcome> {
-    let words = words_of(alloc, &row.words)?;
+    let mut devices = devices_of(rt, alloc, row)?;
+    let status = played(rt, alloc, row, &mut devices)?;
+    told(alloc, status, &devices)
+}
+
+/// The devices of a row.
+fn devices_of<R: Files + AllocGlobal>(rt: &R, alloc: Global, row: &Row) -> io::Result<Devices> {
     let failing = row.source.failing.to_vec(alloc)?;
-    let mut source = MemorySource::new(script, row.source.most.max(1), failing);
-    let mut out = sink(alloc, &row.out)?;
-    let mut err = sink(alloc, &row.err)?;
-    let status = run(rt, alloc, &words, &mut source, &mut out, &mut err, &Free);
+    let script = script_of(rt, alloc, row)?;
+    Ok(Devices {
+        source: MemorySource::new(script, row.source.most.max(1), failing),
+        out: sink(alloc, &row.out)?,
+        err: sink(alloc, &row.err)?,
+    })
+}
+
+/// Runs a row over its devices, and answers the status.
+fn played<R: Threads + Wait + Sync>(
+    rt: &R,
+    alloc: Global,
+    row: &Row,
+    devices: &mut Devices,
+) -> io::Result<u8> {
+    let words = words_of(alloc, &row.words)?;
+    let Devices { source, out, err } = devices;
+    Ok(run(rt, alloc, &words, source, out, err, &Free))
+}
+
+/// What was answered, with what the devices were given.
+fn told(alloc: Global, status: u8, devices: &Devices) -> io::Result<Outcome> {
+    let status = format!(in alloc; "{status}")?;
+    let pages = devices.out.written().to_vec(alloc)?;
+    let said = devices.err.written().to_vec(alloc)?;
     Ok(Outcome {
-        status: format!(in alloc; "{status}")?,
-        pages: out.written().to_vec(alloc)?,
-        said: err.written().to_vec(alloc)?,
+        status,
+        pages,
+        said,
     })
 }
 
