@@ -1,6 +1,6 @@
 //! Scripts as they are read, and what is said of those that are not played to their end.
 
-use drive_script::{Act, CallLine, DriveFault, Script, Setup, read_script};
+use drive_script::{Act, CallLine, DriveFault, Round, Script, Setup, read_script};
 use metrics_core::{Fixed, Memory, MetricKind};
 use std::test::Fail;
 
@@ -8,21 +8,31 @@ use std::test::Fail;
 const SCRIPT: &str =
     "global \"e\" \"a b\"\nround 0\nregister counter \"c\"\nregister gauge \"\u{e9} \\\"\" \"k\"=\"\\n\\\\\" \"l\"=\"\"\n0 inc 0 42\n7 abs 0 7\n1 set 1 -3.14\n2 add 1 5\n3 sub 1 0.000000001\nround 0\nround 1\n";
 
-/// Whether the settings and the register lines are those of the script.
-fn has_series(script: &Script) -> bool {
-    let [(key, value)] = script.settings.globals.as_slice() else {
-        return false;
-    };
-    let [_, Setup::Register { kind, key: gauge }] = script.rounds[0].setup.as_slice() else {
-        return false;
-    };
+/// Whether the first label of all series is that of the script.
+fn has_label(globals: &[(String, String)]) -> bool {
+    match globals.first() {
+        Some(label) => label.0.as_str() == "e" && label.1.as_str() == "a b",
+        None => false,
+    }
+}
+
+/// Whether a register line is the script's second one.
+fn is_gauge(line: &Setup) -> bool {
+    let Setup::Register { kind, key } = line;
     let values = ["\n\\", ""];
-    (key.as_str(), value.as_str()) == ("e", "a b")
-        && (*kind, gauge.name()) == (MetricKind::Gauge, "\u{e9} \"")
-        && gauge
+    (*kind, key.name()) == (MetricKind::Gauge, "\u{e9} \"")
+        && key
             .labels()
             .zip(values.iter())
             .all(|(label, value)| label.value() == *value)
+}
+
+/// Whether the register lines of a round are two, and the second is the script's.
+fn has_series(setup: &[Setup]) -> bool {
+    match setup.get(1) {
+        Some(line) => setup.len() == 2 && is_gauge(line),
+        None => false,
+    }
 }
 
 /// Whether the calls are those of the script.
@@ -41,12 +51,25 @@ fn has_calls(calls: &[CallLine]) -> bool {
             .all(|(call, act)| (call.lane, call.handle, call.act) == *act)
 }
 
+/// Whether there are three rounds, and the last one's moment is the script's.
+fn ends_at_one(rounds: &[Round]) -> bool {
+    match rounds.get(2) {
+        Some(round) => rounds.len() == 3 && round.moment == 1,
+        None => false,
+    }
+}
+
 /// Whether a script was read as it was written.
 fn is_read(script: &Script) -> bool {
-    script.rounds.len() == 3
-        && script.rounds[2].moment == 1
-        && has_series(script)
-        && has_calls(script.rounds[0].calls.as_slice())
+    match script.rounds.first() {
+        Some(round) => {
+            ends_at_one(&script.rounds)
+                && has_label(&script.settings.globals)
+                && has_series(&round.setup)
+                && has_calls(round.calls.as_slice())
+        }
+        None => false,
+    }
 }
 
 #[test]
