@@ -28,16 +28,16 @@ fn made<R: Wait>(rt: &R, map: Result<(Writer, Reader), EvmapFault>) -> Option<us
 /// For how many more readers there is room, of two.
 fn room(r: &Reader) -> usize {
     match r.clone() {
-        Ok(second) => 1 + room_beside(&second),
+        Ok(second) => room_beside(&second),
         Err(_) => 0,
     }
 }
 
-/// For how many more readers there is room, of one.
+/// For how many more readers there is room, of two, where there is room for one.
 fn room_beside(r: &Reader) -> usize {
     match r.clone() {
-        Ok(_) => 1,
-        Err(_) => 0,
+        Ok(_) => 2,
+        Err(_) => 1,
     }
 }
 
