@@ -11,3 +11,9 @@ pub mod BadLines
 pub mod OneStream
 pub mod Writing
 pub mod Readers
+pub mod FirstPlaces
+pub mod MergedRows
+pub mod MergedFamilies
+pub mod RowSteps
+pub mod Gathered
+pub mod Numbering

@@ -6,6 +6,7 @@ use Rattle.std.specs.declared.alloc.Global.{Global}
 use Rattle.metrics_core.specs.Keys.{LabelText}
 use Rattle.metrics_core.specs.Outside.{Rose}
 use Rattle.prom_format.specs.Pages as text
+use Rattle.page_relay.specs.Merge.{IsConflict}
 use Rattle.page_relay.specs.Streams.{IsFirstBadLine}
 use Rattle.page_relay.specs.declared.faults.RelayFault.{RelayFault}
 use Rattle.page_relay.specs.declared.faults.RelayFault.TheVariants as faults
@@ -43,3 +44,10 @@ IsWritingFault old new (faults.Syntax line) = ⊥
 IsWritingFault old new (faults.Conflict page name) = ⊥
 IsWritingFault old new faults.WriteFault = Rose old new
 IsWritingFault old new faults.Memory = Unit {0}
+
+-- the cause of a refused merge: a family that doesn't merge with those before it; want of memory is free
+abbrev pub IsMergeFault : List (List text.Family) → RelayFault → Type 0
+IsMergeFault pages (faults.Syntax line) = ⊥
+IsMergeFault pages (faults.Conflict page name) = IsConflict pages page (string_bytes name)
+IsMergeFault pages faults.WriteFault = ⊥
+IsMergeFault pages faults.Memory = Unit {0}

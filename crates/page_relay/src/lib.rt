@@ -1,11 +1,13 @@
-//! Pages of several exporters: a stream of pages is read, its first bad line is named where it is none, and pages are
-//! written (Prometheus text exposition format, version 0.0.4).
+//! Pages of several exporters: a stream of pages is read, its first bad line is named where it is none, pages are merged,
+//! and pages are written (Prometheus text exposition format, version 0.0.4).
 #![tactic(auto)]
 
 mod cursor;
 mod faults;
+mod gathering;
 mod laws;
 mod lines;
+mod merging;
 mod pages;
 mod progress;
 mod reader;
@@ -13,6 +15,7 @@ mod writer;
 
 pub use faults::RelayFault;
 pub use laws::{one_first_bad_line, one_stream};
+pub use merging::merge;
 pub use pages::{Family, Page, PageRow};
 pub use prom_format::FamilyType as Shape;
 pub use reader::read_pages;
