@@ -11,6 +11,16 @@ fn v6(groups: [u16; 8]) -> Option<IpAddr> {
     Some(IpAddr::from(groups))
 }
 
+fn socket(ip: Option<IpAddr>, port: u16) -> Option<SocketAddr> {
+    Some(SocketAddr::new(ip?, port))
+}
+
+/// Whether a network holds an address, where both texts are ones.
+fn held(network: &str, address: &str) -> Option<bool> {
+    let network = Network::from_text(network)?;
+    Some(network.holds(&read_ip(address)?))
+}
+
 #[test]
 fn addresses(rt: HostRuntime) {
     let rows = [
@@ -45,10 +55,6 @@ fn addresses(rt: HostRuntime) {
     }
 }
 
-fn socket(ip: Option<IpAddr>, port: u16) -> Option<SocketAddr> {
-    Some(SocketAddr::new(ip?, port))
-}
-
 #[test]
 fn sockets(rt: HostRuntime) {
     let rows = [
@@ -70,12 +76,6 @@ fn sockets(rt: HostRuntime) {
     for (text, socket) in rows {
         assert_eq!(rt; read_socket(text), socket, "{text}");
     }
-}
-
-/// Whether a network holds an address, where both texts are ones.
-fn held(network: &str, address: &str) -> Option<bool> {
-    let network = Network::from_text(network)?;
-    Some(network.holds(&read_ip(address)?))
 }
 
 #[test]

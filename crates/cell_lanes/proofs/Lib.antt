@@ -6,3 +6,4 @@ pub mod Jobs
 pub mod Resting
 pub mod Rows
 pub mod Played
+pub mod Facts

@@ -9,7 +9,7 @@ use Rattle.legal_history.specs.declared.history.Held.{Held}
 use Rattle.legal_history.specs.declared.history.View.{View}
 use Rattle.legal_history.specs.History.{held, keep, longer}
 use Rattle.legal_history.specs.News.{helds}
-use Rattle.legal_history.proofs.Fronts.{prefix_self, prefix_trans}
+use Rattle.legal_history.proofs.Prefixes.{prefix_self, prefix_trans}
 use Rattle.legal_history.proofs.Steps.{longer_first}
 use Rattle.cell_lanes.specs.declared.lane.Slot.{Slot}
 use Rattle.cell_lanes.specs.declared.lane.Job.{Job}

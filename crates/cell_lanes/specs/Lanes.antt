@@ -97,6 +97,19 @@ pub record Finished {S K M : Type 0} (root : S → View M) (stands : K → List 
   pub many : length ds ≡ length cs
   pub grew : Each (GrewWhole root stands lanes later) cs ds
 
+-- the reading is one of a root with no pass out, whose history has grown by all that the lanes asked for, in one order of lanes
+pub record ReadAfter {K M R : Type 0} (reads : View M → R → View M → Type 0) (stands : K → List M → Type 0) (asked : ℕ → List K) (before : View M) (reading : R) : Type 0 where
+  pub found : View M
+  pub left : View M
+  pub reads_it : reads found reading left
+  pub root : found.number ≡ 0
+  pub home : found.out ≡ 0
+  pub lists : ℕ → List M
+  pub stand : (l : ℕ) → StandAs stands (asked l) (lists l)
+  pub order : List ℕ
+  pub is_order : IsOrder order lists
+  pub grew : calls found.seen ≡ calls before.seen ++ taken order lists
+
 -- lanes that stopped: each history grew by the first calls of each lane; a lane has calls left, or none has made any
 abbrev pub Stopped : {S K M : Type 0} → (S → View M) → (K → List M → Type 0) → List (Lane K) → List S → List S → Type 0
 Stopped root stands lanes cs ds = (done : ℕ → ℕ) × Unfinished lanes done × Each (Grew root stands lanes done) cs ds

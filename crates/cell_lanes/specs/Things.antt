@@ -15,6 +15,18 @@ root_of t = t.root
 abbrev pub fixed_of : {M F : Type 0} → Thing M F → F
 fixed_of t = t.fixed
 
+-- a pass that was lent: the cell, and what the pass knows
+pub record Lease (M F : Type 0) : Type 0 where
+  pub cell : F
+  pub knows : View M
+
+abbrev pub knows_of : {M F : Type 0} → Lease M F → View M
+knows_of l = l.knows
+
+-- the pass is one of this cell
+abbrev pub IsOf : {M F : Type 0} → F → Lease M F → Type 0
+IsOf cell l = l.cell ≡ cell
+
 -- the root took a pass back that knew so much, and has then seen what either had seen, and maybe more
 pub record TookBack {M : Type 0} (v known w : View M) : Type 0 where
   pub number : w.number ≡ v.number

@@ -5,8 +5,8 @@ ghost use Rattle.flushed_cells.specs.Cells.{IsCounterPass, IsGaugePass};
 use crate::lanes::two_lanes;
 use cell_lanes::{NoHook, lanes_fit};
 use flushed_cells::{
-    CounterChange, CounterPass, DsdCounter, DsdCounterSeries, DsdGauge, DsdGaugeSeries,
-    GaugeChange, GaugePass, run_counters, run_gauges,
+    CounterChange, CounterPass, DsdCounter, DsdGauge, GaugeChange, GaugePass, run_counters,
+    run_gauges,
 };
 use metrics_core::{Fixed, GaugeValue, Memory};
 use std::alloc::Global;
@@ -191,7 +191,7 @@ fn counted_by_lanes<R: Threads + Wait + Sync>(
     if !lanes_fit(lanes.as_slice(), 1) {
         return Ok(None);
     }
-    let mut counters = Vec::from_array(alloc, [DsdCounterSeries::new(alloc)?])?;
+    let mut counters = Vec::from_array(alloc, [DsdCounter::owned(alloc)?])?;
     Ok(run_counters(rt, alloc, &NoHook, &mut counters, lanes.as_slice(), 0).ok())
 }
 
@@ -212,7 +212,7 @@ fn moved_by_lanes<R: Threads + Wait + Sync>(
     if !lanes_fit(lanes.as_slice(), 1) {
         return Ok(None);
     }
-    let mut gauges = Vec::from_array(alloc, [DsdGaugeSeries::new(alloc)?])?;
+    let mut gauges = Vec::from_array(alloc, [DsdGauge::owned(alloc)?])?;
     Ok(run_gauges(rt, alloc, &NoHook, &mut gauges, lanes.as_slice(), 0).ok())
 }
 

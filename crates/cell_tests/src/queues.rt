@@ -7,7 +7,7 @@ use cell_lanes::{Lane, Line, NoHook, lanes_fit};
 use metrics_core::{Fixed, Memory};
 use metrics_facade::HistogramFn;
 use sample_queue::{
-    DsdHistogram, Entry, PromHistogram, QueueSeries, Sample, SamplePass, SampleQueue, run_queues,
+    DsdHistogram, PromHistogram, Sample, SampleEntry, SamplePass, SampleQueue, run_queues,
 };
 use std::alloc::Global;
 use std::sync::Wait;
@@ -15,14 +15,14 @@ use std::test::Fail;
 use std::thread::{Threads, join, yield_now};
 
 /// The entry that a histogram with moments gives after one record.
-fn timed<R: Wait>(rt: &R, alloc: Global) -> Result<Option<Entry<(Fixed, u64)>>, Memory> {
+fn timed<R: Wait>(rt: &R, alloc: Global) -> Result<Option<SampleEntry<(Fixed, u64)>>, Memory> {
     let (histogram, mut pass) = PromHistogram::new(alloc)?;
     let _recorded = histogram.record(rt, alloc, &mut pass, Fixed(25), 7);
     Ok(histogram.next(rt, &mut pass))
 }
 
 /// The entry that a histogram without moments gives after one record.
-fn untimed<R: Wait>(rt: &R, alloc: Global) -> Result<Option<Entry<Fixed>>, Memory> {
+fn untimed<R: Wait>(rt: &R, alloc: Global) -> Result<Option<SampleEntry<Fixed>>, Memory> {
     let (histogram, mut pass) = DsdHistogram::new(alloc)?;
     let _recorded = histogram.record(rt, alloc, &mut pass, Fixed(25), 7);
     Ok(histogram.next(rt, &mut pass))
@@ -30,11 +30,11 @@ fn untimed<R: Wait>(rt: &R, alloc: Global) -> Result<Option<Entry<Fixed>>, Memor
 
 #[test]
 fn histograms_record(rt: HostRuntime) -> Result<(), Fail> {
-    let with_moment = Entry {
+    let with_moment = SampleEntry {
         item: (Fixed(25), 7),
         count: 1,
     };
-    let without = Entry {
+    let without = SampleEntry {
         item: Fixed(25),
         count: 1,
     };
@@ -164,12 +164,12 @@ fn pushing_lanes(alloc: Global) -> Result<Vec<Lane<Sample<u8>>>, Fail> {
 fn pushed_by_lanes<R: Threads + Wait + Sync>(
     rt: &R,
     alloc: Global,
-) -> Result<Option<Option<Entry<u8>>>, Fail> {
+) -> Result<Option<Option<SampleEntry<u8>>>, Fail> {
     let lanes = pushing_lanes(alloc)?;
     if !lanes_fit(lanes.as_slice(), 1) {
         return Ok(None);
     }
-    let mut queues = Vec::from_array(alloc, [QueueSeries::new(alloc)?])?;
+    let mut queues = Vec::from_array(alloc, [SampleQueue::owned(alloc)?])?;
     Ok(run_queues(rt, alloc, &NoHook, &mut queues, lanes.as_slice(), 0).ok())
 }
 

@@ -7,3 +7,4 @@ pub mod Growth
 pub mod Faults
 pub mod Texts
 pub mod Vectors
+pub mod Taking

@@ -48,7 +48,8 @@ impl Heads {
         key: &Key,
     ) -> Result<bool, Memory>
         ensures globals { self.new.globals ≡ self.old.globals }
-        ensures apart { (registered : List Registration) → AreHeadsOf (labels_of self.old.globals.entries) (keys_by_head self.old.keys.entries) registered
+        ensures apart { (registered : List Registration)
+            → AreHeadsOf (labels_of self.old.globals.entries) (keys_by_head self.old.keys.entries) registered
             → IfOk result (λ apart. MatchBool apart
             (AreHeadsOf (labels_of self.old.globals.entries) (keys_by_head self.new.keys.entries) (registered ++ record { kind = kind; key = key.now } ∷ [])
             × All (λ r. PrintApart (labels_of self.old.globals.entries) r (record { kind = kind; key = key.now })) registered)
@@ -65,7 +66,8 @@ impl Heads {
 
     /// The kind, and what each row of a series with this key begins with.
     fn head(&self, alloc: Global, kind: MetricKind, key: &Key) -> Result<String, Memory>
-        ensures { IfOk result (λ text. string_bytes text ≡ text_of_head (labels_of self.now.globals.entries) (record { kind = kind; key = key.now })) }
+        ensures { IfOk result (λ text. string_bytes text
+            ≡ text_of_head (labels_of self.now.globals.entries) (record { kind = kind; key = key.now })) }
     {
         let head = row_head(alloc, key, &self.globals)?;
         let kind = match kind {

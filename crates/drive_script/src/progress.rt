@@ -1,28 +1,9 @@
 //! What the lines so far say, and whether one more line may stand behind them.
 
-ghost use Rattle.std.specs.Prelude.{
-  ◌≡◌,
-  ℕ,
-  List,
-  [],
-  ◌∷◌,
-  ◌++◌,
-  ◌↔◌,
-  IsTrue,
-  IfOk,
-  OnOk,
-  MatchBool,
-};
-ghost use Rattle.drive_script.specs.Growth.{IsNext};
+ghost use Rattle.std.specs.Prelude.{◌≡◌, ℕ, List, [], ◌∷◌, ◌++◌, ◌↔◌, IsTrue, IfOk, OnOk, MatchBool};
 ghost use Rattle.drive_script.specs.Script as text;
-ghost use Rattle.drive_script.specs.Texts.{
-  call_line_of,
-  script_of,
-  label_of,
-  script_so_far,
-  IsKnown,
-  StandsBehind,
-};
+ghost use Rattle.drive_script.specs.Taking.{Takes};
+ghost use Rattle.drive_script.specs.Texts.{call_line_of, script_of, label_of, script_so_far, IsKnown, StandsBehind};
 ghost use Rattle.drive_script.specs.Valid.{registered, HasHandle, AreValidLines};
 ghost use Rattle.std.specs.List.Sorted.{IsNonDecreasingBy};
 
@@ -89,9 +70,7 @@ impl Progress {
 
     /// A global label, if it may stand here.
     fn add_global(&mut self, alloc: Global, key: String, value: String) -> Result<bool, Memory>
-        ensures next { IsKnown self.old → IfOk result (λ taken. MatchBool taken
-            (IsNext (script_so_far self.old) (text.Global (label_of (key, value))) (script_so_far self.new) × IsKnown self.new)
-            ((new : text.ScriptText) → ¬ IsNext (script_so_far self.old) (text.Global (label_of (key, value))) new)) }
+        ensures next { IsKnown self.old → IfOk result (Takes self.old self.new (text.Global (label_of (key, value)))) }
     {
         if !self.rounds.is_empty() {
             return Ok(false);
@@ -103,9 +82,8 @@ impl Progress {
 
     /// A round begins, if it may.
     fn begin_round(&mut self, alloc: Global, moment: u64) -> Result<bool, Memory>
-        ensures next { IsKnown self.old → IsNonDecreasingBy (λ round. round.moment) (script_so_far self.old).rounds → IfOk result (λ taken. MatchBool taken
-            (IsNext (script_so_far self.old) (text.Round moment) (script_so_far self.new) × IsKnown self.new)
-            ((new : text.ScriptText) → ¬ IsNext (script_so_far self.old) (text.Round moment) new)) }
+        ensures next { IsKnown self.old → IsNonDecreasingBy (λ round. round.moment) (script_so_far self.old).rounds
+            → IfOk result (Takes self.old self.new (text.Round moment)) }
     {
         if let Some(last) = self.rounds.last()
             && moment < last.moment
@@ -122,9 +100,7 @@ impl Progress {
 
     /// The last round registers a series, if it may.
     fn register(&mut self, alloc: Global, kind: MetricKind, key: Key) -> Result<bool, Memory>
-        ensures next { IsKnown self.old → IfOk result (λ taken. MatchBool taken
-            (IsNext (script_so_far self.old) (text.Setup (text.Register kind key)) (script_so_far self.new) × IsKnown self.new)
-            ((new : text.ScriptText) → ¬ IsNext (script_so_far self.old) (text.Setup (text.Register kind key)) new)) }
+        ensures next { IsKnown self.old → IfOk result (Takes self.old self.new (text.Setup (text.Register kind key))) }
     {
         let Some(round) = self.rounds.last_mut() else {
             return Ok(false);
@@ -142,9 +118,7 @@ impl Progress {
 
     /// The last round calls, if it may.
     fn call(&mut self, call: CallLine) -> Result<bool, Memory>
-        ensures next { IsKnown self.old → IfOk result (λ taken. MatchBool taken
-            (IsNext (script_so_far self.old) (text.CallOf (call_line_of call)) (script_so_far self.new) × IsKnown self.new)
-            ((new : text.ScriptText) → ¬ IsNext (script_so_far self.old) (text.CallOf (call_line_of call)) new)) }
+        ensures next { IsKnown self.old → IfOk result (Takes self.old self.new (text.CallOf (call_line_of call))) }
     {
         if !self.has_handle(&call) {
             return Ok(false);

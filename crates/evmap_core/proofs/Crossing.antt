@@ -14,7 +14,7 @@ use Rattle.left_right.proofs.reader.Reader.TheSendSync as reader
 use Rattle.left_right.proofs.reader.Factory.TheSendSync as factory
 use Rattle.evmap_core.specs.declared.published.Published.{Published}
 use Rattle.evmap_core.specs.declared.store.Store as declared
-use Rattle.evmap_core.specs.declared.view.View as view
+use Rattle.evmap_core.specs.declared.known_fronts.KnownFronts as known_fronts
 use Rattle.evmap_core.specs.contracts.store.Store as Store
 use Rattle.evmap_core.specs.contracts.factory.ReadHandleFactory as Factory
 use Rattle.evmap_core.specs.contracts.reader.ReadHandle as Handle
@@ -23,7 +23,7 @@ module _ (K V M P S L H : RattleType) (hash : Hash.Ghosts K.Denot) (eq : Partial
   pub Store-sync : IsSync K → IsSend V → IsSync V → IsSend M → IsSync M → IsSync S → IsSync (Store.the_row K V M P S L H hash eq whole same hashes build hasher)
   Store-sync ky vs vy ms my sy = declared_sync (Store.the_type K V M P S L H hash eq whole same hashes build hasher) (search (sendable, inner.the_sync) depth 20, (search (sendable, crosses) depth 20, (search (sendable, crosses) depth 20, tt)))
 
-  module _ (rule : Protocol.Ghosts Published (declared.Store K.Denot V.Denot M.Denot P.Denot S.Denot L.Denot H.Denot) (view.View L.Denot V.Denot M.Denot P.Denot)) where
+  module _ (rule : Protocol.Ghosts Published (declared.Store K.Denot V.Denot M.Denot P.Denot S.Denot L.Denot H.Denot) (known_fronts.KnownFronts L.Denot V.Denot M.Denot P.Denot)) where
     pub Factory-send : IsSync K → IsSend V → IsSync V → IsSend M → IsSync M → IsSync S → IsSend (Factory.the_row K V M P S L H hash eq whole same hashes build hasher rule)
     Factory-send ky vs vy ms my sy =
         let s = Store-sync ky vs vy ms my sy in

@@ -1,10 +1,14 @@
 -- What a call answers of the bag of a key.
 use Rattle.std.specs.Prelude.{◌≡◌, ℕ, Bool, Contains, Option, Some, None, slice_get}
-use Rattle.std.specs.Map.{values_of}
+use Rattle.std.specs.Map.{lookup, values_of}
 use Rattle.evmap_contents.specs.declared.write.Contents.{Contents}
 use Rattle.value_bags.specs.declared.bag.Bag.{Bag}
 use Rattle.value_bags.specs.Bags as bags
 use Rattle.value_bags.specs.Bags.{bag_len, times}
+
+-- the bag of a key, where `same` says whether two keys are equal
+abbrev pub bag_under : {L V M : Type 0} → (L → L → Bool) → L → Contents L V M → Option (Bag V)
+bag_under same key c = lookup (same key) c.entries
 
 -- one of the values of the bag, or none where there is no bag or it is empty
 abbrev pub IsOneOf : {V : Type 0} → Option (Bag V) → Option V → Type 0

@@ -1,12 +1,11 @@
 //! What makes readers.
 ghost use Rattle.std.specs.Prelude.{◌≡◌, Some, IfOk, IfErr};
 ghost use Rattle.std.specs.Arc.{arc_value};
-ghost use Rattle.evmap_core.specs.Front.{newcomer};
-ghost use Rattle.evmap_core.specs.Known.{known, table_of};
+ghost use Rattle.evmap_core.specs.Known.{reader_of, map_of, map_of_factory, IsFresh};
 ghost use Rattle.evmap_core.specs.declared.faults.EvmapFault.TheVariants.{NoPlace};
 
 use crate::published::Published;
-use crate::{EvmapFault, ReadHandle, Store, View};
+use crate::{EvmapFault, KnownFronts, ReadHandle, Store};
 use crossbeam_utils::rule::Protocol;
 use evmap_contents::KeyClone;
 use left_right::reader::{Factory, Reader};
@@ -25,9 +24,25 @@ pub struct ReadHandleFactory<
     S: BuildHasher + Drop,
 >
 where
-    Published: Protocol<Store<K, V, M, P, S>, View<K::Plain, V, M, P>>,
+    Published: Protocol<Store<K, V, M, P, S>, KnownFronts<K::Plain, V, M, P>>,
 {
-    pub from: Factory<Store<K, V, M, P, S>, View<K::Plain, V, M, P>, Published>,
+    pub(crate) from: Factory<Store<K, V, M, P, S>, KnownFronts<K::Plain, V, M, P>, Published>,
+}
+
+/// A factory of the same map.
+pub(crate) fn copy_factory<
+    K: KeyClone + Drop,
+    V: Eq + Hash + Drop,
+    M: Drop,
+    P: Keep<V> + Drop,
+    S: BuildHasher + Drop,
+>(
+    from: &Factory<Store<K, V, M, P, S>, KnownFronts<K::Plain, V, M, P>, Published>,
+) -> Result<ReadHandleFactory<K, V, M, P, S>, AllocError>
+    ensures { IfOk result (λ factory. map_of_factory factory ≡ (arc_value from.now.board).shared.table_id) }
+{
+    let from = from.another()?;
+    Ok(ReadHandleFactory { from })
 }
 
 /// A handle of this reader, which keeps a factory too.
@@ -38,10 +53,11 @@ pub(crate) fn keep_factory<
     P: Keep<V> + Drop,
     S: BuildHasher + Drop,
 >(
-    from: &Factory<Store<K, V, M, P, S>, View<K::Plain, V, M, P>, Published>,
-    reader: Reader<Store<K, V, M, P, S>, View<K::Plain, V, M, P>, Published>,
+    from: &Factory<Store<K, V, M, P, S>, KnownFronts<K::Plain, V, M, P>, Published>,
+    reader: Reader<Store<K, V, M, P, S>, KnownFronts<K::Plain, V, M, P>, Published>,
 ) -> Result<ReadHandle<K, V, M, P, S>, AllocError>
-    ensures { IfOk result (λ handle. (handle.reader ≡ Some reader) × (table_of handle.factory ≡ (arc_value from.now.board).shared.table_id)) }
+    ensures { IfOk result (λ handle. (reader_of handle ≡ Some reader)
+        × (map_of handle ≡ (arc_value from.now.board).shared.table_id)) }
 {
     let factory = ReadHandleFactory {
         from: from.another()?,
@@ -60,9 +76,9 @@ pub(crate) fn make_reader<
     P: Keep<V> + Drop,
     S: BuildHasher + Drop,
 >(
-    from: &Factory<Store<K, V, M, P, S>, View<K::Plain, V, M, P>, Published>,
+    from: &Factory<Store<K, V, M, P, S>, KnownFronts<K::Plain, V, M, P>, Published>,
 ) -> Result<ReadHandle<K, V, M, P, S>, AllocError>
-    ensures { IfOk result (λ handle. (known handle ≡ Some newcomer) × (table_of handle.factory ≡ (arc_value from.now.board).shared.table_id)) }
+    ensures { IfOk result (λ handle. IsFresh handle (arc_value from.now.board).shared.table_id) }
 {
     let reader = from.reader()?;
     keep_factory(from, reader)
@@ -75,12 +91,9 @@ impl<
     P: Keep<V> + Drop,
     S: BuildHasher + Drop,
 > ReadHandleFactory<K, V, M, P, S> {
-    ghost use Rattle.evmap_core.specs.Known.{IsOfOneMap};
-
     /// A new reader, which knows nothing yet.
     pub fn handle(&self) -> Result<ReadHandle<K, V, M, P, S>, EvmapFault>
-        ensures reader { IfOk result (λ handle. known handle ≡ Some newcomer) }
-        ensures map { IfOk result (λ handle. IsOfOneMap handle.factory self.now) }
+        ensures reader { IfOk result (λ handle. IsFresh handle (map_of_factory self.now)) }
         ensures err { IfErr result (λ e. e ≡ NoPlace) }
     {
         match make_reader(&self.from) {
@@ -91,10 +104,10 @@ impl<
 
     /// Another factory of the same map.
     pub fn clone(&self) -> Result<ReadHandleFactory<K, V, M, P, S>, Memory>
-        ensures map { IfOk result (λ factory. IsOfOneMap factory self.now) }
+        ensures map { IfOk result (λ factory. map_of_factory factory ≡ map_of_factory self.now) }
     {
-        match self.from.another() {
-            Ok(from) => Ok(ReadHandleFactory { from }),
+        match copy_factory(&self.from) {
+            Ok(factory) => Ok(factory),
             Err(_) => Err(Memory),
         }
     }

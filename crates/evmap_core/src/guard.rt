@@ -1,18 +1,17 @@
 //! The guard of a reader, which reads one front for as long as it lives.
 ghost use Rattle.std.specs.Prelude.{◌≡◌, ◌<◌, ◌↔◌, Some, length, is_some, nat_eq, IsTrue};
-ghost use Rattle.std.specs.Map.{lookup};
 ghost use Rattle.std.specs.Map.Iter.{ShowsInOrder, deref, deref_pair};
 ghost use Rattle.indexmap.specs.IndexMap.{keys, values};
 ghost use Rattle.value_bags.specs.declared.bag.Bag.{Bag};
 ghost use Rattle.value_bags.specs.Entries.{with_keys};
 ghost use Rattle.std.specs.Option.{option_copied};
 ghost use Rattle.left_right.specs.Sides.{view};
-ghost use Rattle.evmap_contents.specs.Views.{contents};
-ghost use Rattle.evmap_core.specs.Asked.{IsOneOf, times_at, bag_at};
+ghost use Rattle.evmap_core.specs.Asked.{IsOneOf, bag_under, times_at, bag_at};
+ghost use Rattle.evmap_core.specs.Guards.{map_shown_by, place_of, reading_of, shown_by};
 
 use crate::published::Published;
 use crate::reader::put_back;
-use crate::{ReadHandle, Store, View};
+use crate::{KnownFronts, ReadHandle, Store};
 use crossbeam_utils::rule::Protocol;
 use evmap_contents::KeyClone;
 use indexmap::map::{Iter, Keys, Values as BagsInOrder};
@@ -39,13 +38,15 @@ impl<
     M: Drop,
     P: Keep<V> + Drop,
     S: BuildHasher + Drop,
-> Leaves<Reader<Store<K, V, M, P, S>, View<K::Plain, V, M, P>, Published>, View<K::Plain, V, M, P>>
-    for Reading<Store<K, V, M, P, S>, View<K::Plain, V, M, P>, Published> {
+> Leaves<
+    Reader<Store<K, V, M, P, S>, KnownFronts<K::Plain, V, M, P>, Published>,
+    KnownFronts<K::Plain, V, M, P>,
+> for Reading<Store<K, V, M, P, S>, KnownFronts<K::Plain, V, M, P>, Published> {
     ghost last = { λ r. view r.place };
 
     ghost shows = { λ v r. view r.place ≡ v };
 
-    fn go(self) -> Reader<Store<K, V, M, P, S>, View<K::Plain, V, M, P>, Published> {
+    fn go(self) -> Reader<Store<K, V, M, P, S>, KnownFronts<K::Plain, V, M, P>, Published> {
         self.leave()
     }
 }
@@ -65,27 +66,32 @@ impl<
     M: Drop,
     P: Keep<V> + Drop,
     S: BuildHasher + Drop,
-> Home<Reader<Store<K, V, M, P, S>, View<K::Plain, V, M, P>, Published>>
+> Home<Reader<Store<K, V, M, P, S>, KnownFronts<K::Plain, V, M, P>, Published>>
     for ReadHandle<K, V, M, P, S> {
-    ghost has = { λ h r. h.reader ≡ Some r };
+    ghost use Rattle.evmap_core.specs.Known.{reader_of};
 
-    fn put(&mut self, reader: Reader<Store<K, V, M, P, S>, View<K::Plain, V, M, P>, Published>) {
+    ghost has = { λ h r. reader_of h ≡ Some r };
+
+    fn put(
+        &mut self,
+        reader: Reader<Store<K, V, M, P, S>, KnownFronts<K::Plain, V, M, P>, Published>,
+    ) {
         put_back(&mut self.reader, Some(reader));
     }
 }
 
 /// A reading whose reader goes back when it ends.
 pub struct Guard<'a, H: Home<R>, R, X, G: Leaves<R, X>, A> {
-    pub home: &'a mut H,
-    pub reading: G,
+    pub(crate) home: &'a mut H,
+    pub(crate) reading: G,
     /// What is looked at: nothing more, or the place of a key.
-    pub at: A,
-    pub of: PhantomData<(R, X)>,
+    pub(crate) at: A,
+    pub(crate) of: PhantomData<(R, X)>,
 }
 
 impl<H: Home<R>, R, X, G: Leaves<R, X>, A: Drop> Drop for Guard<'_, H, R, X, G, A> {
     fn drop(self)
-        ensures { (r : R) × H.has self.exit.0.now r × G.shows (G.last self.entry.reading) r }
+        ensures { (r : R) × H.has self.exit.0.now r × G.shows (G.last (reading_of self.entry)) r }
     {
         let Self {
             home,
@@ -101,9 +107,9 @@ impl<H: Home<R>, R, X, G: Leaves<R, X>, A: Drop> Drop for Guard<'_, H, R, X, G, 
 pub type MapReadRef<'a, K, V, M, P, S> = Guard<
     'a,
     ReadHandle<K, V, M, P, S>,
-    Reader<Store<K, V, M, P, S>, View<<K as KeyClone>::Plain, V, M, P>, Published>,
-    View<<K as KeyClone>::Plain, V, M, P>,
-    Reading<Store<K, V, M, P, S>, View<<K as KeyClone>::Plain, V, M, P>, Published>,
+    Reader<Store<K, V, M, P, S>, KnownFronts<<K as KeyClone>::Plain, V, M, P>, Published>,
+    KnownFronts<<K as KeyClone>::Plain, V, M, P>,
+    Reading<Store<K, V, M, P, S>, KnownFronts<<K as KeyClone>::Plain, V, M, P>, Published>,
     (),
 >;
 
@@ -111,9 +117,9 @@ pub type MapReadRef<'a, K, V, M, P, S> = Guard<
 pub type EntryRef<'a, K, V, M, P, S> = Guard<
     'a,
     ReadHandle<K, V, M, P, S>,
-    Reader<Store<K, V, M, P, S>, View<<K as KeyClone>::Plain, V, M, P>, Published>,
-    View<<K as KeyClone>::Plain, V, M, P>,
-    Reading<Store<K, V, M, P, S>, View<<K as KeyClone>::Plain, V, M, P>, Published>,
+    Reader<Store<K, V, M, P, S>, KnownFronts<<K as KeyClone>::Plain, V, M, P>, Published>,
+    KnownFronts<<K as KeyClone>::Plain, V, M, P>,
+    Reading<Store<K, V, M, P, S>, KnownFronts<<K as KeyClone>::Plain, V, M, P>, Published>,
     Option<usize>,
 >;
 
@@ -126,63 +132,64 @@ impl<
 > Guard<
     '_,
     ReadHandle<K, V, M, P, S>,
-    Reader<Store<K, V, M, P, S>, View<K::Plain, V, M, P>, Published>,
-    View<K::Plain, V, M, P>,
-    Reading<Store<K, V, M, P, S>, View<K::Plain, V, M, P>, Published>,
+    Reader<Store<K, V, M, P, S>, KnownFronts<K::Plain, V, M, P>, Published>,
+    KnownFronts<K::Plain, V, M, P>,
+    Reading<Store<K, V, M, P, S>, KnownFronts<K::Plain, V, M, P>, Published>,
     (),
 > {
     /// How many keys there are.
     pub fn len(&self) -> usize
-        ensures { result ≡ length (contents K.plain self.now.reading.part.value.inner).entries }
+        ensures { result ≡ length (shown_by K.plain self.now).entries }
     {
         self.reading.get().len()
     }
 
     /// Whether there is no key.
     pub fn is_empty(&self) -> bool
-        ensures { result ≡ nat_eq (length (contents K.plain self.now.reading.part.value.inner).entries) 0 }
+        ensures { result ≡ nat_eq (length (shown_by K.plain self.now).entries) 0 }
     {
         self.len() == 0
     }
 
     /// The meta.
     pub fn meta(&self) -> &M
-        ensures { result.now ≡ (contents K.plain self.now.reading.part.value.inner).meta }
+        ensures { result.now ≡ (shown_by K.plain self.now).meta }
     {
         self.reading.get().meta()
     }
 
     /// The bag of a key.
     pub fn get(&self, key: &K) -> Option<&Values<V>>
-        ensures { option_copied result ≡ lookup (K.same (K.plain key.now)) (contents K.plain self.now.reading.part.value.inner).entries }
+        ensures { option_copied result ≡ bag_under K.same (K.plain key.now) (shown_by K.plain self.now) }
     {
         self.reading.get().get(key)
     }
 
     /// One value of the bag of a key. `None` where there is no such key, or its bag is empty.
     pub fn get_one(&self, key: &K) -> Option<&V>
-        ensures { IsOneOf (lookup (K.same (K.plain key.now)) (contents K.plain self.now.reading.part.value.inner).entries) (option_copied result) }
+        ensures { IsOneOf (bag_under K.same (K.plain key.now) (shown_by K.plain self.now)) (option_copied result) }
     {
         self.reading.get().get_one(key)
     }
 
     /// Whether a key is there.
     pub fn contains_key(&self, key: &K) -> bool
-        ensures { result ≡ is_some (lookup (K.same (K.plain key.now)) (contents K.plain self.now.reading.part.value.inner).entries) }
+        ensures { result ≡ is_some (bag_under K.same (K.plain key.now) (shown_by K.plain self.now)) }
     {
         self.reading.get().contains_key(key)
     }
 
     /// Whether a value is in the bag of a key.
     pub fn contains_value(&self, key: &K, value: &V) -> bool
-        ensures { IsTrue result ↔ (0 < times_at V.eq (lookup (K.same (K.plain key.now)) (contents K.plain self.now.reading.part.value.inner).entries) value.now) }
+        ensures { IsTrue result
+            ↔ (0 < times_at V.eq (bag_under K.same (K.plain key.now) (shown_by K.plain self.now)) value.now) }
     {
         self.reading.get().contains_value(key, value)
     }
 
     /// The keys with their bags, in order.
     pub fn iter(&self) -> Iter<'_, K, Values<V>>
-        ensures rest { with_keys K.plain result ≡ (contents K.plain self.now.reading.part.value.inner).entries }
+        ensures rest { with_keys K.plain result ≡ (shown_by K.plain self.now).entries }
         ensures runs { ShowsInOrder (deref_pair {K = K} {X = Bag V}) }
     {
         self.reading.get().inner.map.iter()
@@ -190,7 +197,7 @@ impl<
 
     /// The keys, in order.
     pub fn keys(&self) -> Keys<'_, K, Values<V>>
-        ensures rest { result ≡ keys self.now.reading.part.value.inner.map }
+        ensures rest { result ≡ keys (map_shown_by self.now) }
         ensures runs { ShowsInOrder (deref {X = K}) }
     {
         self.reading.get().inner.map.keys()
@@ -198,7 +205,7 @@ impl<
 
     /// The bags, in the order of their keys.
     pub fn values(&self) -> BagsInOrder<'_, K, Values<V>>
-        ensures rest { result ≡ values self.now.reading.part.value.inner.map }
+        ensures rest { result ≡ values (map_shown_by self.now) }
         ensures runs { ShowsInOrder (deref {X = Bag V}) }
     {
         self.reading.get().inner.map.values()
@@ -214,21 +221,21 @@ impl<
 > Guard<
     '_,
     ReadHandle<K, V, M, P, S>,
-    Reader<Store<K, V, M, P, S>, View<K::Plain, V, M, P>, Published>,
-    View<K::Plain, V, M, P>,
-    Reading<Store<K, V, M, P, S>, View<K::Plain, V, M, P>, Published>,
+    Reader<Store<K, V, M, P, S>, KnownFronts<K::Plain, V, M, P>, Published>,
+    KnownFronts<K::Plain, V, M, P>,
+    Reading<Store<K, V, M, P, S>, KnownFronts<K::Plain, V, M, P>, Published>,
     Option<usize>,
 > {
     /// The bag of the key. `None` where the key isn't there, or the meta alone was asked for.
     pub fn values(&self) -> Option<&Values<V>>
-        ensures { option_copied result ≡ bag_at (contents K.plain self.now.reading.part.value.inner) self.now.at }
+        ensures { option_copied result ≡ bag_at (shown_by K.plain self.now) (place_of self.now) }
     {
         self.reading.get().bag_at(self.at)
     }
 
     /// The meta.
     pub fn meta(&self) -> &M
-        ensures { result.now ≡ (contents K.plain self.now.reading.part.value.inner).meta }
+        ensures { result.now ≡ (shown_by K.plain self.now).meta }
     {
         self.reading.get().meta()
     }
@@ -246,7 +253,7 @@ impl<
 
     type IntoIter = Iter<'a, K, Values<V>>;
 
-    ghost into_iter_gives = { λ guard rest. with_keys K.plain rest ≡ (contents K.plain guard.now.reading.part.value.inner).entries };
+    ghost into_iter_gives = { λ guard rest. with_keys K.plain rest ≡ (shown_by K.plain guard.now).entries };
 
     fn into_iter(self) -> Iter<'a, K, Values<V>> {
         self.iter()

@@ -1,9 +1,8 @@
 //! How a map is made.
-ghost use Rattle.std.specs.Prelude.{◌≡◌, ◌<◌, Some, IfOk, IfErr};
+ghost use Rattle.std.specs.Prelude.{◌≡◌, ◌<◌, IfOk, IfErr};
 ghost use Rattle.evmap_core.specs.declared.faults.EvmapFault.TheVariants as faults;
-ghost use Rattle.evmap_core.specs.Front.{newcomer};
-ghost use Rattle.evmap_core.specs.Handles.{IsNew, IsReaderOf};
-ghost use Rattle.evmap_core.specs.Known.{known};
+ghost use Rattle.evmap_core.specs.Handles.{IsNew, map_of_writer};
+ghost use Rattle.evmap_core.specs.Known.{IsFresh};
 
 use crate::{EvmapFault, ReadHandle, WriteHandle};
 use evmap_contents::KeyClone;
@@ -101,7 +100,7 @@ impl<M: Drop, S: Drop> Options<M, S> {
     ) -> Result<(WriteHandle<K, V, M, P, S>, ReadHandle<K, V, M, P, S>), EvmapFault>
     where
         S: BuildHasher + Clone,
-        ensures made { IfOk result (λ t. IsNew K.plain t.0 self.meta × (known t.1 ≡ Some newcomer) × IsReaderOf t.0 t.1) }
+        ensures made { IfOk result (λ t. IsNew K.plain t.0 self.meta self.capacity × IsFresh t.1 (map_of_writer t.0)) }
         ensures err { IfErr result (λ e. e ≡ faults.Memory) }
     {
         let Ok(second) = self.hasher.clone() else {
@@ -123,7 +122,7 @@ impl<M: Drop, S: Drop> Options<M, S> {
     ) -> Result<(WriteHandle<K, V, M, P, S>, ReadHandle<K, V, M, P, S>), EvmapFault>
     where
         S: BuildHasher + Clone,
-        ensures made { IfOk result (λ t. IsNew K.plain t.0 self.meta × (known t.1 ≡ Some newcomer) × IsReaderOf t.0 t.1) }
+        ensures made { IfOk result (λ t. IsNew K.plain t.0 self.meta self.capacity × IsFresh t.1 (map_of_writer t.0)) }
         ensures err { IfErr result (λ e. e ≡ faults.Memory) }
     {
         self.construct(rt, alloc)
@@ -141,7 +140,7 @@ pub fn new<K: KeyClone + Drop, V: Eq + Hash + Drop, P: Keep<V> + Drop, R: Wait>(
     ),
     EvmapFault,
 >
-    ensures made { IfOk result (λ t. IsNew K.plain t.0 tt × (known t.1 ≡ Some newcomer) × IsReaderOf t.0 t.1) }
+    ensures made { IfOk result (λ t. IsNew K.plain t.0 tt 0 × IsFresh t.1 (map_of_writer t.0)) }
     ensures err { IfErr result (λ e. e ≡ faults.Memory) }
 {
     Options::default().construct(rt, alloc)
@@ -158,7 +157,7 @@ pub fn new_assert_stable<K: KeyClone + Drop, V: Eq + Hash + Drop, P: Keep<V> + D
     ),
     EvmapFault,
 >
-    ensures made { IfOk result (λ t. IsNew K.plain t.0 tt × (known t.1 ≡ Some newcomer) × IsReaderOf t.0 t.1) }
+    ensures made { IfOk result (λ t. IsNew K.plain t.0 tt 0 × IsFresh t.1 (map_of_writer t.0)) }
     ensures err { IfErr result (λ e. e ≡ faults.Memory) }
 {
     new(rt, alloc)
@@ -178,7 +177,7 @@ pub fn with_hasher<
     meta: M,
     hasher: S,
 ) -> Result<(WriteHandle<K, V, M, P, S>, ReadHandle<K, V, M, P, S>), EvmapFault>
-    ensures made { IfOk result (λ t. IsNew K.plain t.0 meta × (known t.1 ≡ Some newcomer) × IsReaderOf t.0 t.1) }
+    ensures made { IfOk result (λ t. IsNew K.plain t.0 meta 0 × IsFresh t.1 (map_of_writer t.0)) }
     ensures err { IfErr result (λ e. e ≡ faults.Memory) }
 {
     Options::default()

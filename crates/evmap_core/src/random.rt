@@ -4,7 +4,7 @@ ghost use Rattle.evmap_contents.specs.Fold.{after};
 ghost use Rattle.evmap_core.specs.Marked.{ArePlaces, entries_at};
 
 use crate::published::Published;
-use crate::{Emptied, Store, View, WriteHandle};
+use crate::{Emptied, KnownFronts, Store, WriteHandle};
 use crossbeam_utils::rule::Protocol;
 use evmap_contents::{KeyClone, Write};
 use metrics_core::Memory;
@@ -53,9 +53,9 @@ impl<
     ghost use Rattle.value_bags.specs.Entries.{with_keys};
     ghost use Rattle.evmap_contents.specs.declared.write.Write.TheVariants.{RemovePlaces};
     ghost use Rattle.evmap_core.specs.Left.{entries_left};
-    ghost use Rattle.evmap_core.specs.Handles.{shown, front, Publishes, Stays, Marks};
     ghost use Rattle.evmap_core.specs.contracts.store.CopyState.{the_row as state_row};
     ghost use Rattle.evmap_core.specs.contracts.writer.WriteHandle.{the_row};
+    ghost use Rattle.evmap_core.specs.Handles.{shown, front, Publishes, Stays, Marks};
 
     // Publishes, and marks keys at random for removal.
     fn mark_random<R: Rng, W: Wait>(
@@ -65,7 +65,9 @@ impl<
         asked: usize,
     ) -> Result<(), Memory>
         ensures { MatchResult result
-            (λ _. ArePlaces (length (front K.plain (after K.same V.eq P.keeps) self.new).entries) asked self.new.marked.items × Publishes K.plain self.old self.new (RemovePlaces (reverse self.new.marked.items) ∷ []))
+            (λ _. ArePlaces (length (front K.plain (after K.same V.eq P.keeps) self.new).entries) asked
+            self.new.marked.items
+            × Publishes K.plain self.old self.new (RemovePlaces (reverse self.new.marked.items) ∷ []))
             (λ _. Stays self.old self.new ⊎ Publishes K.plain self.old self.new []) }
     {
         self.publish(rt)?;
@@ -93,8 +95,13 @@ impl<
         rng: &mut R,
         asked: usize,
     ) -> Result<Emptied<'_, K, V, S>, Memory>
-        ensures* rests { sem 𝓛 (Rests (the_row K.row V.row M.row P.row S.row K.Plain.row S.Hasher.row (state_row K.Plain.row V.row M.row P.row) _ _ _ _ _ _ _ _ _ _ ⟦<Published as Protocol<Store<K, V, M, P, S>, View<K::Plain, V, M, P>>>⟧) self.entry (λ w. MatchResult result
-            (λ emptied. Marks K.plain (after K.same V.eq P.keeps) asked self.old w (with_keys K.plain (entries_left emptied)))
+        ensures* rests { sem 𝓛 (Rests
+            (the_row K.row V.row M.row P.row S.row K.Plain.row S.Hasher.row
+            (state_row K.Plain.row V.row M.row P.row) _ _ _ _ _ _ _ _ _ _
+            ⟦<Published as Protocol<Store<K, V, M, P, S>, KnownFronts<K::Plain, V, M, P>>>⟧)
+            self.entry (λ w. MatchResult result
+            (λ emptied. Marks K.plain (after K.same V.eq P.keeps) asked self.old w
+            (with_keys K.plain (entries_left emptied)))
             (λ _. Stays self.old w ⊎ Publishes K.plain self.old w []))) }
     {
         self.mark_random(rt, rng, asked)?;

@@ -2,3 +2,4 @@ pub mod Sitting
 pub mod Alike
 pub mod Turns
 pub mod Histories
+pub mod Flushes

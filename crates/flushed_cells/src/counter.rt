@@ -8,7 +8,7 @@ ghost use Rattle.flushed_cells.specs.Counters.{CounterStep, counter_start, answe
 use crate::counter_calls::{CounterCall, CounterChange};
 use crate::counter_state::CounterState;
 use crate::pass::DsdPass;
-use crate::rule::{Lends, Moves, Peeks};
+use crate::rule::{Loan, Moves, Peeks};
 use crossbeam_utils::atomic::seq_cell::{Pass, RuledSeqCell};
 use crossbeam_utils::rule::{Outcome, Protocol};
 use legal_history::history::View;
@@ -135,7 +135,7 @@ impl DsdCounter {
         ensures lent { IfOk result (λ lent. IsCounterPass self.now lent × (view_of lent ≡ child (view_of pass.old)) × (view_of pass.new ≡ lender (view_of pass.old))) }
         ensures refused { OnErr result (view_of pass.new ≡ view_of pass.old) }
     {
-        let seat = self.cell.split_pass::<Lends>(&mut pass.seat);
+        let seat = self.cell.split_pass::<Loan>(&mut pass.seat);
         Ok(DsdPass { seat, root: false })
     }
 
@@ -148,7 +148,7 @@ impl DsdCounter {
     {
         let DsdPass { mut seat, root: _ } = child;
         let fresh = self.cell.split_pass::<Moves>(&mut seat);
-        self.cell.join_pass::<Lends>(&mut pass.seat, fresh);
+        self.cell.join_pass::<Loan>(&mut pass.seat, fresh);
     }
 
     /// With no other pass out, the root has seen the whole history and knows whose each call is. This makes sure of it, and

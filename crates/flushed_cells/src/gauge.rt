@@ -8,7 +8,7 @@ ghost use Rattle.flushed_cells.specs.Gauges.{GaugeStep, gauge_start, answered};
 use crate::gauge_calls::{GaugeCall, GaugeChange};
 use crate::gauge_state::GaugeState;
 use crate::pass::DsdPass;
-use crate::rule::{Lends, Moves, Peeks};
+use crate::rule::{Loan, Moves, Peeks};
 use crossbeam_utils::atomic::seq_cell::{Pass, RuledSeqCell};
 use crossbeam_utils::rule::{Outcome, Protocol};
 use legal_history::history::View;
@@ -153,7 +153,7 @@ impl DsdGauge {
         ensures lent { IfOk result (λ lent. IsGaugePass self.now lent × (view_of lent ≡ child (view_of pass.old)) × (view_of pass.new ≡ lender (view_of pass.old))) }
         ensures refused { OnErr result (view_of pass.new ≡ view_of pass.old) }
     {
-        let seat = self.cell.split_pass::<Lends>(&mut pass.seat);
+        let seat = self.cell.split_pass::<Loan>(&mut pass.seat);
         Ok(DsdPass { seat, root: false })
     }
 
@@ -166,7 +166,7 @@ impl DsdGauge {
     {
         let DsdPass { mut seat, root: _ } = child;
         let fresh = self.cell.split_pass::<Moves>(&mut seat);
-        self.cell.join_pass::<Lends>(&mut pass.seat, fresh);
+        self.cell.join_pass::<Loan>(&mut pass.seat, fresh);
     }
 
     /// With no other pass out, the root has seen the whole history and knows whose each call is. This makes sure of it, and

@@ -4,7 +4,7 @@
 //! how many updates there were, both of one point. A call may try again where another came between, so it takes the
 //! runtime. A caller has a pass of the cell. The calls of all passes, flushes with their answers, stand in one history
 //! (`legal_history`), in which each flush answers what a cell of one thread answers there (`specs/Counters.antt`,
-//! `specs/Gauges.antt`).
+//! `specs/Gauges.antt`). A state keeps a cell, and lends it, as an `OwnedCell` of `cell_lanes`.
 //!
 //! A counter, a call, and what is then to be sent:
 //!
@@ -15,28 +15,21 @@
 
 mod counter;
 mod counter_calls;
-mod counter_series;
 mod counter_state;
 mod gauge;
 mod gauge_calls;
-mod gauge_series;
 mod gauge_state;
 pub mod laws;
-mod lent_counter;
-mod lent_gauge;
 mod pass;
 mod rounds;
 mod rule;
+mod shared;
 
 pub use counter::{CounterPass, DsdCounter};
 pub use counter_calls::{CounterCall, CounterChange};
-pub use counter_series::DsdCounterSeries;
 pub use counter_state::{CounterMode, CounterState};
 pub use gauge::{DsdGauge, GaugePass};
 pub use gauge_calls::{GaugeCall, GaugeChange};
-pub use gauge_series::DsdGaugeSeries;
 pub use gauge_state::GaugeState;
-pub use lent_counter::LentDsdCounter;
-pub use lent_gauge::LentDsdGauge;
 pub use pass::DsdPass;
 pub use rounds::{run_counters, run_gauges};

@@ -5,9 +5,9 @@ use crossbeam_utils::rule::Outcome;
 use legal_history::history::View;
 
 /// A pass is lent, or given back.
-pub struct Lends;
+pub struct Loan;
 
-impl<C> Split<View<C>> for Lends {
+impl<C> Split<View<C>> for Loan {
     ghost use Rattle.legal_history.specs.History.{lender, child};
 
     ghost left = { lender };
@@ -15,7 +15,7 @@ impl<C> Split<View<C>> for Lends {
     ghost right = { child };
 }
 
-impl<C> Join<View<C>> for Lends {
+impl<C> Join<View<C>> for Loan {
     ghost use Rattle.legal_history.specs.History.{taker, nobody};
 
     ghost both = { taker };

@@ -8,7 +8,7 @@ use Rattle.legal_history.specs.declared.history.Held.{Held}
 use Rattle.legal_history.specs.declared.history.View.{View}
 use Rattle.legal_history.specs.History.{In, Joined, Among, after, held, said, taker, calls_by, numbers, Settled, Sees}
 use Rattle.legal_history.specs.Places.{or_if, has, place_if, places_from, places, run_of, Ascend}
-use Rattle.legal_history.proofs.Fronts.{prefix_length, prefix_trans}
+use Rattle.legal_history.proofs.Prefixes.{prefix_length, prefix_trans}
 use Rattle.legal_history.proofs.Lists.{none_added, between}
 use Rattle.legal_history.proofs.Steps.{joined_held}
 use Rattle.legal_history.proofs.Orders.{keep_none, not_kept}

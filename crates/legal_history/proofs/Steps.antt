@@ -13,7 +13,7 @@ use Rattle.legal_history.specs.declared.history.Entry.{Entry}
 use Rattle.legal_history.specs.declared.history.Held.{Held}
 use Rattle.legal_history.specs.declared.history.View.{View}
 use Rattle.legal_history.specs.History.{In, without, keep_unless, held, keep, calls_by, said, Among, Joined, numbers, Distinct, first, nobody, after, looked, lender, child, longer, taker, Fits, Returned, IsRoot, Owned, Legal, Settled, Sees}
-use Rattle.legal_history.proofs.Fronts.{prefix_self, prefix_trans}
+use Rattle.legal_history.proofs.Prefixes.{prefix_self, prefix_trans}
 use Rattle.legal_history.proofs.Lists.{calls_by-append, none_before, between}
 
 pub some_below : {A : Type 0} (l : List A) (i : ℕ) (a : A) → get_elem? l i ≡ some a → i < length l

@@ -12,7 +12,7 @@ pub enum SeriesCall {
     /// Adds to a gauge; the sum wraps in 64 bits.
     Add(Fixed),
     /// Subtracts from a gauge; the difference wraps in 64 bits.
-    Sub(Fixed),
+    Subtract(Fixed),
     /// Sets a gauge.
     Set(Fixed),
 }

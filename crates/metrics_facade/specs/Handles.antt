@@ -1,6 +1,7 @@
 -- What a call on a handle needs and does.
-use Rattle.std.specs.Prelude.{◌≡◌, Option, Some, None, Result, Ok, Err}
+use Rattle.std.specs.Prelude.{◌≡◌, ℤ, Option, Some, None, Result, Ok, Err, option_map}
 use Rattle.metrics_core.specs.Calls.{Call}
+use Rattle.metrics_core.specs.declared.numbers.Fixed.{Fixed as FixedOf}
 use Rattle.metrics_facade.specs.declared.faults.OutOfRange.{OutOfRange}
 use Rattle.metrics_facade.specs.declared.faults.RecordFault.{RecordFault}
 use Rattle.metrics_facade.specs.declared.faults.RecordFault.TheVariants as fault
@@ -14,6 +15,10 @@ Fits is_pass (Some cell) pass = is_pass cell pass
 abbrev pub Stands : {F P : Type 0} → (F → P → Type 0) → (F → P → Call → P → Type 0) → Option F → P → Call → P → Type 0
 Stands is_pass may_follow None before call after = after ≡ before
 Stands is_pass may_follow (Some cell) before call after = is_pass cell after × may_follow cell before call after
+
+-- the call with a value, where there is a value in range
+abbrev pub called : (ℤ → Call) → Option FixedOf → Option Call
+called call value = option_map (λ v. call v.0) value
 
 -- a call with a value in range is made; without one it is refused, and the pass is as before
 abbrev pub Tells : {F P : Type 0} → (F → P → Type 0) → (F → P → Call → P → Type 0) → Option F → P → P → Option Call → Result (Unit {0}) OutOfRange → Type 0

@@ -1,6 +1,7 @@
 -- What a guard of a scope shows, what a scope is after its guard's end, and which recorder is the current one.
 use Rattle.std.specs.Prelude.{◌≡◌, ⊤, [], Option, Some, None}
-use Rattle.std.specs.Borrow.{MutBor, follows_so, Fml, RattleType}
+use Rattle.std.specs.Borrow.{Bor, MutBor, follows_so, Fml, RattleType}
+use Rattle.once_cell.specs.Once.{Agrees}
 use Rattle.metrics_facade.specs.declared.scope.LocalRecorderGuard.{LocalRecorderGuard}
 use Rattle.metrics_facade.specs.declared.scope.Current.{Current}
 use Rattle.metrics_facade.specs.declared.scope.Current.TheVariants.{Local, Global, Noop}
@@ -25,3 +26,9 @@ IsCurrent (Some local) global (Local recorder) = recorder.now ≡ local
 IsCurrent None (Some global) (Global recorder) = recorder.now ≡ global
 IsCurrent None None Noop = Unit {0}
 IsCurrent _ _ _ = ⊥
+
+-- a look at a cell finds nothing where the note knew nothing, and then knows nothing; what it finds the note then knows,
+-- and it is what the note knew before
+abbrev pub Loads : {R : Type 0} → Option R → Option R → Option (Bor R) → Type 0
+Loads before after None = (before ≡ None) × (after ≡ None)
+Loads before after (Some recorder) = (after ≡ Some recorder.now) × Agrees before recorder.now

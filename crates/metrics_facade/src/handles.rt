@@ -3,13 +3,24 @@
 ghost use Rattle.std.specs.Prelude.{◌≡◌, Some, None, IfOk, IsOk, option_map};
 ghost use Rattle.std.specs.Arc.{arc_value};
 ghost use Rattle.metrics_core.specs.Calls.{Increment, Absolute, Add, Subtract, Set, Record};
-ghost use Rattle.metrics_facade.specs.Handles.{Fits, Stands, Tells, Records};
+ghost use Rattle.metrics_facade.specs.Handles.{Fits, Stands, Tells, Records, called};
 
 use crate::{CounterFn, GaugeFn, HistogramFn, OutOfRange, RecordFault};
 use metrics_core::{IntoFixed, Memory};
 use std::alloc::Global;
 use std::marker::Model;
 use std::sync::{Arc, Wait};
+
+/// The same cell, where there is one.
+fn shared<F: Drop>(cell: &Option<Arc<F>>) -> Result<Option<Arc<F>>, Memory>
+    ensures same { IfOk result (λ copy. option_map arc_value copy ≡ option_map arc_value cell.now) }
+    ensures no_memory { option_map arc_value cell.now ≡ None → IsOk result }
+{
+    match cell {
+        Some(cell) => Ok(Some(Arc::try_clone(cell)?)),
+        None => Ok(None),
+    }
+}
 
 /// A handle of a counter. Contracts see it as its cell, or as nothing.
 #[derive(Drop)]
@@ -48,12 +59,9 @@ impl<F: Drop> Counter<F> {
         ensures same { IfOk result (λ copy. copy ≡ self.now) }
         ensures no_memory { self.now ≡ None → IsOk result }
     {
-        match &self.cell {
-            Some(cell) => Ok(Counter {
-                cell: Some(Arc::try_clone(cell)?),
-            }),
-            None => Ok(Counter { cell: None }),
-        }
+        Ok(Counter {
+            cell: shared(&self.cell)?,
+        })
     }
 }
 
@@ -124,12 +132,9 @@ impl<F: Drop> Gauge<F> {
         ensures same { IfOk result (λ copy. copy ≡ self.now) }
         ensures no_memory { self.now ≡ None → IsOk result }
     {
-        match &self.cell {
-            Some(cell) => Ok(Gauge {
-                cell: Some(Arc::try_clone(cell)?),
-            }),
-            None => Ok(Gauge { cell: None }),
-        }
+        Ok(Gauge {
+            cell: shared(&self.cell)?,
+        })
     }
 }
 
@@ -137,7 +142,7 @@ impl<F: GaugeFn> Gauge<F> {
     /// Adds to the gauge, modulo 2^64 billionths. A value out of range is refused, and changes nothing.
     pub fn increment<T: IntoFixed>(&self, pass: &mut F::Pass, value: T) -> Result<(), OutOfRange>
         requires { Fits F.is_pass self.now pass.old }
-        ensures { Tells F.is_pass F.may_follow self.now pass.old pass.new (option_map (λ v. Add v.0) (T.fixed value)) result }
+        ensures { Tells F.is_pass F.may_follow self.now pass.old pass.new (called Add (T.fixed value)) result }
     {
         let value = value.into_fixed().ok_or(OutOfRange)?;
         if let Some(cell) = &self.cell {
@@ -149,7 +154,7 @@ impl<F: GaugeFn> Gauge<F> {
     /// Takes off the gauge, modulo 2^64 billionths. A value out of range is refused, and changes nothing.
     pub fn decrement<T: IntoFixed>(&self, pass: &mut F::Pass, value: T) -> Result<(), OutOfRange>
         requires { Fits F.is_pass self.now pass.old }
-        ensures { Tells F.is_pass F.may_follow self.now pass.old pass.new (option_map (λ v. Subtract v.0) (T.fixed value)) result }
+        ensures { Tells F.is_pass F.may_follow self.now pass.old pass.new (called Subtract (T.fixed value)) result }
     {
         let value = value.into_fixed().ok_or(OutOfRange)?;
         if let Some(cell) = &self.cell {
@@ -161,7 +166,7 @@ impl<F: GaugeFn> Gauge<F> {
     /// Sets the gauge. A value out of range is refused, and changes nothing.
     pub fn set<T: IntoFixed>(&self, pass: &mut F::Pass, value: T) -> Result<(), OutOfRange>
         requires { Fits F.is_pass self.now pass.old }
-        ensures { Tells F.is_pass F.may_follow self.now pass.old pass.new (option_map (λ v. Set v.0) (T.fixed value)) result }
+        ensures { Tells F.is_pass F.may_follow self.now pass.old pass.new (called Set (T.fixed value)) result }
     {
         let value = value.into_fixed().ok_or(OutOfRange)?;
         if let Some(cell) = &self.cell {
@@ -216,12 +221,9 @@ impl<F: Drop> Histogram<F> {
         ensures same { IfOk result (λ copy. copy ≡ self.now) }
         ensures no_memory { self.now ≡ None → IsOk result }
     {
-        match &self.cell {
-            Some(cell) => Ok(Histogram {
-                cell: Some(Arc::try_clone(cell)?),
-            }),
-            None => Ok(Histogram { cell: None }),
-        }
+        Ok(Histogram {
+            cell: shared(&self.cell)?,
+        })
     }
 }
 
@@ -237,7 +239,8 @@ impl<F: HistogramFn> Histogram<F> {
         moment: u64,
     ) -> Result<(), RecordFault>
         requires { Fits F.is_pass self.now pass.old }
-        ensures { Records F.is_pass F.may_follow F.stays self.now pass.old pass.new (option_map (λ v. Record v.0 moment 1) (T.fixed value)) result }
+        ensures { Records F.is_pass F.may_follow F.stays self.now pass.old pass.new
+            (called (λ v. Record v moment 1) (T.fixed value)) result }
     {
         let value = value.into_fixed().ok_or(RecordFault::OutOfRange)?;
         if let Some(cell) = &self.cell {
@@ -258,7 +261,8 @@ impl<F: HistogramFn> Histogram<F> {
         count: u32,
     ) -> Result<(), RecordFault>
         requires { Fits F.is_pass self.now pass.old }
-        ensures { Records F.is_pass F.may_follow F.stays self.now pass.old pass.new (option_map (λ v. Record v.0 moment count) (T.fixed value)) result }
+        ensures { Records F.is_pass F.may_follow F.stays self.now pass.old pass.new
+            (called (λ v. Record v moment count) (T.fixed value)) result }
     {
         let value = value.into_fixed().ok_or(RecordFault::OutOfRange)?;
         if let Some(cell) = &self.cell {

@@ -1,7 +1,8 @@
 //! A cell for the recorder of a whole program, which is set once.
 
-ghost use Rattle.std.specs.Prelude.{◌≡◌, None, Some, OnOk, IfErr, IfSome, MatchOption};
+ghost use Rattle.std.specs.Prelude.{◌≡◌, None, Some, OnOk, IfErr};
 ghost use Rattle.once_cell.specs.Once.{Agrees};
+ghost use Rattle.metrics_facade.specs.Scopes.{Loads};
 
 use once_cell::race::{Note, OnceBox};
 use std::alloc::Global;
@@ -45,7 +46,7 @@ impl<R> RecorderOnceCell<R> {
     pub fn try_load<'a>(&'a self, note: &mut Note<R>) -> Option<&'a R>
         requires { note.old.cell ≡ self.now }
         ensures cell { note.new.cell ≡ note.old.cell }
-        ensures value { MatchOption result ((note.old.known ≡ None) × (note.new.known ≡ None)) (λ recorder. (note.new.known ≡ Some recorder.now) × Agrees note.old.known recorder.now) }
+        ensures value { Loads note.old.known note.new.known result }
     {
         self.recorder.get_as(note)
     }
@@ -61,10 +62,9 @@ impl<R: Drop> RecorderOnceCell<R> {
         ensures ok { OnOk result ((note.new.known ≡ Some recorder.value) × (note.old.known ≡ None)) }
         ensures back { IfErr result (λ refused. refused.0.value ≡ recorder.value) }
     {
-        match self.recorder.set_as(recorder, note) {
-            Ok(()) => Ok(()),
-            Err(recorder) => Err(SetRecorderError(recorder)),
-        }
+        self.recorder
+            .set_as(recorder, note)
+            .map_err(SetRecorderError)
     }
 }
 

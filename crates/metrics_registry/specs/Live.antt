@@ -1,5 +1,5 @@
 -- The live series of a registry, as its contracts see them (this project's rule).
-use Rattle.std.specs.Prelude.{◌≡◌, ℕ, ◌<◌, Bool, ◌&&◌, ◌==◌, not, List, [], ◌∷◌, map, filter, find, Option, option_map, if◌then◌else◌}
+use Rattle.std.specs.Prelude.{◌≡◌, ℕ, ◌<◌, Bool, ◌&&◌, ◌==◌, not, List, [], ◌∷◌, ◌++◌, map, filter, find, Option, option_map, if◌then◌else◌}
 use Rattle.std.specs.List.{list_any}
 use Rattle.metrics_core.specs.declared.kinds.MetricKind.{MetricKind}
 use Rattle.metrics_core.specs.declared.kinds.MetricKind.TheVariants.{Counter, Gauge, Histogram}
@@ -33,6 +33,10 @@ module _ {X : Type 0} where
 
   abbrev pub is_live : SeriesId → List (LiveSeries X) → Bool
   is_live id live = list_any (has_id id) live
+
+  -- the series and one more, which goes last
+  abbrev pub with_last : List (LiveSeries X) → SeriesId → KeyText → X → List (LiveSeries X)
+  with_last live id key cell = live ++ record { id = id; key = key; cell = cell } ∷ []
 
   -- the series with another cell at the id
   abbrev pub set_cell : SeriesId → X → LiveSeries X → LiveSeries X

@@ -133,7 +133,8 @@ fn rank_of(billionths: u32, count: u64) -> u64
 /// Raises the count of a value.
 fn raise(counts: &mut BTreeMap<i64, u64>, value: i64, count: u64) -> Result<(), Memory>
     requires { copies value counts.old.entries + count < 2 ^ 64 }
-    ensures raised { OnOk result ((v : ℤ) → copies v counts.new.entries ≡ copies v counts.old.entries + (if int_eq v value then count else 0)) }
+    ensures raised { OnOk result ((v : ℤ) → copies v counts.new.entries
+        ≡ copies v counts.old.entries + (if int_eq v value then count else 0)) }
     ensures refused { OnErr result (counts.new.entries ≡ counts.old.entries) }
 {
     let held = copies_of(counts, &value);
@@ -153,7 +154,8 @@ fn copies_of(counts: &BTreeMap<i64, u64>, value: &i64) -> u64
 /// Adds all counts of one map to those of another. After a refusal some of them were added.
 fn add_all(counts: &mut BTreeMap<i64, u64>, others: &BTreeMap<i64, u64>) -> Result<(), Memory>
     requires { (v : ℤ) → copies v counts.old.entries + copies v others.now.entries < 2 ^ 64 }
-    ensures { OnOk result ((v : ℤ) → copies v counts.new.entries ≡ copies v counts.old.entries + copies v others.now.entries) }
+    ensures { OnOk result ((v : ℤ) → copies v counts.new.entries
+        ≡ copies v counts.old.entries + copies v others.now.entries) }
 {
     for (value, count) in others {
         raise(counts, *value, *count)?;

@@ -1,10 +1,10 @@
 //! How the series of one kind are stored: their keys in a set, and in the same order their ids and cells in a column.
 
-ghost use Rattle.std.specs.Prelude.{◌≡◌, ◌<◌, List, [], ◌∷◌, ◌++◌, length, slice_get, remove, option_map, Some, None, All, OnOk, IfErr, OnErr};
+ghost use Rattle.std.specs.Prelude.{◌≡◌, ◌<◌, List, [], length, slice_get, remove, option_map, Some, None, All, OnOk, IfErr, OnErr};
 ghost use Rattle.std.specs.Option.{option_copied};
 ghost use Rattle.std.specs.Borrow.{sem};
 ghost use Rattle.metrics_core.specs.Keys.{KeyText};
-ghost use Rattle.metrics_registry.specs.Live.{id_of_key, cell_of, is_live, without};
+ghost use Rattle.metrics_registry.specs.Live.{id_of_key, cell_of, is_live, with_last, without};
 ghost use Rattle.metrics_registry.specs.Retained.{AskedAt, Retains};
 
 use indexmap::IndexSet;
@@ -49,7 +49,8 @@ impl<T> Column<T> {
 
     /// The place of the series with the id. The ids stand in the order of their numbers.
     pub(crate) fn place(&self, id: SeriesId) -> Option<usize>
-        ensures { (keys : List KeyText) → AreStored keys self.now.items.items → IsPlace id (live_of keys self.now.items.items) result }
+        ensures { (keys : List KeyText) → AreStored keys self.now.items.items
+            → IsPlace id (live_of keys self.now.items.items) result }
     {
         match self
             .items
@@ -69,7 +70,8 @@ impl<T> Column<T> {
     /// The cell of the series with the id.
     pub(crate) fn get(&self, id: SeriesId) -> Option<&T>
         requires { (keys : List KeyText) × AreStored keys self.now.items.items }
-        ensures { (keys : List KeyText) → AreStored keys self.now.items.items → option_copied result ≡ cell_of id (live_of keys self.now.items.items) }
+        ensures { (keys : List KeyText) → AreStored keys self.now.items.items
+            → option_copied result ≡ cell_of id (live_of keys self.now.items.items) }
     {
         let place = self.place(id)?;
         Some(&self.items[place].cell)
@@ -96,8 +98,10 @@ impl<T> Column<T> {
         requires stored { AreStored keys.old.keys self.old.items.items }
         requires new { id_of_key key (live_of keys.old.keys self.old.items.items) ≡ None }
         requires above { All (λ series. series.id.number < id.number) (live_of keys.old.keys self.old.items.items) }
-        ensures added { OnOk result (live_of keys.new.keys self.new.items.items ≡ live_of keys.old.keys self.old.items.items ++ record { id = id; key = key; cell = cell } ∷ []) }
-        ensures refused { OnErr result (live_of keys.new.keys self.new.items.items ≡ live_of keys.old.keys self.old.items.items) }
+        ensures added { OnOk result (live_of keys.new.keys self.new.items.items
+            ≡ with_last (live_of keys.old.keys self.old.items.items) id key cell) }
+        ensures refused { OnErr result (live_of keys.new.keys self.new.items.items
+            ≡ live_of keys.old.keys self.old.items.items) }
         ensures returned { IfErr result (λ parts. parts ≡ (key, cell)) }
         ensures stored { AreStored keys.new.keys self.new.items.items }
     {
@@ -123,7 +127,8 @@ impl<T> Column<T> {
         T: Drop,
         requires { AreStored keys.old.keys self.old.items.items }
         ensures was_live { result ≡ is_live id (live_of keys.old.keys self.old.items.items) }
-        ensures rest { live_of keys.new.keys self.new.items.items ≡ without id (live_of keys.old.keys self.old.items.items) }
+        ensures rest { live_of keys.new.keys self.new.items.items
+            ≡ without id (live_of keys.old.keys self.old.items.items) }
         ensures stored { AreStored keys.new.keys self.new.items.items }
     {
         match self.place(id) {
@@ -146,7 +151,8 @@ impl<T> Column<T> {
         T: Drop,
         requires stored { AreStored keys.old.keys self.old.items.items }
         requires callable { F.IsAlwaysCallable keep }
-        ensures retained { (last : F) × Retains F.FnMut keep (live_of keys.old.keys self.old.items.items) (live_of keys.new.keys self.new.items.items) last }
+        ensures retained { (last : F) × Retains F.FnMut keep (live_of keys.old.keys self.old.items.items)
+            (live_of keys.new.keys self.new.items.items) last }
         ensures stored { AreStored keys.new.keys self.new.items.items }
     {
         let mut kept = 0;

@@ -1,10 +1,10 @@
 //! The live series of one state, by kind, and how many were ever made.
 
-ghost use Rattle.std.specs.Prelude.{◌≡◌, ◌+◌, ◌-◌, ◌^◌, ◌<◌, [], ◌∷◌, ◌++◌, length, slice_get, option_map, Some, None, IsOk, OnOk, IfOk, OnErr, IfErr};
+ghost use Rattle.std.specs.Prelude.{◌≡◌, ◌+◌, ◌-◌, ◌^◌, ◌<◌, [], length, slice_get, option_map, Some, None, IsOk, OnOk, IfOk, OnErr, IfErr};
 ghost use Rattle.std.specs.Option.{option_copied, option_copied_mut};
 ghost use Rattle.std.specs.Borrow.{sem};
 ghost use Rattle.metrics_core.specs.declared.kinds.MetricKind.TheVariants.{Counter, Gauge, Histogram};
-ghost use Rattle.metrics_registry.specs.Live.{IsNumbered, id_of_key, cell_of, is_live, without};
+ghost use Rattle.metrics_registry.specs.Live.{IsNumbered, id_of_key, cell_of, is_live, with_last, without};
 ghost use Rattle.metrics_registry.specs.Places.{IsPlace};
 ghost use Rattle.metrics_registry.specs.Retained.{Retains};
 
@@ -45,7 +45,12 @@ impl<C: Drop, G: Drop, H: Drop> Registry<C, G, H> {
 
     /// No series. It takes no memory until the first is added.
     pub fn new(alloc: Global) -> Result<Registry<C, G, H>, Memory>
-        ensures empty { IfOk result (λ registry. registry ≡ record { counters = []; gauges = []; histograms = []; made = 0 }) }
+        ensures empty { IfOk result (λ registry. registry ≡ record {
+          counters = [];
+          gauges = [];
+          histograms = [];
+          made = 0;
+        }) }
         ensures no_memory { IsOk result }
     {
         Ok(Registry {
@@ -78,7 +83,10 @@ impl<C: Drop, G: Drop, H: Drop> Registry<C, G, H> {
     pub fn add_counter(&mut self, key: Key, cell: C) -> Result<SeriesId, (Key, C)>
         requires new { id_of_key key self.old.counters ≡ None }
         requires room { self.old.made < 2 ^ 64 - 1 }
-        ensures added { IfOk result (λ id. self.new ≡ record self.old { counters = self.old.counters ++ record { id = id; key = key; cell = cell } ∷ []; made = self.old.made + 1 }) }
+        ensures added { IfOk result (λ id. self.new ≡ record self.old {
+          counters = with_last self.old.counters id key cell;
+          made = self.old.made + 1;
+        }) }
         ensures id { IfOk result (λ id. id ≡ record { kind = Counter; number = self.old.made }) }
         ensures refused { OnErr result (self.new ≡ self.old) }
         ensures returned { IfErr result (λ parts. parts ≡ (key, cell)) }
@@ -178,7 +186,10 @@ impl<C: Drop, G: Drop, H: Drop> Registry<C, G, H> {
     pub fn add_gauge(&mut self, key: Key, cell: G) -> Result<SeriesId, (Key, G)>
         requires new { id_of_key key self.old.gauges ≡ None }
         requires room { self.old.made < 2 ^ 64 - 1 }
-        ensures added { IfOk result (λ id. self.new ≡ record self.old { gauges = self.old.gauges ++ record { id = id; key = key; cell = cell } ∷ []; made = self.old.made + 1 }) }
+        ensures added { IfOk result (λ id. self.new ≡ record self.old {
+          gauges = with_last self.old.gauges id key cell;
+          made = self.old.made + 1;
+        }) }
         ensures id { IfOk result (λ id. id ≡ record { kind = Gauge; number = self.old.made }) }
         ensures refused { OnErr result (self.new ≡ self.old) }
         ensures returned { IfErr result (λ parts. parts ≡ (key, cell)) }
@@ -268,7 +279,10 @@ impl<C: Drop, G: Drop, H: Drop> Registry<C, G, H> {
     pub fn add_histogram(&mut self, key: Key, cell: H) -> Result<SeriesId, (Key, H)>
         requires new { id_of_key key self.old.histograms ≡ None }
         requires room { self.old.made < 2 ^ 64 - 1 }
-        ensures added { IfOk result (λ id. self.new ≡ record self.old { histograms = self.old.histograms ++ record { id = id; key = key; cell = cell } ∷ []; made = self.old.made + 1 }) }
+        ensures added { IfOk result (λ id. self.new ≡ record self.old {
+          histograms = with_last self.old.histograms id key cell;
+          made = self.old.made + 1;
+        }) }
         ensures id { IfOk result (λ id. id ≡ record { kind = Histogram; number = self.old.made }) }
         ensures refused { OnErr result (self.new ≡ self.old) }
         ensures returned { IfErr result (λ parts. parts ≡ (key, cell)) }

@@ -10,18 +10,16 @@ use Rattle.legal_history.specs.declared.history.Entry.{Entry}
 use mathlib.Core.List.{IsPrefix}
 use Rattle.legal_history.specs.declared.history.Held.{Held}
 use Rattle.legal_history.specs.History.{calls, calls_by, held, longer, looked, after, said, Among, Sees}
-use Rattle.legal_history.proofs.Fronts.{prefix_trans}
+use Rattle.legal_history.proofs.Prefixes.{prefix_trans}
 use Rattle.legal_history.proofs.Lists.{calls-append}
 use Rattle.metrics_core.specs.Keys.{KeyText}
 use Rattle.metrics_core.specs.declared.kinds.SeriesId.{SeriesId}
 use Rattle.metrics_registry.specs.Live.{LiveSeries, has_id, cell_of, with_cell}
-use Rattle.series_cells.specs.declared.calls.ValueCall.{ValueCall}
-use Rattle.series_cells.specs.Values.{call_of}
-use Rattle.series_cells.specs.Pass.{Calls}
-use Rattle.prom_exporter.specs.Shared.{Shared, IsHome, unused, Looks, MakesCall, TakesBack, calls_seen}
+use Rattle.metrics_core.specs.declared.calls.SeriesCall.{SeriesCall}
+use Rattle.prom_exporter.specs.Shared.{Shared, IsHome, unused, Looks, TakesBack}
 use Rattle.prom_exporter.specs.Exporter.{Exporter, SeriesLooks, LooksOn, AllHome, AddsCounter, AddsGauge}
 
-among_last : (h : Held ValueCall) (hs : List (Held ValueCall)) → Among h (hs ++ h ∷ [])
+among_last : (h : Held SeriesCall) (hs : List (Held SeriesCall)) → Among h (hs ++ h ∷ [])
 among_last h [] = inl refl
 among_last h (x ∷ hs) = inr (among_last h hs)
 
@@ -30,7 +28,7 @@ module _ {F : Type 0} where
   pub look_begins : (s t : Shared F) → Looks s t → IsPrefix s.root.seen t.root.seen
   look_begins s t looks = subst (λ (x : Shared F). IsPrefix s.root.seen x.root.seen) (sym looks.2) looks.1.begins
 
-  pub given_back_seen : (s t : Shared F) (known : View ValueCall) → TakesBack known s t → IsPrefix known.seen t.root.seen × (calls_by known.number t.root.seen ≡ known.mine)
+  pub given_back_seen : (s t : Shared F) (known : View SeriesCall) → TakesBack known s t → IsPrefix known.seen t.root.seen × (calls_by known.number t.root.seen ≡ known.mine)
   given_back_seen s t known takes =
       let h = held known.number known.mine known.seen in
       let last = among_last h s.root.joined in
@@ -40,18 +38,6 @@ module _ {F : Type 0} where
 
   pub looks-home : (s t : Shared F) → IsHome s → Looks s t → t ≡ s
   looks-home s t home looks = looks.2 ∙ ap (λ log. record s { root = looked s.root log }) (looks.1.whole home.0 home.1).0
-
-  pub made-home : (call : ValueCall) (s t : Shared F) → IsHome s → MakesCall call s t → (calls_seen t ≡ calls_seen s ++ call_of call ∷ []) × IsHome t
-  made-home call s t home made =
-      let called : Shared F = made.0 in
-      let whole = ap (λ log. after s.root log (call ∷ [])) (made.1.1.whole home.0 home.1).0 in
-      let root : called.root ≡ after s.root s.root.seen (call ∷ []) = made.1.2 ∙ whole in
-      let home' : IsHome called = (ap (λ (v : View ValueCall). v.number) root ∙ home.0, ap (λ (v : View ValueCall). v.out) root ∙ home.1) in
-      let same : t ≡ called = looks-home called t home' made.3 in (
-        ap calls_seen same ∙ ap (λ (v : View ValueCall). map call_of (calls v.seen)) root
-            ∙ ap (map call_of) (calls-append s.root.seen (said s.root.number (call ∷ []))) ∙ map-append call_of (calls s.root.seen) (call ∷ []),
-        subst IsHome (sym same) home',
-      )
 
   abbrev AllAtHome : List (LiveSeries (Shared F)) → Type 0
   AllAtHome = All (λ series. IsHome series.cell)
@@ -64,21 +50,6 @@ module _ {F : Type 0} where
       let here = looks-home e.cell f.cell (All-head (λ (s : LiveSeries (Shared F)). IsHome s.cell) e es home) looks.0.2 in
       let rest = series_look-home es fs (All-tail (λ (s : LiveSeries (Shared F)). IsHome s.cell) e es home) looks.1 in
       (λ j. record { id = looks.0.0 j; key = looks.0.1 j; cell = here j } ∷ rest j)
-
-  pub found-home : (id : SeriesId) (es : List (LiveSeries (Shared F))) (s : Shared F) → AllAtHome es → cell_of id es ≡ Some s → IsHome s
-  found-home id [] s home found = absurd cc
-  found-home id (e ∷ es) s home found = by (has_id id e) refl found (found-home id es s (All-tail (λ (x : LiveSeries (Shared F)). IsHome x.cell) e es home))
-    where
-      by : (b : Bool) → has_id id e ≡ b → option_map (λ (x : LiveSeries (Shared F)). x.cell) (cond b (Some e) (find (has_id id) es)) ≡ Some s → (cell_of id es ≡ Some s → IsHome s) → IsHome s
-      by true has f rest = subst IsHome (same_Some e.cell s f) (All-head (λ (x : LiveSeries (Shared F)). IsHome x.cell) e es home)
-      by false has f rest = rest f
-
-  pub with_cell-home : (id : SeriesId) (t : Shared F) (es : List (LiveSeries (Shared F))) → IsHome t → AllAtHome es → AllAtHome (with_cell id es t)
-  with_cell-home id t [] h home = home
-  with_cell-home id t (e ∷ es) h home =
-      All-cons (λ (x : LiveSeries (Shared F)). IsHome x.cell) _ _
-      (elim (has_id id e) as (λ b. IsHome (cond b (record e { cell = t }) e).cell) [ true ↦ h | false ↦ All-head (λ (x : LiveSeries (Shared F)). IsHome x.cell) e es home ])
-      (with_cell-home id t es h (All-tail (λ (x : LiveSeries (Shared F)). IsHome x.cell) e es home))
 
 pub looks_on-home : (old new : Exporter) → AllHome old → LooksOn old new → new ≡ old
 looks_on-home old new home looks =

@@ -18,7 +18,7 @@ use Rattle.metrics_core.specs.declared.kinds.SeriesId.{SeriesId}
 use Rattle.metrics_registry.specs.Live.{LiveSeries, id_eq, has_id}
 use Rattle.metrics_registry.proofs.IdTests.{id_eq-same, id_eq-refl}
 use Rattle.metrics_registry.specs.Places.{with_cell_at}
-use Rattle.series_cells.specs.declared.calls.ValueCall.{ValueCall}
+use Rattle.metrics_core.specs.declared.calls.SeriesCall.{SeriesCall}
 use Rattle.series_cells.specs.declared.counter.PromCounter.{PromCounter}
 use Rattle.series_cells.specs.declared.gauge.PromGauge.{PromGauge}
 use Rattle.prom_exporter.specs.declared.lanes.SeriesCell.{SeriesCell}
@@ -62,10 +62,10 @@ module _ {A : Type 0} where
 -- ---- the series of one kind
 
 module _ {F : Type 0} (kind : F → SeriesCell) where
-  abbrev of_cell : Shared F → Thing ValueCall SeriesCell
+  abbrev of_cell : Shared F → Thing SeriesCall SeriesCell
   of_cell cell = record { root = cell.root; fixed = kind cell.cell }
 
-  abbrev thing : LiveSeries (Shared F) → Thing ValueCall SeriesCell
+  abbrev thing : LiveSeries (Shared F) → Thing SeriesCall SeriesCell
   thing series = of_cell series.cell
 
   here : (es : List (LiveSeries (Shared F))) (i : ℕ) (cell : Shared F) → option_map (λ (s : LiveSeries (Shared F)). s.cell) (slice_get es i) ≡ Some cell → get_elem? (map thing es) i ≡ some (of_cell cell)
@@ -85,13 +85,13 @@ module _ {F : Type 0} (kind : F → SeriesCell) where
 
 -- ---- the series of an exporter
 
-abbrev pub things_in : Cells → List (Thing ValueCall SeriesCell)
+abbrev pub things_in : Cells → List (Thing SeriesCall SeriesCell)
 things_in series = map counter_thing series.counters ++ map gauge_thing series.gauges
 
-abbrev pub of_counter : Shared PromCounter → Thing ValueCall SeriesCell
+abbrev pub of_counter : Shared PromCounter → Thing SeriesCall SeriesCell
 of_counter = of_cell cells.Counter
 
-abbrev pub of_gauge : Shared PromGauge → Thing ValueCall SeriesCell
+abbrev pub of_gauge : Shared PromGauge → Thing SeriesCall SeriesCell
 of_gauge = of_cell cells.Gauge
 
 pub counter_here : (series : Cells) (i : ℕ) (cell : Shared PromCounter) → option_map (λ (s : LiveSeries (Shared PromCounter)). s.cell) (slice_get series.counters i) ≡ Some cell → get_elem? (things_in series) i ≡ some (of_counter cell)
@@ -121,7 +121,7 @@ pub gauge_same : (series : Cells) (i : ℕ) (cell : Shared PromGauge) → option
 gauge_same series i cell e = ap (λ l. map counter_thing series.counters ++ map gauge_thing l) (same cells.Gauge series.gauges i cell e)
 
 -- each index has its thing
-pub is_one : (series : Cells) (i : ℕ) (s t : Thing ValueCall SeriesCell) → get_elem? (things_in series) i ≡ some s → get_elem? (things_in series) i ≡ some t → s ≡ t
+pub is_one : (series : Cells) (i : ℕ) (s t : Thing SeriesCall SeriesCell) → get_elem? (things_in series) i ≡ some s → get_elem? (things_in series) i ≡ some t → s ≡ t
 is_one series i s t e f = one_at (things_in series) i s t e f
 
 -- a counter stands where an index is below the number of counters, and a gauge elsewhere
@@ -142,7 +142,7 @@ gauge_found series i h below =
 
 -- ---- giving back
 
-pub took_back : {F : Type 0} (s t : Shared F) (known : View ValueCall) → TakesBack known s t → TookBack s.root known t.root × (t.cell ≡ s.cell)
+pub took_back : {F : Type 0} (s t : Shared F) (known : View SeriesCall) → TakesBack known s t → TookBack s.root known t.root × (t.cell ≡ s.cell)
 took_back s t known takes = (
   subst (λ (x : Shared _). TookBack s.root known x.root) (sym takes.2) (record { number = refl; mine = refl; joined = refl; seen = takes.1.begins; out = refl }),
   ap (λ (x : Shared _). x.cell) takes.2,
@@ -151,18 +151,18 @@ took_back s t known takes = (
 -- ---- all at home
 
 module _ {F : Type 0} (kind : F → SeriesCell) where
-  list_home : (es : List (LiveSeries (Shared F))) → ((j : ℕ) (t : Thing ValueCall SeriesCell) → get_elem? (map (thing kind) es) j ≡ some t → t.root.number ≡ 0) → ((j : ℕ) (t : Thing ValueCall SeriesCell) → get_elem? (map (thing kind) es) j ≡ some t → t.root.out ≡ 0) → All (λ (s : LiveSeries (Shared F)). IsHome s.cell) es
+  list_home : (es : List (LiveSeries (Shared F))) → ((j : ℕ) (t : Thing SeriesCall SeriesCell) → get_elem? (map (thing kind) es) j ≡ some t → t.root.number ≡ 0) → ((j : ℕ) (t : Thing SeriesCall SeriesCell) → get_elem? (map (thing kind) es) j ≡ some t → t.root.out ≡ 0) → All (λ (s : LiveSeries (Shared F)). IsHome s.cell) es
   list_home [] roots home = All-nil _
   list_home (e ∷ es) roots home =
       All-cons (λ (s : LiveSeries (Shared F)). IsHome s.cell) e es (roots 0 (thing kind e) refl, home 0 (thing kind e) refl)
       (list_home es (λ j t a. roots (suc j) t a) (λ j t a. home (suc j) t a))
 
-  list_settled : (es fs : List (LiveSeries (Shared F))) → All (λ (s : LiveSeries (Shared F)). IsHome s.cell) es → AllZip SeriesLooks es fs → (j : ℕ) (t : Thing ValueCall SeriesCell) → get_elem? (map (thing kind) es) j ≡ some t → Settled t.root
+  list_settled : (es fs : List (LiveSeries (Shared F))) → All (λ (s : LiveSeries (Shared F)). IsHome s.cell) es → AllZip SeriesLooks es fs → (j : ℕ) (t : Thing SeriesCall SeriesCell) → get_elem? (map (thing kind) es) j ≡ some t → Settled t.root
   list_settled [] fs home looks j t e = absurd (some-ne-none t (sym e))
   list_settled (x ∷ es) [] home looks j t e = absurd looks
   list_settled (x ∷ es) (f ∷ fs) home looks zero t e =
       let h = All-head (λ (s : LiveSeries (Shared F)). IsHome s.cell) x es home in
-      subst (λ (y : Thing ValueCall SeriesCell). Settled y.root) (some-injective (thing kind x) t e) (looks.0.2.1.whole h.0 h.1).1
+      subst (λ (y : Thing SeriesCall SeriesCell). Settled y.root) (some-injective (thing kind x) t e) (looks.0.2.1.whole h.0 h.1).1
   list_settled (x ∷ es) (f ∷ fs) home looks (suc j) t e = list_settled es fs (All-tail (λ (s : LiveSeries (Shared F)). IsHome s.cell) x es home) looks.1 j t e
 
 pub all_home : (exporter : Exporter) → Roots root_of (things_of exporter) → Home root_of (things_of exporter) → AllHome exporter
@@ -171,7 +171,7 @@ all_home exporter roots home = (
   list_home cells.Gauge exporter.series.gauges (λ j t e. roots _ t (at_behind (map counter_thing exporter.series.counters) _ j t e)) (λ j t e. home _ t (at_behind (map counter_thing exporter.series.counters) _ j t e)),
 )
 
-pub all_settled : (old new : Exporter) → AllHome old → LooksOn old new → (j : ℕ) (t : Thing ValueCall SeriesCell) → get_elem? (things_of old) j ≡ some t → Settled t.root
+pub all_settled : (old new : Exporter) → AllHome old → LooksOn old new → (j : ℕ) (t : Thing SeriesCall SeriesCell) → get_elem? (things_of old) j ≡ some t → Settled t.root
 all_settled old new home looks j t e =
     ⊎_elim (λ (front : get_elem? (map counter_thing old.series.counters) j ≡ some t). list_settled cells.Counter old.series.counters new.series.counters home.0 looks.counters j t front)
     (λ (back : (k : ℕ) × (get_elem? (map gauge_thing old.series.gauges) k ≡ some t)). list_settled cells.Gauge old.series.gauges new.series.gauges home.1 looks.gauges back.0 t back.1)

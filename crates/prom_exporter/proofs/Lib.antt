@@ -5,4 +5,5 @@ pub mod States
 pub mod Seen
 pub mod Home
 pub mod LaneThings
+pub mod CallKinds
 pub mod ValuePages

@@ -8,11 +8,8 @@ use Rattle.metrics_core.specs.declared.calls.SeriesCall.{SeriesCall}
 use Rattle.metrics_core.specs.declared.calls.SeriesCall.TheVariants as calls
 use Rattle.metrics_core.specs.declared.kinds.SeriesId.{SeriesId}
 use Rattle.metrics_registry.specs.Live.{LiveSeries}
-use Rattle.series_cells.specs.declared.calls.ValueCall.{ValueCall}
-use Rattle.series_cells.specs.declared.calls.ValueCall.TheVariants as values
 use Rattle.series_cells.specs.declared.counter.PromCounter.{PromCounter}
 use Rattle.series_cells.specs.declared.gauge.PromGauge.{PromGauge}
-use Rattle.series_cells.specs.Series.{counter_of, gauge_of, counter_known, gauge_known}
 use Rattle.prom_exporter.specs.declared.lanes.LanePass.{LanePass}
 use Rattle.prom_exporter.specs.declared.lanes.LanePass.TheVariants as passes
 use Rattle.prom_exporter.specs.declared.lanes.SeriesCell.{SeriesCell}
@@ -20,24 +17,24 @@ use Rattle.prom_exporter.specs.declared.lanes.SeriesCell.TheVariants as cells
 use Rattle.prom_exporter.specs.Shared.{Shared, unused}
 use Rattle.prom_exporter.specs.Exporter.{Exporter}
 
-abbrev pub counter_thing : LiveSeries (Shared PromCounter) → Thing ValueCall SeriesCell
+abbrev pub counter_thing : LiveSeries (Shared PromCounter) → Thing SeriesCall SeriesCell
 counter_thing series = record { root = series.cell.root; fixed = cells.Counter series.cell.cell }
 
-abbrev pub gauge_thing : LiveSeries (Shared PromGauge) → Thing ValueCall SeriesCell
+abbrev pub gauge_thing : LiveSeries (Shared PromGauge) → Thing SeriesCall SeriesCell
 gauge_thing series = record { root = series.cell.root; fixed = cells.Gauge series.cell.cell }
 
-abbrev pub things_of : Exporter → List (Thing ValueCall SeriesCell)
+abbrev pub things_of : Exporter → List (Thing SeriesCall SeriesCell)
 things_of exporter = map counter_thing exporter.series.counters ++ map gauge_thing exporter.series.gauges
 
 -- what a pass knows
-abbrev pub pass_known : LanePass → View ValueCall
-pass_known (passes.Counter lent) = counter_known lent
-pass_known (passes.Gauge lent) = gauge_known lent
+abbrev pub pass_known : LanePass → View SeriesCall
+pass_known (passes.Counter lent) = lent.knows
+pass_known (passes.Gauge lent) = lent.knows
 
 -- the pass is one of this cell
 abbrev pub IsPassOf : SeriesCell → LanePass → Type 0
-IsPassOf (cells.Counter cell) (passes.Counter lent) = counter_of lent ≡ cell
-IsPassOf (cells.Gauge cell) (passes.Gauge lent) = gauge_of lent ≡ cell
+IsPassOf (cells.Counter cell) (passes.Counter lent) = lent.cell ≡ cell
+IsPassOf (cells.Gauge cell) (passes.Gauge lent) = lent.cell ≡ cell
 IsPassOf (cells.Counter _) (passes.Gauge _) = ⊥
 IsPassOf (cells.Gauge _) (passes.Counter _) = ⊥
 
@@ -46,24 +43,17 @@ abbrev pub TakesCall : SeriesCell → SeriesCall → Type 0
 TakesCall (cells.Counter _) (calls.Increment _) = ⊤
 TakesCall (cells.Counter _) (calls.Absolute _) = ⊤
 TakesCall (cells.Gauge _) (calls.Add _) = ⊤
-TakesCall (cells.Gauge _) (calls.Sub _) = ⊤
+TakesCall (cells.Gauge _) (calls.Subtract _) = ⊤
 TakesCall (cells.Gauge _) (calls.Set _) = ⊤
 TakesCall (cells.Counter _) (calls.Add _) = ⊥
-TakesCall (cells.Counter _) (calls.Sub _) = ⊥
+TakesCall (cells.Counter _) (calls.Subtract _) = ⊥
 TakesCall (cells.Counter _) (calls.Set _) = ⊥
 TakesCall (cells.Gauge _) (calls.Increment _) = ⊥
 TakesCall (cells.Gauge _) (calls.Absolute _) = ⊥
 
--- how a call stands in the history
-abbrev pub value_call : SeriesCall → ValueCall
-value_call (calls.Increment n) = values.Increment n
-value_call (calls.Absolute n) = values.Absolute n
-value_call (calls.Add v) = values.Add v
-value_call (calls.Sub v) = values.Subtract v
-value_call (calls.Set v) = values.Set v
-
-abbrev pub StandsAsValue : SeriesCall → List ValueCall → Type 0
-StandsAsValue call made = made ≡ value_call call ∷ []
+-- a call stands in the history as itself
+abbrev pub StandsAsItself : SeriesCall → List SeriesCall → Type 0
+StandsAsItself call made = made ≡ call ∷ []
 
 -- ---- what lanes leave as it is
 

@@ -3,14 +3,13 @@ use Rattle.std.specs.Prelude.{◌≡◌, ℕ, List}
 use Rattle.legal_history.specs.declared.history.Entry.{Entry}
 use Rattle.legal_history.specs.declared.history.View.{View}
 use Rattle.legal_history.specs.History.{calls, looked, first, lender, taker, Sees}
-use Rattle.series_cells.specs.declared.calls.ValueCall.{ValueCall}
+use Rattle.metrics_core.specs.declared.calls.SeriesCall.{SeriesCall}
 use Rattle.series_cells.specs.Values.{calls_of}
-use Rattle.series_cells.specs.Pass.{Calls}
 use Rattle.metrics_core.specs.Calls.{Call}
 
 pub record Shared (F : Type 0) : Type 0 where
   pub cell : F
-  pub root : View ValueCall
+  pub root : View SeriesCall
 
 module _ {F : Type 0} where
   -- all calls that the exporter has seen, in the order of the cell's history
@@ -27,16 +26,12 @@ module _ {F : Type 0} where
 
   -- the exporter has looked on: it has seen a beginning of the history that has all that it had seen
   abbrev pub Looks : Shared F → Shared F → Type 0
-  Looks s t = (log : List (Entry ValueCall)) × Sees s.root log × (t ≡ record s { root = looked s.root log })
-
-  -- the exporter made a call, and looked
-  abbrev pub MakesCall : ValueCall → Shared F → Shared F → Type 0
-  MakesCall call s t = (called : Shared F) × Calls call s.root called.root × (called.cell ≡ s.cell) × Looks called t
+  Looks s t = (log : List (Entry SeriesCall)) × Sees s.root log × (t ≡ record s { root = looked s.root log })
 
   -- one more pass of the cell is out
   abbrev pub with_one_out : Shared F → Shared F
   with_one_out s = record s { root = lender s.root }
 
   -- a pass was taken back that knew so much, and the exporter looked
-  abbrev pub TakesBack : View ValueCall → Shared F → Shared F → Type 0
+  abbrev pub TakesBack : View SeriesCall → Shared F → Shared F → Type 0
   TakesBack known s t = Looks (record s { root = taker s.root known }) t

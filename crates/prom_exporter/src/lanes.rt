@@ -1,23 +1,21 @@
 //! The exporter as lanes see it: its counters and then its gauges, in order of registration, each lending passes.
 
-ghost use Rattle.std.specs.Prelude.{◌≡◌};
+ghost use Rattle.std.specs.Prelude.{◌≡◌, OnOk, OnErr};
 
 use crate::state::PrometheusState;
-use cell_lanes::Lenders;
+use cell_lanes::{Lenders, LentCell};
 use metrics_core::{Memory, SeriesCall};
-use series_cells::{
-    CounterCall, GaugeCall, LentCounter, LentGauge, PromCounter, PromGauge, ValueCall,
-};
+use series_cells::{PromCounter, PromGauge};
 use std::alloc::Global;
 use std::sync::Wait;
 
-/// A pass of a series that a lane has.
+/// A series that a lane has, with a pass of it.
 #[derive(Drop)]
 pub enum LanePass {
-    /// Of a counter.
-    Counter(LentCounter),
-    /// Of a gauge.
-    Gauge(LentGauge),
+    /// A counter.
+    Counter(LentCell<PromCounter>),
+    /// A gauge.
+    Gauge(LentCell<PromGauge>),
 }
 
 /// The cell of a series, of either kind. Contracts speak of it, and no value of it is made.
@@ -29,40 +27,32 @@ pub enum SeriesCell {
 }
 
 impl LanePass {
-    ghost use Rattle.prom_exporter.specs.LanePasses.{pass_known, TakesCall, value_call, IsPassOf};
+    ghost use Rattle.prom_exporter.specs.LanePasses.{pass_known, TakesCall, IsPassOf};
     ghost use Rattle.series_cells.specs.Pass.{Calls};
     ghost use Rattle.prom_exporter.specs.declared.lanes.SeriesCell.{SeriesCell};
 
     /// Makes a call of the series' kind.
-    fn make(&mut self, call: SeriesCall)
-        requires { (cell : SeriesCell) × IsPassOf cell self.old × TakesCall cell call }
-        ensures call { Calls (value_call call) (pass_known self.old) (pass_known self.new) }
+    fn make<R: Wait>(&mut self, rt: &R, alloc: Global, call: &SeriesCall) -> Result<(), Memory>
+        requires { (cell : SeriesCell) × IsPassOf cell self.old × TakesCall cell call.now }
+        ensures call { OnOk result (Calls call.now (pass_known self.old) (pass_known self.new)) }
+        ensures refused { OnErr result (pass_known self.new ≡ pass_known self.old) }
         ensures cell { (cell : SeriesCell) → IsPassOf cell self.old → IsPassOf cell self.new }
     {
         match self {
-            LanePass::Counter(counter) => match call {
-                SeriesCall::Increment(count) => counter.make(CounterCall::Increment(count)),
-                SeriesCall::Absolute(total) => counter.make(CounterCall::Absolute(total)),
-                SeriesCall::Add(_) | SeriesCall::Sub(_) | SeriesCall::Set(_) => unreachable!(),
-            },
-            LanePass::Gauge(gauge) => match call {
-                SeriesCall::Add(value) => gauge.make(GaugeCall::Increment(value)),
-                SeriesCall::Sub(value) => gauge.make(GaugeCall::Decrement(value)),
-                SeriesCall::Set(value) => gauge.make(GaugeCall::Set(value)),
-                SeriesCall::Increment(_) | SeriesCall::Absolute(_) => unreachable!(),
-            },
+            LanePass::Counter(counter) => counter.make(rt, alloc, call),
+            LanePass::Gauge(gauge) => gauge.make(rt, alloc, call),
         }
     }
 }
 
 impl Lenders for PrometheusState {
-    ghost use Rattle.prom_exporter.specs.LanePasses.{things_of, frame_of, pass_known, IsPassOf, TakesCall, StandsAsValue};
+    ghost use Rattle.prom_exporter.specs.LanePasses.{things_of, frame_of, pass_known, IsPassOf, TakesCall, StandsAsItself};
 
     type Lent = LanePass;
 
     type Call = SeriesCall;
 
-    type Entry = ValueCall;
+    type Entry = SeriesCall;
 
     type Fixed = SeriesCell;
 
@@ -78,20 +68,19 @@ impl Lenders for PrometheusState {
 
     ghost takes = { TakesCall };
 
-    ghost stands_as = { StandsAsValue };
+    ghost stands_as = { StandsAsItself };
 
     fn lend(&mut self, alloc: Global, index: usize) -> Result<LanePass, Memory> {
         self.lend_to_lane(alloc, index)
     }
 
     fn make<R: Wait>(
-        _rt: &R,
-        _alloc: Global,
+        rt: &R,
+        alloc: Global,
         lent: &mut LanePass,
         call: &SeriesCall,
     ) -> Result<(), Memory> {
-        lent.make(*call);
-        Ok(())
+        lent.make(rt, alloc, call)
     }
 
     fn take_back(&mut self, index: usize, lent: LanePass) {

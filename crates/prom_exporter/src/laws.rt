@@ -4,7 +4,7 @@ ghost use Rattle.std.specs.Prelude.{◌≡◌, ℕ};
 ghost use mathlib.Core.List.{IsPrefix};
 ghost use Rattle.legal_history.specs.declared.history.View.{View};
 ghost use Rattle.legal_history.specs.History.{calls_by};
-ghost use Rattle.series_cells.specs.declared.calls.ValueCall.{ValueCall};
+ghost use Rattle.metrics_core.specs.declared.calls.SeriesCall.{SeriesCall};
 ghost use Rattle.prom_format.specs.Pages.{IsPage, page_text};
 ghost use Rattle.prom_exporter.specs.State.{PrometheusState};
 ghost use Rattle.prom_exporter.specs.Families.{ExporterSettings, families_at};
@@ -30,5 +30,5 @@ pub fn looking_forgets_nothing<F>()
 /// After a pass was given back, what the exporter sees begins with all that the pass had seen, and has exactly the calls
 /// that the pass had made.
 pub fn given_back_is_seen<F>()
-    ensures { (s t : Shared F) (known : View ValueCall) → TakesBack known s t → IsPrefix known.seen t.root.seen × (calls_by known.number t.root.seen ≡ known.mine) }
+    ensures { (s t : Shared F) (known : View SeriesCall) → TakesBack known s t → IsPrefix known.seen t.root.seen × (calls_by known.number t.root.seen ≡ known.mine) }
 {}

@@ -5,23 +5,21 @@ ghost use Rattle.metrics_core.specs.declared.kinds.MetricKind.TheVariants.{Count
 ghost use Rattle.metrics_registry.specs.Live.{IsNumbered};
 ghost use Rattle.metrics_core.specs.Outside.{Rose, GrewBy, GrewByPrefix};
 ghost use Rattle.prom_format.specs.LabelSets.{labels_of};
-ghost use Rattle.series_cells.specs.Values.{call_of};
 ghost use Rattle.series_cells.specs.Pass.{view_of};
-ghost use Rattle.series_cells.specs.Series.{counter_entry, gauge_entry};
-ghost use Rattle.prom_exporter.specs.State.{register, number_given, call_on, page_step};
-ghost use Rattle.prom_exporter.specs.Shared.{MakesCall, TakesBack, Looks};
+ghost use Rattle.prom_exporter.specs.State.{register, number_given, page_step};
+ghost use Rattle.prom_exporter.specs.Shared.{TakesBack, Looks};
 ghost use Rattle.prom_exporter.specs.Exporter.{Exporter, settings_with, state_of, no_cells, AllHome, AddsCounter, AddsGauge, ChangesCounter, ChangesGauge, LooksOn, page_body};
 ghost use mathlib.Core.Option.{some};
 ghost use lib.ListN.{get_elem?};
 ghost use Rattle.legal_history.specs.History.{lender, child};
 ghost use Rattle.cell_lanes.specs.Things.{Thing, TookBack};
-ghost use Rattle.series_cells.specs.declared.calls.ValueCall.{ValueCall};
+ghost use Rattle.metrics_core.specs.declared.calls.SeriesCall.{SeriesCall};
 ghost use Rattle.prom_exporter.specs.declared.lanes.SeriesCell.{SeriesCell};
 ghost use Rattle.prom_exporter.specs.LanePasses.{things_of, frame_of, pass_known, IsPassOf, IsIndex};
 ghost use Rattle.prom_exporter.specs.Lending.{LendsCounter, LendsGauge, LentCounter, LentGauge, HasNoCounter, HasNoGauge};
 
 use crate::BuildError;
-use crate::cells::{CounterCell, GaugeCell};
+use crate::cells::{CounterCell, GaugeCell, new_counter, new_gauge};
 use crate::families::families;
 use crate::lanes::LanePass;
 use crate::lent::Lent;
@@ -31,7 +29,7 @@ use metrics_core::{Key, Memory, MetricKind, SeriesId, Sink};
 use metrics_facade as facade;
 use metrics_registry::Registry;
 use prom_format::FamilyType;
-use series_cells::{CellPass, CounterCall, GaugeCall, PromCounter, PromGauge};
+use series_cells::{CellPass, PromCounter, PromGauge};
 use std::alloc::Global;
 use std::marker::Model;
 
@@ -87,7 +85,7 @@ impl PrometheusState {
                 number,
             });
         }
-        let cell = CounterCell::new(alloc)?;
+        let cell = new_counter(alloc)?;
         let key = key.clone(alloc)?;
         let Ok(id) = self.series.add_counter(key, cell) else {
             return Err(Memory);
@@ -114,43 +112,12 @@ impl PrometheusState {
                 number,
             });
         }
-        let cell = GaugeCell::new(alloc)?;
+        let cell = new_gauge(alloc)?;
         let key = key.clone(alloc)?;
         let Ok(id) = self.series.add_gauge(key, cell) else {
             return Err(Memory);
         };
         Ok(id)
-    }
-
-    /// Makes a call on a counter with the exporter's own pass, and reads the counter. Answers false exactly where no
-    /// counter with the id is live, and then nothing changed. It takes no memory.
-    pub fn call_counter(&mut self, id: SeriesId, call: CounterCall) -> bool
-        ensures called { result ≡ true → ChangesCounter id (MakesCall (counter_entry call)) self.old self.new }
-        ensures none { result ≡ false → HasNoCounter id self.old × (self.new ≡ self.old) }
-        ensures state { AllHome self.old → id.kind ≡ Counter → state_of self.new ≡ call_on Counter id.number (call_of (counter_entry call)) (state_of self.old) }
-        ensures home { AllHome self.old → AllHome self.new }
-        ensures settings { self.new.settings ≡ self.old.settings }
-    {
-        let Some(counter) = self.series.get_counter_mut(id) else {
-            return false;
-        };
-        counter.make(call);
-        true
-    }
-
-    /// Makes a call on a gauge, as `call_counter` does on a counter.
-    pub fn call_gauge(&mut self, id: SeriesId, call: GaugeCall) -> bool
-        ensures called { result ≡ true → ChangesGauge id (MakesCall (gauge_entry call)) self.old self.new }
-        ensures none { result ≡ false → HasNoGauge id self.old × (self.new ≡ self.old) }
-        ensures state { AllHome self.old → id.kind ≡ Gauge → state_of self.new ≡ call_on Gauge id.number (call_of (gauge_entry call)) (state_of self.old) }
-        ensures home { AllHome self.old → AllHome self.new }
-        ensures settings { self.new.settings ≡ self.old.settings }
-    {
-        let Some(gauge) = self.series.get_gauge_mut(id) else {
-            return false;
-        };
-        gauge.make(call);
-        true
     }
 
     /// Lends a counter: its handle, and a new pass that has seen what the exporter has seen and has made no call. Answers
@@ -241,8 +208,8 @@ impl PrometheusState {
     /// Lends a new pass of the series with this index, counters first and gauges behind them, to a lane.
     pub(crate) fn lend_to_lane(&mut self, alloc: Global, index: usize) -> Result<LanePass, Memory>
         requires here { index < length (things_of self.old) }
-        ensures lent { IfOk result (λ lent. (t : Thing ValueCall SeriesCell) → get_elem? (things_of self.old) index ≡ some t → IsPassOf t.fixed lent × (pass_known lent ≡ child t.root)) }
-        ensures out { OnOk result ((t : Thing ValueCall SeriesCell) → get_elem? (things_of self.old) index ≡ some t → things_of self.new ≡ set (things_of self.old) index (record t { root = lender t.root })) }
+        ensures lent { IfOk result (λ lent. (t : Thing SeriesCall SeriesCell) → get_elem? (things_of self.old) index ≡ some t → IsPassOf t.fixed lent × (pass_known lent ≡ child t.root)) }
+        ensures out { OnOk result ((t : Thing SeriesCall SeriesCell) → get_elem? (things_of self.old) index ≡ some t → things_of self.new ≡ set (things_of self.old) index (record t { root = lender t.root })) }
         ensures refused { OnErr result (things_of self.new ≡ things_of self.old) }
         ensures frame { frame_of self.new ≡ frame_of self.old }
     {
@@ -259,9 +226,9 @@ impl PrometheusState {
     /// Takes a lane's pass of the series with this index back, and reads the series.
     pub(crate) fn take_from_lane(&mut self, index: usize, lent: LanePass)
         requires here { index < length (things_of self.old) }
-        requires lent { (t : Thing ValueCall SeriesCell) → get_elem? (things_of self.old) index ≡ some t → IsPassOf t.fixed lent }
-        ensures taken { (t : Thing ValueCall SeriesCell) → get_elem? (things_of self.old) index ≡ some t
-            → (u : Thing ValueCall SeriesCell) × TookBack t.root (pass_known lent) u.root × (u.fixed ≡ t.fixed) × (things_of self.new ≡ set (things_of self.old) index u) }
+        requires lent { (t : Thing SeriesCall SeriesCell) → get_elem? (things_of self.old) index ≡ some t → IsPassOf t.fixed lent }
+        ensures taken { (t : Thing SeriesCall SeriesCell) → get_elem? (things_of self.old) index ≡ some t
+            → (u : Thing SeriesCall SeriesCell) × TookBack t.root (pass_known lent) u.root × (u.fixed ≡ t.fixed) × (things_of self.new ≡ set (things_of self.old) index u) }
         ensures frame { frame_of self.new ≡ frame_of self.old }
     {
         let counters = self.series.counter_count();

@@ -1,5 +1,6 @@
 -- The labels of a row as they are meant, and the lines of a page (Prometheus text exposition format, "Line format").
-use Rattle.std.specs.Prelude.{ℕ, List, [], ◌∷◌, ◌++◌, map, flat_map, Option, Some, None, codes}
+use Rattle.std.specs.Prelude.{ℕ, List, [], ◌∷◌, ◌++◌, map, flat_map, Option, Some, None, option_map, codes}
+use Rattle.std.specs.Borrow.{Bor}
 use Rattle.metrics_core.specs.Characters.{line}
 use Rattle.metrics_core.specs.Keys.{LabelText, label_set}
 use Rattle.metrics_core.specs.declared.units.Unit.{Unit as UnitOf}
@@ -21,6 +22,10 @@ help_line name unit suffix text = help_text (full_name name unit suffix) (Some (
 
 abbrev pub type_line : List ℕ → Option UnitOf → Option (List ℕ) → List ℕ → List ℕ
 type_line name unit suffix type = line (codes "# TYPE " ++ full_name name unit suffix ++ codes " " ++ type)
+
+-- one more label of two texts that are lent, where there is one
+abbrev pub lent_label : Option (Bor (List ℕ) × Bor (List ℕ)) → Option (List ℕ × List ℕ)
+lent_label label = option_map (λ l. (l.0.now, l.1.now)) label
 
 -- one more label, which is written as it is
 abbrev pub additional_text : Option (List ℕ × List ℕ) → List (List ℕ)

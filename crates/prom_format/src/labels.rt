@@ -134,7 +134,8 @@ impl<'a> LabelStrings<'a> {
     pub fn next_string(&mut self, alloc: Global) -> Option<Result<String, Memory>>
         ensures none { IsNone result ↔ (self.old ≡ []) }
         ensures at_end { IfNone result (self.new ≡ self.old) }
-        ensures ok { IfSome result (λ text. IfOk text (λ text. (label : LabelText) × (self.old ≡ label ∷ self.new) × (string_bytes text ≡ label_text (shown_label label)))) }
+        ensures ok { IfSome result (λ text. IfOk text (λ text. (label : LabelText)
+            × (self.old ≡ label ∷ self.new) × (string_bytes text ≡ label_text (shown_label label)))) }
         ensures err { IfSome result (λ text. OnErr text (self.new ≡ self.old)) }
     {
         let ((key, value), rest) = self.rest.split_first()?;
@@ -153,7 +154,8 @@ pub fn put_label(
     value: &str,
     alloc: Global,
 ) -> Result<(), Memory>
-    ensures { OnOk result (labels_of labels.new.entries ≡ put_label (labels_of labels.old.entries) (record { key = key.now; value = value.now })) }
+    ensures { OnOk result (labels_of labels.new.entries
+        ≡ put_label (labels_of labels.old.entries) (record { key = key.now; value = value.now })) }
 {
     let key = String::from_str(alloc, key)?;
     let value = String::from_str(alloc, value)?;
@@ -163,7 +165,8 @@ pub fn put_label(
 
 /// A label as it is printed: its key made a label name, and its printed value in quotes.
 fn printed_label(alloc: Global, key: &str, value: &str) -> Result<String, Memory>
-    ensures { IfOk result (λ text. string_bytes text ≡ label_text (shown_label (record { key = key.now; value = value.now }))) }
+    ensures { IfOk result (λ text. string_bytes text
+        ≡ label_text (shown_label (record { key = key.now; value = value.now }))) }
 {
     let key = sanitize_label_key(alloc, key)?;
     let value = sanitize_label_value(alloc, value)?;

@@ -43,8 +43,9 @@ pub fn printed_alike_where_meant_alike()
 
 /// What rows begin with tells the metric name and the labels.
 pub fn heads_tell_names_and_labels()
-    ensures { (x y : List ℕ) (xs ys : List LabelText) → IsMetricName x → IsMetricName y → All (λ label. IsLabelName label.key) xs
-        → All (λ label. IsLabelName label.key) ys → head_text x xs ≡ head_text y ys → (x ≡ y) × (xs ≡ ys) }
+    ensures { (x y : List ℕ) (xs ys : List LabelText) → IsMetricName x → IsMetricName y
+        → All (λ label. IsLabelName label.key) xs → All (λ label. IsLabelName label.key) ys
+        → head_text x xs ≡ head_text y ys → (x ≡ y) × (xs ≡ ys) }
 {}
 
 /// Families have one text, as a body and as a page: what the grammar reads as these families is that text, and where the

@@ -1,9 +1,9 @@
 //! The lines of a page, each appended whole or not at all (Prometheus text exposition format, "Line format").
 
-ghost use Rattle.std.specs.Prelude.{◌≡◌, ◌++◌, codes, map, if◌then◌else◌, ◌==◌, length, IfOk, OnErr, OnOk, string_bytes};
-ghost use Rattle.std.specs.Option.{option_copied, option_map};
+ghost use Rattle.std.specs.Prelude.{◌≡◌, ◌++◌, codes, if◌then◌else◌, ◌==◌, length, IfOk, OnErr, OnOk, string_bytes};
+ghost use Rattle.std.specs.Option.{option_copied};
 ghost use Rattle.prom_format.specs.LabelSets.{labels_of};
-ghost use Rattle.prom_format.specs.Lines.{help_line, type_line, metric_line, braced, head_text, label_texts, shown_label_set, additional_text};
+ghost use Rattle.prom_format.specs.Lines.{help_line, type_line, metric_line, braced, head_text, label_texts, shown_label_set, lent_label, additional_text};
 ghost use Rattle.prom_format.specs.Names.{sanitized_metric_name};
 
 use crate::labels::LabelSet;
@@ -22,7 +22,8 @@ pub fn write_type_line(
     suffix: Option<&'static str>,
     metric_type: &str,
 ) -> Result<(), Memory>
-    ensures ok { OnOk result (string_bytes buffer.new ≡ string_bytes buffer.old ++ type_line name.now unit (option_copied suffix.entry) metric_type.now) }
+    ensures ok { OnOk result (string_bytes buffer.new
+        ≡ string_bytes buffer.old ++ type_line name.now unit (option_copied suffix.entry) metric_type.now) }
     ensures err { OnErr result (string_bytes buffer.new ≡ string_bytes buffer.old) }
 {
     let alloc = *buffer.allocator();
@@ -40,7 +41,8 @@ pub fn write_help_line(
     suffix: Option<&'static str>,
     desc: &str,
 ) -> Result<(), Memory>
-    ensures ok { OnOk result (string_bytes buffer.new ≡ string_bytes buffer.old ++ help_line name.now unit (option_copied suffix.entry) desc.now) }
+    ensures ok { OnOk result (string_bytes buffer.new
+        ≡ string_bytes buffer.old ++ help_line name.now unit (option_copied suffix.entry) desc.now) }
     ensures err { OnErr result (string_bytes buffer.new ≡ string_bytes buffer.old) }
 {
     let alloc = *buffer.allocator();
@@ -63,7 +65,7 @@ pub fn write_metric_line(
     unit: Option<Unit>,
 ) -> Result<(), Memory>
     ensures ok { OnOk result (string_bytes buffer.new ≡ string_bytes buffer.old
-        ++ metric_line name.now (option_copied suffix.entry) labels.now (option_map (λ l. (l.0.now, l.1.now)) additional_label.entry) value.now unit) }
+        ++ metric_line name.now (option_copied suffix.entry) labels.now (lent_label additional_label.entry) value.now unit) }
     ensures err { OnErr result (string_bytes buffer.new ≡ string_bytes buffer.old) }
 {
     let alloc = *buffer.allocator();
@@ -96,7 +98,8 @@ fn braced_labels(
     labels: &LabelSet,
     additional_label: Option<(&'static str, &str)>,
 ) -> Result<String, Memory>
-    ensures { IfOk result (λ text. string_bytes text ≡ braced (label_texts labels.now ++ additional_text (option_map (λ l. (l.0.now, l.1.now)) additional_label.entry))) }
+    ensures { IfOk result (λ text. string_bytes text
+        ≡ braced (label_texts labels.now ++ additional_text (lent_label additional_label.entry))) }
 {
     let mut text = String::new(alloc);
     let mut strings = labels.to_strings();
@@ -115,7 +118,8 @@ fn braced_labels(
 
 /// Appends a label: the first one behind a brace, and each later one behind a comma.
 fn push_label(text: &mut String, label: &str) -> Result<(), Memory>
-    ensures { OnOk result (string_bytes text.new ≡ (if length (string_bytes text.old) == 0 then codes "{" else string_bytes text.old ++ codes ",") ++ label.now) }
+    ensures { OnOk result (string_bytes text.new
+        ≡ (if length (string_bytes text.old) == 0 then codes "{" else string_bytes text.old ++ codes ",") ++ label.now) }
 {
     let before = if text.is_empty() { '{' } else { ',' };
     text.push(before)?;

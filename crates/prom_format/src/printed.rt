@@ -49,7 +49,8 @@ fn printed(alloc: Global, text: &str, in_label: bool) -> Result<String, Memory>
 
 /// Appends the escape of a backslash where one waits.
 fn push_waiting(printed: &mut String, waiting: bool) -> Result<(), Memory>
-    ensures { OnOk result (string_bytes printed.new ≡ string_bytes printed.old ++ (if waiting then 92 ∷ 92 ∷ [] else [])) }
+    ensures { OnOk result (string_bytes printed.new
+        ≡ string_bytes printed.old ++ (if waiting then 92 ∷ 92 ∷ [] else [])) }
 {
     if waiting {
         printed.push_str("\\\\")?;

@@ -1,35 +1,16 @@
--- Queues that a state keeps and lends.
-use Rattle.std.specs.Prelude.{◌≡◌, List, [], ◌∷◌, ⊤}
-use Rattle.std.specs.Arc.{arc_value}
+-- Queues as a state keeps them and lends them to lanes.
+use Rattle.std.specs.Prelude.{◌≡◌, refl, List, [], ◌∷◌, Option, Some, None, MatchOption}
+use mathlib.Core.Logic.{inl, inr}
 use Rattle.legal_history.specs.declared.history.View.{View}
+use Rattle.legal_history.specs.Object.{Made, Told}
+use Rattle.cell_lanes.specs.Calls.{Found}
+use Rattle.sample_queue.specs.declared.calls.SampleEntry.{SampleEntry}
 use Rattle.sample_queue.specs.declared.calls.QueueCall.{QueueCall}
-use Rattle.sample_queue.specs.declared.calls.QueueCall.TheVariants.{Push}
-use Rattle.sample_queue.specs.declared.pass.SamplePass.{SamplePass}
-use Rattle.sample_queue.specs.declared.queue.SampleQueue.{SampleQueue}
-use Rattle.sample_queue.specs.declared.series.QueueSeries.{QueueSeries}
+use Rattle.sample_queue.specs.declared.calls.QueueCall.TheVariants.{Push, Pop}
 use Rattle.sample_queue.specs.declared.series.Sample.{Sample}
-use Rattle.sample_queue.specs.Queues.{entry_of}
-use Rattle.sample_queue.specs.declared.lent.LentQueue.{LentQueue}
-use Rattle.sample_queue.specs.Passes.{view_of}
+use Rattle.sample_queue.specs.Queues.{QueueStep, entry_of}
 
 module _ {T : Type 0} where
-  -- a queue: what its root pass knows, and the queue
-  abbrev pub queue_root : QueueSeries T → View (QueueCall T)
-  queue_root s = view_of s.root
-
-  abbrev pub queue_cell : QueueSeries T → SampleQueue T
-  queue_cell s = arc_value s.cell
-
-  -- a lent queue: its pass, what the pass knows, and the queue
-  abbrev pub queue_pass : LentQueue T → SamplePass T
-  queue_pass l = l.pass
-
-  abbrev pub queue_known : LentQueue T → View (QueueCall T)
-  queue_known l = view_of l.pass
-
-  abbrev pub queue_of : LentQueue T → SampleQueue T
-  queue_of l = arc_value l.cell
-
   -- a sample stands as its push
   abbrev pub push_of : Sample T → QueueCall T
   push_of s = Push (entry_of s.item s.count)
@@ -37,6 +18,15 @@ module _ {T : Type 0} where
   abbrev pub IsPush : Sample T → List (QueueCall T) → Type 0
   IsPush s made = made ≡ push_of s ∷ []
 
-  -- a queue takes each sample
-  abbrev pub AnySample : SampleQueue T → Sample T → Type 0
-  AnySample queue s = ⊤
+  -- what was given out, or that the queue was empty at a moment of the call
+  abbrev pub GivesOut : View (QueueCall T) → Option (SampleEntry T) → View (QueueCall T) → Type 0
+  GivesOut v answer w = MatchOption answer ((w ≡ v) × Told QueueStep [] v []) (λ entry. Made QueueStep [] (Pop entry) v w)
+
+  -- how what was given out stands in the history: a queue that was found empty stands as no call
+  abbrev pub pops : Option (SampleEntry T) → List (QueueCall T)
+  pops None = []
+  pops (Some e) = Pop e ∷ []
+
+  abbrev pub given_found : (v : View (QueueCall T)) (answer : Option (SampleEntry T)) (w : View (QueueCall T)) → GivesOut v answer w → Found (pops answer) v w
+  given_found v None w m = (m.1.0, m.1.1, inr (refl, m.0))
+  given_found v (Some e) w m = (m.0, m.3, inl m.6)

@@ -2,7 +2,7 @@
 
 /// An item that stands for `count` samples.
 #[derive(Clone, Copy, Debug, PartialEq, Eq, Drop)]
-pub struct Entry<T> {
+pub struct SampleEntry<T> {
     /// What was recorded.
     pub item: T,
     /// How often.
@@ -12,7 +12,7 @@ pub struct Entry<T> {
 /// A call in the history of a queue, with its answer.
 pub enum QueueCall<T> {
     /// An entry went to the back.
-    Push(Entry<T>),
+    Push(SampleEntry<T>),
     /// The front entry was given out: this one.
-    Pop(Entry<T>),
+    Pop(SampleEntry<T>),
 }

@@ -2,14 +2,14 @@
 
 ghost use Rattle.std.specs.Prelude.{◌≡◌, ◌==◌, ◌<◌, true};
 
-use crate::calls::{Entry, QueueCall};
+use crate::calls::{QueueCall, SampleEntry};
 use crossbeam_queue::SegPass;
 use legal_history::history::View;
 
 /// A caller's token of a queue. It knows what its holder has seen of the queue, and the calls that its holder made.
 #[derive(Drop)]
 pub struct SamplePass<T> {
-    pub(crate) seat: SegPass<Entry<T>, View<QueueCall<T>>>,
+    pub(crate) seat: SegPass<SampleEntry<T>, View<QueueCall<T>>>,
     pub(crate) root: bool,
     ghost live: { seat.me.view.client.live ≡ true },
     ghost made: { 0 < seat.me.view.client.made },

@@ -4,12 +4,12 @@ ghost use Rattle.std.specs.Prelude.{◌≡◌, ◌<◌, [], List, Ok, MatchOptio
 ghost use Rattle.legal_history.specs.Object.{Made, Told, Runs};
 ghost use Rattle.legal_history.specs.History.{Settled, calls, first, lender, child, taker};
 ghost use Rattle.sample_queue.specs.Queues.{QueueStep, front, entry_of};
-ghost use Rattle.sample_queue.specs.declared.calls.Entry.{Entry as EntryOf};
+ghost use Rattle.sample_queue.specs.declared.calls.SampleEntry.{SampleEntry};
 ghost use Rattle.sample_queue.specs.declared.calls.QueueCall.TheVariants.{Push, Pop};
 
-use crate::calls::{Entry, QueueCall};
+use crate::calls::{QueueCall, SampleEntry};
 use crate::pass::SamplePass;
-use crate::rule::{FirstInFirstOut, Lends, Pops, Pushes};
+use crate::rule::{FirstInFirstOut, Loan, Pops, Pushes};
 use crossbeam_queue::RuledSegQueue;
 use legal_history::history::View;
 use metrics_core::Memory;
@@ -18,7 +18,7 @@ use std::sync::Wait;
 
 /// A queue of entries, first in first out.
 pub struct SampleQueue<T: Drop> {
-    queue: RuledSegQueue<Entry<T>, View<QueueCall<T>>, FirstInFirstOut>,
+    queue: RuledSegQueue<SampleEntry<T>, View<QueueCall<T>>, FirstInFirstOut>,
 }
 
 impl<T: Drop> Drop for SampleQueue<T> {
@@ -59,7 +59,7 @@ impl<T: Drop> SampleQueue<T> {
         }
         match self
             .queue
-            .push_as::<Pushes, R>(rt, &mut pass.seat, Entry { item, count })
+            .push_as::<Pushes, R>(rt, &mut pass.seat, SampleEntry { item, count })
         {
             Ok(()) => Ok(()),
             Err(_refused) => Err(Memory),
@@ -67,11 +67,11 @@ impl<T: Drop> SampleQueue<T> {
     }
 
     /// Takes the front entry. None only where the queue was empty at a moment of the call.
-    pub fn next<R: Wait>(&self, rt: &R, pass: &mut SamplePass<T>) -> Option<Entry<T>>
+    pub fn next<R: Wait>(&self, rt: &R, pass: &mut SamplePass<T>) -> Option<SampleEntry<T>>
         requires { IsSamplePass self.now pass.old }
         ensures pass { IsSamplePass self.now pass.new }
         ensures call { MatchOption result ((view_of pass.new ≡ view_of pass.old) × Told QueueStep [] (view_of pass.old) []) (λ entry. Made QueueStep [] (Pop entry) (view_of pass.old) (view_of pass.new)) }
-        ensures alone { (view_of pass.old).number ≡ 0 → (view_of pass.old).out ≡ 0 → (items : List (EntryOf T)) → Runs QueueStep [] (calls (view_of pass.old).seen) items → result ≡ front items }
+        ensures alone { (view_of pass.old).number ≡ 0 → (view_of pass.old).out ≡ 0 → (items : List (SampleEntry T)) → Runs QueueStep [] (calls (view_of pass.old).seen) items → result ≡ front items }
     {
         self.queue.pop_as::<Pops, R>(rt, &mut pass.seat)
     }
@@ -84,7 +84,7 @@ impl<T: Drop> SampleQueue<T> {
         ensures pass { IsSamplePass self.now pass.new }
         ensures same { view_of pass.new ≡ view_of pass.old }
         ensures settled { Settled (view_of pass.old) }
-        ensures items { (items : List (EntryOf T)) × Runs QueueStep [] (calls (view_of pass.old).seen) items }
+        ensures items { (items : List (SampleEntry T)) × Runs QueueStep [] (calls (view_of pass.old).seen) items }
     {
         self.queue.len_as::<Pops, R>(rt, &mut pass.seat);
     }
@@ -97,7 +97,7 @@ impl<T: Drop> SampleQueue<T> {
         ensures lent { IfOk result (λ lent. IsSamplePass self.now lent × (view_of lent ≡ child (view_of pass.old)) × (view_of pass.new ≡ lender (view_of pass.old))) }
         ensures refused { OnErr result (view_of pass.new ≡ view_of pass.old) }
     {
-        let seat = self.queue.another::<Lends>(&mut pass.seat);
+        let seat = self.queue.another::<Loan>(&mut pass.seat);
         Ok(SamplePass { seat, root: false })
     }
 
@@ -109,6 +109,6 @@ impl<T: Drop> SampleQueue<T> {
         ensures call { view_of pass.new ≡ taker (view_of pass.old) (view_of child) }
     {
         let SamplePass { seat, root: _ } = child;
-        self.queue.absorb::<Lends>(&mut pass.seat, seat);
+        self.queue.absorb::<Loan>(&mut pass.seat, seat);
     }
 }

@@ -2,14 +2,17 @@
 ghost use Rattle.std.specs.Prelude.{◌≡◌, ◌<◌, length, IfOk, OnErr};
 ghost use mathlib.Core.Option.{some};
 ghost use lib.ListN.{get_elem?};
+ghost use Rattle.cell_lanes.specs.Things.{Thing, root_of};
 ghost use Rattle.cell_lanes.specs.Lanes.{Roots, AtRest, AllFit, Finished, Stopped, all_calls_on, later_on};
-ghost use Rattle.sample_queue.specs.declared.series.QueueSeries.{QueueSeries};
-ghost use Rattle.sample_queue.specs.Series.{queue_root, IsPush};
-ghost use Rattle.sample_queue.specs.Rounds.{GivenOut, pops};
+ghost use Rattle.sample_queue.specs.declared.calls.QueueCall.{QueueCall};
+ghost use Rattle.sample_queue.specs.declared.queue.SampleQueue.{SampleQueue};
+ghost use Rattle.sample_queue.specs.Series.{IsPush, pops};
+ghost use Rattle.sample_queue.specs.Rounds.{GivenOut};
 
-use crate::calls::Entry;
-use crate::series::{QueueSeries, Sample};
-use cell_lanes::{Lane, LaneHook, run_lanes};
+use crate::calls::SampleEntry;
+use crate::queue::SampleQueue;
+use crate::series::Sample;
+use cell_lanes::{Lane, LaneHook, OwnedCell, run_and_read};
 use metrics_core::Memory;
 use std::alloc::Global;
 use std::sync::Wait;
@@ -23,20 +26,17 @@ pub fn run_queues<R: Threads + Wait + Sync, H: LaneHook + Sync, T: Copy + Drop +
     rt: &R,
     alloc: Global,
     hook: &H,
-    queues: &mut Vec<QueueSeries<T>>,
+    queues: &mut Vec<OwnedCell<SampleQueue<T>>>,
     lanes: &[Lane<Sample<T>>],
     index: usize,
-) -> Result<Option<Entry<T>>, Memory>
-    requires roots { Roots queue_root queues.old.items × AtRest queue_root queues.old.items }
+) -> Result<Option<SampleEntry<T>>, Memory>
+    requires roots { Roots root_of queues.old.items × AtRest root_of queues.old.items }
     requires fit { AllFit (length queues.old.items) lanes.now }
     requires index { index < length queues.old.items }
-    ensures roots { Roots queue_root queues.new.items × AtRest queue_root queues.new.items }
-    ensures finished { IfOk result (λ answer. Finished queue_root IsPush lanes.now (later_on index (pops answer)) queues.old.items queues.new.items) }
-    ensures stopped { OnErr result (Stopped queue_root IsPush lanes.now queues.old.items queues.new.items) }
-    ensures given { IfOk result (λ front. (q : QueueSeries T) → get_elem? queues.old.items index ≡ some q → GivenOut (all_calls_on index lanes.now) (queue_root q) front) }
+    ensures roots { Roots root_of queues.new.items × AtRest root_of queues.new.items }
+    ensures finished { IfOk result (λ answer. Finished root_of IsPush lanes.now (later_on index (pops answer)) queues.old.items queues.new.items) }
+    ensures stopped { OnErr result (Stopped root_of IsPush lanes.now queues.old.items queues.new.items) }
+    ensures given { IfOk result (λ answer. (q : Thing (QueueCall T) (SampleQueue T)) → get_elem? queues.old.items index ≡ some q → GivenOut (all_calls_on index lanes.now) q.root answer) }
 {
-    match run_lanes(rt, alloc, hook, queues, lanes) {
-        Ok(()) => Ok(queues[index].next(rt)),
-        Err(refused) => Err(refused),
-    }
+    run_and_read(rt, alloc, hook, queues, lanes, index)
 }

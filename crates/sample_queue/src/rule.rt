@@ -1,13 +1,13 @@
 //! The rule of a queue of samples, and what its steps tell.
 
-use crate::calls::{Entry, QueueCall};
+use crate::calls::{QueueCall, SampleEntry};
 use crossbeam_queue::protocol::{Join, Lesson, Outcome, Protocol, Split};
 use legal_history::history::View;
 
 /// The queue and its passes have one legal history.
 pub struct FirstInFirstOut;
 
-impl<T> Protocol<Entry<T>, View<QueueCall<T>>> for FirstInFirstOut {
+impl<T> Protocol<SampleEntry<T>, View<QueueCall<T>>> for FirstInFirstOut {
     ghost use Rattle.std.specs.Prelude.{[]};
     ghost use Rattle.legal_history.specs.Object.{Keeps};
     ghost use Rattle.legal_history.specs.History.{first};
@@ -21,7 +21,7 @@ impl<T> Protocol<Entry<T>, View<QueueCall<T>>> for FirstInFirstOut {
 /// An entry goes to the back.
 pub struct Pushes;
 
-impl<T> Outcome<Entry<T>, View<QueueCall<T>>> for Pushes {
+impl<T> Outcome<SampleEntry<T>, View<QueueCall<T>>> for Pushes {
     ghost use Rattle.std.specs.Prelude.{[]};
     ghost use Rattle.legal_history.specs.Object.{Made};
     ghost use Rattle.sample_queue.specs.Queues.{QueueStep};
@@ -33,7 +33,7 @@ impl<T> Outcome<Entry<T>, View<QueueCall<T>>> for Pushes {
 /// The front entry is given out, or the queue is found empty.
 pub struct Pops;
 
-impl<T> Outcome<Entry<T>, View<QueueCall<T>>> for Pops {
+impl<T> Outcome<SampleEntry<T>, View<QueueCall<T>>> for Pops {
     ghost use Rattle.std.specs.Prelude.{[]};
     ghost use Rattle.legal_history.specs.Object.{Made};
     ghost use Rattle.sample_queue.specs.Queues.{QueueStep};
@@ -42,7 +42,7 @@ impl<T> Outcome<Entry<T>, View<QueueCall<T>>> for Pops {
     ghost then = { λ v x w. Made QueueStep [] (Pop x) v w };
 }
 
-impl<T> Lesson<Entry<T>, View<QueueCall<T>>> for Pops {
+impl<T> Lesson<SampleEntry<T>, View<QueueCall<T>>> for Pops {
     ghost use Rattle.std.specs.Prelude.{[]};
     ghost use Rattle.legal_history.specs.Object.{Told};
     ghost use Rattle.sample_queue.specs.Queues.{QueueStep};
@@ -51,9 +51,9 @@ impl<T> Lesson<Entry<T>, View<QueueCall<T>>> for Pops {
 }
 
 /// A pass is lent, or given back.
-pub struct Lends;
+pub struct Loan;
 
-impl<T> Split<View<QueueCall<T>>> for Lends {
+impl<T> Split<View<QueueCall<T>>> for Loan {
     ghost use Rattle.legal_history.specs.History.{lender, child};
 
     ghost left = { lender };
@@ -61,7 +61,7 @@ impl<T> Split<View<QueueCall<T>>> for Lends {
     ghost right = { child };
 }
 
-impl<T> Join<View<QueueCall<T>>> for Lends {
+impl<T> Join<View<QueueCall<T>>> for Loan {
     ghost use Rattle.legal_history.specs.History.{taker, nobody};
 
     ghost both = { taker };

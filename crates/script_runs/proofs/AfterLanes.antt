@@ -16,15 +16,15 @@ use Rattle.metrics_core.specs.declared.kinds.SeriesId.{SeriesId}
 use Rattle.metrics_core.specs.declared.calls.SeriesCall.{SeriesCall}
 use Rattle.metrics_core.specs.Kinds.{kind_eq}
 use Rattle.metrics_registry.specs.Live.{LiveSeries, id_eq}
-use Rattle.series_cells.specs.declared.calls.ValueCall.{ValueCall}
-use Rattle.series_cells.specs.Values as values
-use Rattle.series_cells.proofs.Played.{round_calls}
+use Rattle.metrics_core.specs.Series.{call_of}
+use Rattle.cell_lanes.proofs.Played.{round_calls}
+use Rattle.series_cells.specs.Values.{calls_of}
 use Rattle.prom_exporter.specs.State.{Series}
 use Rattle.prom_exporter.specs.Shared.{Shared, calls_seen}
 use Rattle.prom_exporter.specs.Values.{series_of, seen_series}
 use Rattle.prom_exporter.specs.Exporter.{Exporter, state_of as prometheus_of}
 use Rattle.prom_exporter.specs.declared.lanes.SeriesCell.{SeriesCell}
-use Rattle.prom_exporter.specs.LanePasses.{things_of, frame_of, ids_of, unseen, counter_thing, gauge_thing, value_call, StandsAsValue}
+use Rattle.prom_exporter.specs.LanePasses.{things_of, frame_of, ids_of, unseen, counter_thing, gauge_thing, StandsAsItself}
 use Rattle.drive_script.specs.Script as text
 use Rattle.drive_script.specs.Script.{CallLine, RoundText}
 use Rattle.drive_script.specs.Texts.{call_line_of, act_of}
@@ -70,31 +70,31 @@ module _ (ids handles : List SeriesId) (j : ℕ) where
         by false false own rest = rest
 
     -- the lines in the order of the cell's history are an order of the calls on the series
-    pub is_order : (order : List ℕ) (lines : List CallValue) → IsOrder order (λ l. map value_call (calls_at ids handles l j lines)) → IsOrderOf (filter named (map call_line_of lines)) (taken order (lines_of lines))
+    pub is_order : (order : List ℕ) (lines : List CallValue) → IsOrder order (λ l. calls_at ids handles l j lines) → IsOrderOf (filter named (map call_line_of lines)) (taken order (lines_of lines))
     is_order order lines counts lane =
         taken_lane order (lines_of lines) (λ l. owned l lines) (λ l. counts l ∙ same_count (lines_at ids handles l j lines)) lane ∙ sym (of_lane_named lane lines)
       where
-        same_count : (ys : List CallValue) → length (map value_call (map (λ (line : CallValue). asked line.act) ys)) ≡ length (map call_line_of ys)
-        same_count ys = length-map (map (λ (line : CallValue). asked line.act) ys) value_call ∙ length-map ys (λ (line : CallValue). asked line.act) ∙ sym (length-map ys call_line_of)
+        same_count : (ys : List CallValue) → length (map (λ (line : CallValue). asked line.act) ys) ≡ length (map call_line_of ys)
+        same_count ys = length-map ys (λ (line : CallValue). asked line.act) ∙ sym (length-map ys call_line_of)
 
-act_same : (moment : ℕ) (act : Act) → text.call_of moment (act_of act) ≡ values.call_of (value_call (asked act))
+act_same : (moment : ℕ) (act : Act) → text.call_of moment (act_of act) ≡ call_of (asked act)
 act_same moment (acts.Inc n) = refl
 act_same moment (acts.Abs n) = refl
 act_same moment (acts.Add v) = refl
 act_same moment (acts.Sub v) = refl
 act_same moment (acts.Set v) = refl
 
-acts_same : (moment : ℕ) (ys : List CallValue) → map (λ (c : CallLine). text.call_of moment c.act) (map call_line_of ys) ≡ map values.call_of (map value_call (map (λ (line : CallValue). asked line.act) ys))
+acts_same : (moment : ℕ) (ys : List CallValue) → map (λ (c : CallLine). text.call_of moment c.act) (map call_line_of ys) ≡ map call_of (map (λ (line : CallValue). asked line.act) ys)
 acts_same moment [] = refl
 acts_same moment (y ∷ ys) = (λ i. act_same moment y.act i ∷ acts_same moment ys i)
 
 -- what the lines do in this order is what was called
 called_lines : (ids handles : List SeriesId) (j moment : ℕ) (order : List ℕ) (lines : List CallValue)
-    → map (λ (c : CallLine). text.call_of moment c.act) (taken order (λ l. map call_line_of (lines_at ids handles l j lines))) ≡ values.calls_of (taken order (λ l. map value_call (calls_at ids handles l j lines)))
+    → map (λ (c : CallLine). text.call_of moment c.act) (taken order (λ l. map call_line_of (lines_at ids handles l j lines))) ≡ calls_of (taken order (λ l. calls_at ids handles l j lines))
 called_lines ids handles j moment order lines =
     taken_map (λ (c : CallLine). text.call_of moment c.act) order (λ l. map call_line_of (lines_at ids handles l j lines))
     ∙ ap (taken order) (λ i l. acts_same moment (lines_at ids handles l j lines) i)
-    ∙ sym (taken_map values.call_of order (λ l. map value_call (calls_at ids handles l j lines)))
+    ∙ sym (taken_map call_of order (λ l. calls_at ids handles l j lines))
 
 -- ---- equal lists that are not empty
 
@@ -126,7 +126,7 @@ module _ {F : Type 0} (kind : MetricKind) (ids handles : List SeriesId) (lines :
 
   -- the history of series j grew by its calls in an order
   abbrev pub GrewAt : ℕ → LiveSeries (Shared F) → LiveSeries (Shared F) → Type 0
-  GrewAt j s t = (order : List ℕ) × IsOrder order (λ l. map value_call (calls_at ids handles l j lines)) × (calls t.cell.root.seen ≡ calls s.cell.root.seen ++ taken order (λ l. map value_call (calls_at ids handles l j lines)))
+  GrewAt j s t = (order : List ℕ) × IsOrder order (λ l. calls_at ids handles l j lines) × (calls t.cell.root.seen ≡ calls s.cell.root.seen ++ taken order (λ l. calls_at ids handles l j lines))
 
   named_at : (j : ℕ) (s : LiveSeries (Shared F)) → get_elem? ids j ≡ some s.id → s.id.kind ≡ kind → (line : CallValue) → is_call_on handles kind (shown s) (call_line_of line) ≡ is_at ids handles j line
   named_at j s at is line =
@@ -140,7 +140,7 @@ module _ {F : Type 0} (kind : MetricKind) (ids handles : List SeriesId) (lines :
     where
       calls_path : calls_seen t.cell ≡ calls_seen s.cell ++ map (λ (c : CallLine). text.call_of moment c.act) (taken grew.0 (λ l. map call_line_of (lines_at ids handles l j lines)))
       calls_path =
-          ap (map values.call_of) grew.2 ∙ map-append values.call_of (calls s.cell.root.seen) (taken grew.0 (λ l. map value_call (calls_at ids handles l j lines)))
+          ap (map call_of) grew.2 ∙ map-append call_of (calls s.cell.root.seen) (taken grew.0 (λ l. calls_at ids handles l j lines))
           ∙ ap (λ l. calls_seen s.cell ++ l) (sym (called_lines ids handles j moment grew.0 lines))
 
   -- the orders of all series of the kind
@@ -164,13 +164,13 @@ module _ {F : Type 0} (kind : MetricKind) (ids handles : List SeriesId) (lines :
 
 module _ (e f : Exporter) (handles : List SeriesId) (lines : List CallValue) (lanes : List (Lane SeriesCall)) (done : ℕ → ℕ) where
   -- the history of each thing grew by its calls in an order
-  grew_at : AllDone lanes done → Each (Grew root_of StandsAsValue lanes done) (things_of e) (things_of f) → ((j l : ℕ) → all_calls_on j lanes l ≡ calls_at (ids_of e) handles l j lines)
-      → (j : ℕ) (c d : Thing ValueCall SeriesCell) → get_elem? (things_of e) j ≡ some c → get_elem? (things_of f) j ≡ some d
-      → (order : List ℕ) × IsOrder order (λ l. map value_call (calls_at (ids_of e) handles l j lines)) × (calls d.root.seen ≡ calls c.root.seen ++ taken order (λ l. map value_call (calls_at (ids_of e) handles l j lines)))
+  grew_at : AllDone lanes done → Each (Grew root_of StandsAsItself lanes done) (things_of e) (things_of f) → ((j l : ℕ) → all_calls_on j lanes l ≡ calls_at (ids_of e) handles l j lines)
+      → (j : ℕ) (c d : Thing SeriesCall SeriesCell) → get_elem? (things_of e) j ≡ some c → get_elem? (things_of f) j ≡ some d
+      → (order : List ℕ) × IsOrder order (λ l. calls_at (ids_of e) handles l j lines) × (calls d.root.seen ≡ calls c.root.seen ++ taken order (λ l. calls_at (ids_of e) handles l j lines))
   grew_at all each same j c d at at' =
-      let grew = round_calls root_of value_call lanes done j c d all (each j c d at at') in
-      let lists : (λ l. map value_call (all_calls_on j lanes l)) ≡ (λ l. map value_call (calls_at (ids_of e) handles l j lines)) = λ i l. map value_call (same j l i) in
-      subst (λ (xs : ℕ → List ValueCall). (order : List ℕ) × IsOrder order xs × (calls d.root.seen ≡ calls c.root.seen ++ taken order xs)) lists grew
+      let grew = round_calls root_of lanes done j c d all (each j c d at at') in
+      let lists : (λ l. all_calls_on j lanes l) ≡ (λ l. calls_at (ids_of e) handles l j lines) = λ i l. same j l i in
+      subst (λ (xs : ℕ → List SeriesCall). (order : List ℕ) × IsOrder order xs × (calls d.root.seen ≡ calls c.root.seen ++ taken order xs)) lists grew
 
   abbrev before : PlayState
   before = record { prometheus = prometheus_of e; handles = handles }
@@ -178,7 +178,7 @@ module _ (e f : Exporter) (handles : List SeriesId) (lines : List CallValue) (la
   abbrev after : PlayState
   after = record { prometheus = prometheus_of f; handles = handles }
 
-  pub round_made : AllRest e → frame_of f ≡ frame_of e → AllDone lanes done → Each (Grew root_of StandsAsValue lanes done) (things_of e) (things_of f)
+  pub round_made : AllRest e → frame_of f ≡ frame_of e → AllDone lanes done → Each (Grew root_of StandsAsItself lanes done) (things_of e) (things_of f)
       → ((j l : ℕ) → all_calls_on j lanes l ≡ calls_at (ids_of e) handles l j lines) → (round : RoundText) → round.calls ≡ map call_line_of lines → IsCalled before round after
   round_made rest frame all each same round are =
       let grew = grew_at all each same in

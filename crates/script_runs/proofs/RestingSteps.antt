@@ -17,7 +17,6 @@ use Rattle.metrics_core.specs.declared.kinds.SeriesId.{SeriesId}
 use Rattle.metrics_core.specs.declared.calls.SeriesCall.{SeriesCall}
 use Rattle.metrics_core.specs.declared.calls.SeriesCall.TheVariants as calls
 use Rattle.metrics_registry.specs.Live.{LiveSeries}
-use Rattle.series_cells.specs.declared.calls.ValueCall.{ValueCall}
 use Rattle.series_cells.specs.declared.counter.PromCounter.{PromCounter}
 use Rattle.series_cells.specs.declared.gauge.PromGauge.{PromGauge}
 use Rattle.prom_exporter.specs.Shared.{Shared, unused}
@@ -64,20 +63,20 @@ module _ (e : Exporter) where
       subst (λ n. get_elem? (ids_of e) (n + k) ≡ some s.id) (length-map counters its_id) (at_behind (map its_id counters) (map its_id gauges) k s.id (at_map its_id gauges k s at))
 
   -- a counter under its index, or a gauge
-  abbrev CounterAt : ℕ → Thing ValueCall SeriesCell → Type 0
+  abbrev CounterAt : ℕ → Thing SeriesCall SeriesCell → Type 0
   CounterAt j t = (s : LiveSeries (Shared PromCounter)) × (get_elem? counters j ≡ some s) × (counter_thing s ≡ t)
 
-  abbrev GaugeAt : ℕ → Thing ValueCall SeriesCell → Type 0
+  abbrev GaugeAt : ℕ → Thing SeriesCall SeriesCell → Type 0
   GaugeAt j t = (k : ℕ) × (j ≡ length counters + k) × ((s : LiveSeries (Shared PromGauge)) × (get_elem? gauges k ≡ some s) × (gauge_thing s ≡ t))
 
-  thing_at : (j : ℕ) (t : Thing ValueCall SeriesCell) → get_elem? (things_of e) j ≡ some t → CounterAt j t ⊎ GaugeAt j t
+  thing_at : (j : ℕ) (t : Thing SeriesCall SeriesCell) → get_elem? (things_of e) j ≡ some t → CounterAt j t ⊎ GaugeAt j t
   thing_at j t at = ⊎_elim
       (λ (front : get_elem? (map counter_thing counters) j ≡ some t). inl (map_at counter_thing counters j t front))
       (λ (back : (k : ℕ) × (j ≡ length (map counter_thing counters) + k) × (get_elem? (map gauge_thing gauges) k ≡ some t)). inr (back.0, back.1 ∙ ap (λ n. n + back.0) (length-map counters counter_thing), map_at gauge_thing gauges back.0 t back.2))
       (front_or_behind (map counter_thing counters) (map gauge_thing gauges) j t at)
 
-  module _ (P : Thing ValueCall SeriesCell → Type 0) (of_counter : (i : ℕ) (s : LiveSeries (Shared PromCounter)) → get_elem? counters i ≡ some s → P (counter_thing s)) (of_gauge : (i : ℕ) (s : LiveSeries (Shared PromGauge)) → get_elem? gauges i ≡ some s → P (gauge_thing s)) where
-    each_thing : (j : ℕ) (t : Thing ValueCall SeriesCell) → get_elem? (things_of e) j ≡ some t → P t
+  module _ (P : Thing SeriesCall SeriesCell → Type 0) (of_counter : (i : ℕ) (s : LiveSeries (Shared PromCounter)) → get_elem? counters i ≡ some s → P (counter_thing s)) (of_gauge : (i : ℕ) (s : LiveSeries (Shared PromGauge)) → get_elem? gauges i ≡ some s → P (gauge_thing s)) where
+    each_thing : (j : ℕ) (t : Thing SeriesCall SeriesCell) → get_elem? (things_of e) j ≡ some t → P t
     each_thing j t at = ⊎_elim (λ (c : CounterAt j t). subst P c.2 (of_counter j c.0 c.1)) (λ (g : GaugeAt j t). subst P g.2.2 (of_gauge g.0 g.2.0 g.2.1)) (thing_at j t at)
 
   -- ---- what lanes need
@@ -95,14 +94,14 @@ module _ (e : Exporter) where
   takes_counter cell (calls.Increment n) is = tt
   takes_counter cell (calls.Absolute n) is = tt
   takes_counter cell (calls.Add v) is = absurd (counter≢gauge is)
-  takes_counter cell (calls.Sub v) is = absurd (counter≢gauge is)
+  takes_counter cell (calls.Subtract v) is = absurd (counter≢gauge is)
   takes_counter cell (calls.Set v) is = absurd (counter≢gauge is)
 
   takes_gauge : (cell : PromGauge) (call : SeriesCall) → kinds.Gauge ≡ kind_asked call → TakesCall (cells.Gauge cell) call
   takes_gauge cell (calls.Increment n) is = absurd (counter≢gauge (sym is))
   takes_gauge cell (calls.Absolute n) is = absurd (counter≢gauge (sym is))
   takes_gauge cell (calls.Add v) is = tt
-  takes_gauge cell (calls.Sub v) is = tt
+  takes_gauge cell (calls.Subtract v) is = tt
   takes_gauge cell (calls.Set v) is = tt
 
   -- each lane's calls are of the kinds of their series
@@ -112,9 +111,9 @@ module _ (e : Exporter) where
       let asks = (asked l a at_lane).1 k x j at_line at_cell in
       ⊎_elim
       (λ (c : CounterAt j t). let same : c.0.id ≡ asks.0 = one_at (ids_of e) j c.0.id asks.0 (counter_id j c.0 c.1) asks.1 in
-      subst (λ (y : Thing ValueCall SeriesCell). TakesCall y.fixed x.call) c.2 (takes_counter c.0.cell.cell x.call (sym (rest.counters j c.0 c.1).kind_is ∙ ap (λ (id : SeriesId). id.kind) same ∙ asks.2)))
+      subst (λ (y : Thing SeriesCall SeriesCell). TakesCall y.fixed x.call) c.2 (takes_counter c.0.cell.cell x.call (sym (rest.counters j c.0 c.1).kind_is ∙ ap (λ (id : SeriesId). id.kind) same ∙ asks.2)))
       (λ (g : GaugeAt j t). let same : g.2.0.id ≡ asks.0 = one_at (ids_of e) j g.2.0.id asks.0 (subst (λ n. get_elem? (ids_of e) n ≡ some g.2.0.id) (sym g.1) (gauge_id g.0 g.2.0 g.2.1)) asks.1 in
-      subst (λ (y : Thing ValueCall SeriesCell). TakesCall y.fixed x.call) g.2.2 (takes_gauge g.2.0.cell.cell x.call (sym (rest.gauges g.0 g.2.0 g.2.1).kind_is ∙ ap (λ (id : SeriesId). id.kind) same ∙ asks.2)))
+      subst (λ (y : Thing SeriesCall SeriesCell). TakesCall y.fixed x.call) g.2.2 (takes_gauge g.2.0.cell.cell x.call (sym (rest.gauges g.0 g.2.0 g.2.1).kind_is ∙ ap (λ (id : SeriesId). id.kind) same ∙ asks.2)))
       (thing_at j t at_thing)
 
 -- as many things as ids

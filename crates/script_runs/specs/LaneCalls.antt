@@ -19,14 +19,14 @@ abbrev pub asked : Act → SeriesCall
 asked (acts.Inc count) = calls.Increment count
 asked (acts.Abs total) = calls.Absolute total
 asked (acts.Add value) = calls.Add value
-asked (acts.Sub value) = calls.Sub value
+asked (acts.Sub value) = calls.Subtract value
 asked (acts.Set value) = calls.Set value
 
 abbrev pub kind_asked : SeriesCall → MetricKind
 kind_asked (calls.Increment _) = kinds.Counter
 kind_asked (calls.Absolute _) = kinds.Counter
 kind_asked (calls.Add _) = kinds.Gauge
-kind_asked (calls.Sub _) = kinds.Gauge
+kind_asked (calls.Subtract _) = kinds.Gauge
 kind_asked (calls.Set _) = kinds.Gauge
 
 -- the id at an index is this one

@@ -154,7 +154,7 @@ fn call_of(act: Act) -> SeriesCall
         Act::Inc(count) => SeriesCall::Increment(count),
         Act::Abs(total) => SeriesCall::Absolute(total),
         Act::Add(value) => SeriesCall::Add(value),
-        Act::Sub(value) => SeriesCall::Sub(value),
+        Act::Sub(value) => SeriesCall::Subtract(value),
         Act::Set(value) => SeriesCall::Set(value),
     }
 }

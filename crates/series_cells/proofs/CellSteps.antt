@@ -13,7 +13,7 @@ use Rattle.legal_history.specs.Object.{Runs}
 use Rattle.legal_history.proofs.Lists.{calls-append}
 use Rattle.legal_history.proofs.Steps.{step as step_legal, look, lend, take_back, begins, sees, settled, one_at, empty_list}
 use Rattle.legal_history.proofs.Objects.{runs_more}
-use Rattle.series_cells.specs.declared.calls.ValueCall.{ValueCall}
+use Rattle.metrics_core.specs.declared.calls.SeriesCall.{SeriesCall}
 use Rattle.series_cells.specs.declared.views.CellView.{CellView}
 use Rattle.series_cells.specs.Cell.{history_of, waiting, total, object, Kept, cell_view, opening_view, cell_nobody, cell_lender, cell_child, cell_taker, Seen, Made, Looked, Counted, CountRead, Told}
 
@@ -58,13 +58,13 @@ each_set : (P : CellView → Type 0) (views : List CellView) (i : ℕ) (w : Cell
 each_set P views i w all mine j u e = ⊎_elim (λ (t : (j ≡ i) × (w ≡ u)). subst P t.1 mine) (λ (t : (j ≢ i) × (get_elem? views j ≡ some u)). all j u t.1) (at_set views i j w u e)
 
 -- a function's value after the calls of a run
-pub run_value : {S : Type 0} (step : S → ValueCall → S) (x y : S) (cs : List ValueCall) → Runs (object step) x cs y → y ≡ fold step x cs
+pub run_value : {S : Type 0} (step : S → SeriesCall → S) (x y : S) (cs : List SeriesCall) → Runs (object step) x cs y → y ≡ fold step x cs
 run_value step x y [] r = sym r
 run_value step x y (c ∷ cs) r = run_value step r.0 y cs r.2 ∙ ap (λ z. fold step z cs) (sym r.1)
 
-module _ {S : Type 0} (step : S → ValueCall → S) (start : S) (value_of : ℕ → S) where
+module _ {S : Type 0} (step : S → SeriesCall → S) (start : S) (value_of : ℕ → S) where
   -- a call is made
-  made_kept : (ws : List ℕ) (views : List CellView) (i : ℕ) (v : CellView) (c : ValueCall) (n : ℕ) (k : Kept step start value_of ws views) → get_elem? views i ≡ some v → v.history.live ≡ true → v.waits ≡ false
+  made_kept : (ws : List ℕ) (views : List CellView) (i : ℕ) (v : CellView) (c : SeriesCall) (n : ℕ) (k : Kept step start value_of ws views) → get_elem? views i ≡ some v → v.history.live ≡ true → v.waits ≡ false
       → step (value_of (slice_index ws 0)) c ≡ value_of n
       → Kept step start value_of (set ws 0 n) (set views i (cell_view (after v.history k.keeps.log (c ∷ [])) true v.known))
   made_kept ws views i v c n k at live idle same =
@@ -197,7 +197,7 @@ module _ {S : Type 0} (step : S → ValueCall → S) (start : S) (value_of : ℕ
       idle_at none_out i u e (no ne) true l = absurd (subst (In i) none_out ((k.keeps.legal.each i u.history (at_map history_of views i u e) l).out ne))
 
   -- the same as steps on the table: a call, whose atomic step turns the word n into f n
-  pub makes : (slots id : ℕ) (m : Seen) (c : ValueCall) (f : ℕ → ℕ) → m.0.history.live ≡ true → m.0.waits ≡ false → ((n : ℕ) → n < 2 ^ 64 → step (value_of n) c ≡ value_of (f n))
+  pub makes : (slots id : ℕ) (m : Seen) (c : SeriesCall) (f : ℕ → ℕ) → m.0.history.live ≡ true → m.0.waits ≡ false → ((n : ℕ) → n < 2 ^ 64 → step (value_of n) c ≡ value_of (f n))
       → Allows (λ (s : State (Unit {0}) CellView). Kept step start value_of s.words s.views) slots id m 0 f (λ _. Made c m)
   makes slots id m c f live idle same s k homes at below = (
     cell_view (after m.0.history k.keeps.log (c ∷ [])) true m.0.known,

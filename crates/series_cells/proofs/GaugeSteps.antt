@@ -2,7 +2,7 @@
 use Rattle.std.proofs.Common.{◌≡◌, ℕ, ◌+◌, ◌-◌, ◌%◌, ◌^◌, ◌<◌, refl}
 use Rattle.std.specs.Int.{w64, cast_signed}
 use Rattle.std.proofs.lemmas.Int.{of_z-to_z}
-use Rattle.series_cells.specs.declared.calls.ValueCall.TheVariants.{Add, Subtract, Set}
+use Rattle.metrics_core.specs.declared.calls.SeriesCall.TheVariants.{Add, Subtract, Set}
 use Rattle.series_cells.specs.Values.{gauge_step, signed, billionths}
 
 -- `fetch_add`, `fetch_sub` and `swap` with the word a

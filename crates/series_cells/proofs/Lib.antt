@@ -1,3 +1,4 @@
 pub mod CellSteps
 pub mod GaugeSteps
+pub mod Passes
 pub mod Played

@@ -9,10 +9,10 @@ use Rattle.legal_history.specs.declared.history.View.{View}
 use Rattle.legal_history.specs.History.{calls, after, looked, lender, child, taker, first, nobody, Sees}
 use Rattle.legal_history.specs.Order.{flag}
 use Rattle.legal_history.specs.Object.{Keeps}
-use Rattle.series_cells.specs.declared.calls.ValueCall.{ValueCall}
+use Rattle.metrics_core.specs.declared.calls.SeriesCall.{SeriesCall}
 use Rattle.series_cells.specs.declared.views.CellView.{CellView}
 
-abbrev pub history_of : CellView → View ValueCall
+abbrev pub history_of : CellView → View SeriesCall
 history_of v = v.history
 
 -- 1 where the pass's last call is still to be counted
@@ -24,10 +24,10 @@ total f [] = 0
 total f (x ∷ xs) = f x + total f xs
 
 -- a function as an object of one thread, whose calls have no answers
-abbrev pub object : {S : Type 0} → (S → ValueCall → S) → ValueCall → S → S → Type 0
+abbrev pub object : {S : Type 0} → (S → SeriesCall → S) → SeriesCall → S → S → Type 0
 object step c x y = step x c ≡ y
 
-module _ {S : Type 0} (step : S → ValueCall → S) (start : S) (value_of : ℕ → S) where
+module _ {S : Type 0} (step : S → SeriesCall → S) (start : S) (value_of : ℕ → S) where
   -- what holds between any two steps: the first word is the object's value after the calls of one legal history, the second is the number of counted calls modulo 2 ^ 64, and a call that is not yet counted is the last of a pass that waits
   pub record Kept (words : List ℕ) (views : List CellView) : Type 0 where
     pub two : length words ≡ 2
@@ -38,7 +38,7 @@ module _ {S : Type 0} (step : S → ValueCall → S) (start : S) (value_of : ℕ
     pub known : (i : ℕ) (v : CellView) → get_elem? views i ≡ some v → v.known ≤ counted
     pub spent : (i : ℕ) (v : CellView) → get_elem? views i ≡ some v → v.history.live ≡ false → v.waits ≡ false
 
-abbrev pub cell_view : View ValueCall → Bool → ℕ → CellView
+abbrev pub cell_view : View SeriesCall → Bool → ℕ → CellView
 cell_view h waits known = record { history = h; waits = waits; known = known }
 
 abbrev pub opening_view : CellView
@@ -61,12 +61,12 @@ abbrev pub Seen : Type 0
 Seen = Me (Unit {0}) CellView
 
 -- the call was made, behind a history that begins with all that the pass had seen
-abbrev pub Made : ValueCall → Seen → Seen → Type 0
-Made c m w = (log : List (Entry ValueCall)) × Sees m.0.history log × (w.0 ≡ cell_view (after m.0.history log (c ∷ [])) true m.0.known) × (w.1 ≡ m.1)
+abbrev pub Made : SeriesCall → Seen → Seen → Type 0
+Made c m w = (log : List (Entry SeriesCall)) × Sees m.0.history log × (w.0 ≡ cell_view (after m.0.history log (c ∷ [])) true m.0.known) × (w.1 ≡ m.1)
 
 -- the word stands for the object's value after a history that begins with all that the pass had seen, and the pass has then seen it
-abbrev pub Looked : {S : Type 0} → (S → ValueCall → S) → S → (ℕ → S) → Seen → ℕ → Seen → Type 0
-Looked step start value_of m n w = (log : List (Entry ValueCall)) × Sees m.0.history log × (value_of n ≡ fold step start (calls log)) × (w.0 ≡ cell_view (looked m.0.history log) m.0.waits m.0.known) × (w.1 ≡ m.1)
+abbrev pub Looked : {S : Type 0} → (S → SeriesCall → S) → S → (ℕ → S) → Seen → ℕ → Seen → Type 0
+Looked step start value_of m n w = (log : List (Entry SeriesCall)) × Sees m.0.history log × (value_of n ≡ fold step start (calls log)) × (w.0 ≡ cell_view (looked m.0.history log) m.0.waits m.0.known) × (w.1 ≡ m.1)
 
 -- the last call was counted, beside all that the pass knew to be counted
 abbrev pub Counted : Seen → Seen → Type 0
@@ -75,9 +75,9 @@ Counted m w = (count : ℕ) × (m.0.known ≤ count) × (w.0 ≡ cell_view m.0.h
 -- the number of calls counted, of those of a history that begins with all that the pass had seen. With no other pass out and none of its own calls to count, it is the number of all calls
 abbrev pub CountRead : Seen → ℕ → Seen → Type 0
 CountRead m n w = (count : ℕ) × (m.0.known ≤ count) × (n ≡ count % 2 ^ 64)
-    × ((log : List (Entry ValueCall)) × Sees m.0.history log × (count ≤ length log))
+    × ((log : List (Entry SeriesCall)) × Sees m.0.history log × (count ≤ length log))
     × (m.0.history.number ≡ 0 → m.0.history.out ≡ 0 → m.0.waits ≡ false → count ≡ length m.0.history.seen) × (w.0 ≡ cell_view m.0.history m.0.waits count) × (w.1 ≡ m.1)
 
 -- the pass was told that a history begins with all that it had seen, and nothing changed
 abbrev pub Told : Seen → Seen → Type 0
-Told m w = (w ≡ m) × ((log : List (Entry ValueCall)) × Sees m.0.history log)
+Told m w = (w ≡ m) × ((log : List (Entry SeriesCall)) × Sees m.0.history log)

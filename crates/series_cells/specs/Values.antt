@@ -4,25 +4,18 @@ use Rattle.std.specs.Int.{w64, cast_signed}
 use Rattle.metrics_core.specs.declared.numbers.Fixed.{Fixed}
 use Rattle.metrics_core.specs.Calls as calls
 use Rattle.metrics_core.specs.Calls.{Call, counter_value, gauge_value}
-use Rattle.series_cells.specs.declared.calls.ValueCall.{ValueCall}
-use Rattle.series_cells.specs.declared.calls.ValueCall.TheVariants.{Increment, Absolute, Add, Subtract, Set}
+use Rattle.metrics_core.specs.declared.calls.SeriesCall.{SeriesCall}
+use Rattle.metrics_core.specs.Series.{call_of}
 
--- the call of the definitions that a value of the program stands for
-abbrev pub call_of : ValueCall → Call
-call_of (Increment n) = calls.Increment n
-call_of (Absolute n) = calls.Absolute n
-call_of (Add v) = calls.Add v.0
-call_of (Subtract v) = calls.Subtract v.0
-call_of (Set v) = calls.Set v.0
-
-abbrev pub calls_of : List ValueCall → List Call
+-- the calls of the definitions that values of the program stand for
+abbrev pub calls_of : List SeriesCall → List Call
 calls_of = map call_of
 
 -- a counter's value after one more call, and a gauge's
-abbrev pub counter_step : ℕ → ValueCall → ℕ
+abbrev pub counter_step : ℕ → SeriesCall → ℕ
 counter_step n c = calls.counter_step n (call_of c)
 
-abbrev pub gauge_step : ℤ → ValueCall → ℤ
+abbrev pub gauge_step : ℤ → SeriesCall → ℤ
 gauge_step v c = calls.gauge_step v (call_of c)
 
 -- the value that a counter's word stands for, and a gauge's

@@ -2,7 +2,7 @@
 ghost use Rattle.std.specs.Prelude.{◌≡◌, ◌<◌, max, IfOk, IsOk};
 ghost use mathlib.Core.List.{IsPrefix};
 ghost use Rattle.legal_history.specs.History.{Settled, first, lender, child, taker};
-ghost use Rattle.series_cells.specs.declared.calls.ValueCall.TheVariants.{Add, Subtract, Set};
+ghost use Rattle.metrics_core.specs.declared.calls.SeriesCall.TheVariants.{Add, Subtract, Set};
 
 use crate::pass::CellPass;
 use crate::rules;
@@ -115,7 +115,7 @@ impl PromGauge {
         ensures root { (view_of pass.new ≡ lender (view_of pass.old)) × (known_of pass.new ≡ known_of pass.old) }
         ensures child { IfOk result (λ new. (view_of new ≡ child (view_of pass.old)) × (known_of new ≡ known_of pass.old)) }
     {
-        let seat = self.table.shared.split_seat::<rules::Lends>(&mut pass.seat);
+        let seat = self.table.shared.split_seat::<rules::Loan>(&mut pass.seat);
         Ok(CellPass { seat, root: false })
     }
 
@@ -133,7 +133,7 @@ impl PromGauge {
         let CellPass { seat, root: _ } = child;
         self.table
             .shared
-            .join_seat::<rules::Lends>(&mut pass.seat, seat);
+            .join_seat::<rules::Loan>(&mut pass.seat, seat);
         self.table.shared.load::<rules::Peeks>(&mut pass.seat, 0);
     }
 }

@@ -3,7 +3,7 @@
 //! A cell has two words in memory: its value, and the number of its updates. A caller has a pass of the cell, and an
 //! update is two atomic steps, one on each word. So no call waits, and none but `new` and `split` takes memory. The calls of
 //! all passes stand in one history (`legal_history`), and a read gives the value after a beginning of it that has all that the
-//! pass had seen.
+//! pass had seen. A state keeps a cell, and lends it, as an `OwnedCell` of `cell_lanes`.
 //!
 //! A counter, and a call with its root pass:
 //!
@@ -12,26 +12,17 @@
 //!     let total = requests.load(&mut pass);
 #![tactic(auto)]
 
-mod calls;
 mod counter;
-mod counter_series;
 mod faces;
 mod gauge;
-mod gauge_series;
 pub mod laws;
-mod lent_counter;
-mod lent_gauge;
 mod pass;
 mod rounds;
 mod rules;
+mod shared;
 mod views;
 
-pub use calls::{CounterCall, GaugeCall, ValueCall};
 pub use counter::PromCounter;
-pub use counter_series::CounterSeries;
 pub use gauge::PromGauge;
-pub use gauge_series::GaugeSeries;
-pub use lent_counter::LentCounter;
-pub use lent_gauge::LentGauge;
 pub use pass::CellPass;
 pub use rounds::{run_counters, run_gauges};

@@ -33,7 +33,7 @@ pub struct Increments;
 
 impl Play<(), CellView> for Increments {
     ghost use Rattle.series_cells.specs.Cell.{Made};
-    ghost use Rattle.series_cells.specs.declared.calls.ValueCall.TheVariants.{Increment};
+    ghost use Rattle.metrics_core.specs.declared.calls.SeriesCall.TheVariants.{Increment};
 
     ghost then = { λ s m _ w. Made (Increment s.first) m w };
 }
@@ -43,7 +43,7 @@ pub struct Raises;
 
 impl Play<(), CellView> for Raises {
     ghost use Rattle.series_cells.specs.Cell.{Made};
-    ghost use Rattle.series_cells.specs.declared.calls.ValueCall.TheVariants.{Absolute};
+    ghost use Rattle.metrics_core.specs.declared.calls.SeriesCall.TheVariants.{Absolute};
 
     ghost then = { λ s m _ w. Made (Absolute s.first) m w };
 }
@@ -54,7 +54,7 @@ pub struct Adds;
 impl Play<(), CellView> for Adds {
     ghost use Rattle.series_cells.specs.Cell.{Made};
     ghost use Rattle.series_cells.specs.Values.{billionths};
-    ghost use Rattle.series_cells.specs.declared.calls.ValueCall.TheVariants.{Add};
+    ghost use Rattle.metrics_core.specs.declared.calls.SeriesCall.TheVariants.{Add};
 
     ghost then = { λ s m _ w. Made (Add (billionths s.first)) m w };
 }
@@ -65,7 +65,7 @@ pub struct Subtracts;
 impl Play<(), CellView> for Subtracts {
     ghost use Rattle.series_cells.specs.Cell.{Made};
     ghost use Rattle.series_cells.specs.Values.{billionths};
-    ghost use Rattle.series_cells.specs.declared.calls.ValueCall.TheVariants.{Subtract};
+    ghost use Rattle.metrics_core.specs.declared.calls.SeriesCall.TheVariants.{Subtract};
 
     ghost then = { λ s m _ w. Made (Subtract (billionths s.first)) m w };
 }
@@ -76,7 +76,7 @@ pub struct Sets;
 impl Play<(), CellView> for Sets {
     ghost use Rattle.series_cells.specs.Cell.{Made};
     ghost use Rattle.series_cells.specs.Values.{billionths};
-    ghost use Rattle.series_cells.specs.declared.calls.ValueCall.TheVariants.{Set};
+    ghost use Rattle.metrics_core.specs.declared.calls.SeriesCall.TheVariants.{Set};
 
     ghost then = { λ s m _ w. Made (Set (billionths s.first)) m w };
 }
@@ -130,9 +130,9 @@ impl Play<(), CellView> for Peeks {
 }
 
 /// The root lends a pass, and takes one back.
-pub struct Lends;
+pub struct Loan;
 
-impl Split<CellView> for Lends {
+impl Split<CellView> for Loan {
     ghost use Rattle.series_cells.specs.Cell.{cell_lender, cell_child};
 
     ghost left = { cell_lender };
@@ -140,7 +140,7 @@ impl Split<CellView> for Lends {
     ghost right = { cell_child };
 }
 
-impl Join<CellView> for Lends {
+impl Join<CellView> for Loan {
     ghost use Rattle.series_cells.specs.Cell.{cell_taker, cell_nobody};
 
     ghost both = { cell_taker };

@@ -10,7 +10,7 @@ use Rattle.cell_lanes.specs.Things.{Thing, TookBack}
 use Rattle.cell_lanes.proofs.Rows.{thing, things, below, thing_is, thing_at, set_same}
 use Rattle.legal_history.specs.History.{taker, longer}
 use mathlib.Core.List.{IsPrefix}
-use Rattle.legal_history.proofs.Fronts.{prefix_self}
+use Rattle.legal_history.proofs.Prefixes.{prefix_self}
 use Rattle.cell_lanes.proofs.lenders.VecLenders.take_back.Goals as goal
 
 pub take_back-requires-clause-root : goal.take_back-requires-clause-root

@@ -1,4 +1,4 @@
-use Rattle.std.proofs.Common.{ap, ◌∙◌, is_some}
+use Rattle.std.proofs.Common.{ap, ◌∙◌, is_some, refl, inr}
 use Rattle.std.specs.Map.{lookup}
 use Rattle.left_right.specs.Sides.{view}
 use Rattle.evmap_contents.specs.Fold.{after}
@@ -10,3 +10,6 @@ pub returns-in-Some : goal.returns-in-Some
 returns-in-Some g c =
     answered g.K.KeyClone.plain (after g.K.KeyClone.same g.V.PartialEq.eq g.P.Keep.keeps) _ _ _ _ c.in-Some.reading.part.value (view c.in-Some.reading.place) c.in-Some.ensures.0 c.in-Some.ensures.1 c.leave.ensures
     (c.contains_key-found.ensures ∙ ap (λ s. is_some (lookup (g.K.KeyClone.same (g.K.KeyClone.plain c.args.key.now)) (contents g.K.KeyClone.plain s.inner).entries)) c.get.ensures)
+
+pub returns-in-None : goal.returns-in-None
+returns-in-None g c = inr (c.in-None.ensures, refl)

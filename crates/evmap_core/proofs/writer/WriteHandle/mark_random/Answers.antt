@@ -18,5 +18,6 @@ returns g c =
         is.2 ∙ ap (λ ws. ws ++ RemovePlaces c.in_ok-removed.removed ∷ []) was.1 ∙ ap (λ ps. RemovePlaces ps ∷ []) (c.in_ok-removed.ensures ∙ ap reverse c.deref.ensures.value),
         ap (λ s. arc_value s.made) is.0 ∙ was.2,
         is.1 ∙ was.3 ∙ sym (ap (writes_of plain) is.0),
+        is.3 ∙ was.4,
       ),
     )

@@ -7,8 +7,7 @@ use Rattle.metrics_registry.specs.Live.{LiveSeries}
 use Rattle.metrics_registry.specs.Places.{with_cell_at}
 use Rattle.series_cells.specs.declared.counter.PromCounter.{PromCounter}
 use Rattle.series_cells.specs.declared.gauge.PromGauge.{PromGauge}
-use Rattle.series_cells.specs.declared.calls.ValueCall.{ValueCall}
-use Rattle.series_cells.specs.Series.{counter_known, gauge_known, counter_of, gauge_of}
+use Rattle.metrics_core.specs.declared.calls.SeriesCall.{SeriesCall}
 use Rattle.prom_exporter.specs.declared.lanes.LanePass.{LanePass}
 use Rattle.prom_exporter.specs.declared.lanes.LanePass.TheVariants as passes
 use Rattle.prom_exporter.specs.declared.lanes.SeriesCell.{SeriesCell}
@@ -19,13 +18,13 @@ use Rattle.prom_exporter.specs.contracts.state.PrometheusState.{the_view}
 use Rattle.prom_exporter.proofs.LaneThings.{counter_frame, gauge_frame, things_in, of_counter, of_gauge, counter_here, counter_put, counter_found, gauge_here, gauge_put, gauge_found, is_one, took_back}
 use Rattle.prom_exporter.proofs.state.PrometheusState.take_from_lane.Goals as goal
 
-pub take_from_lane-requires : goal.take_from_lane-requires
-take_from_lane-requires c =
+pub take_from_lane-requires-clause-lent : goal.take_from_lane-requires-clause-lent
+take_from_lane-requires-clause-lent c =
     let at = counter_here c.self.inside.series c.args.index c.counter_at.result.now c.counter_at.ensures.value in
     subst (IsPassOf (cells.Counter c.counter_at.result.now.cell)) c.in-Counter.is (c.requires.lent (of_counter c.counter_at.result.now) (subst (λ e. get_elem? (things_of e) c.args.index ≡ some (of_counter c.counter_at.result.now)) c.self.view_is at))
 
-pub take_from_lane-requires-then-index-counters-2 : goal.take_from_lane-requires-then-index-counters-2
-take_from_lane-requires-then-index-counters-2 c =
+pub take_from_lane-requires-then-index-counters-2-clause-lent : goal.take_from_lane-requires-then-index-counters-2-clause-lent
+take_from_lane-requires-then-index-counters-2-clause-lent c =
     let series = c.self.inside.series in
     let cell = c.gauge_at.result.now in
     let least : length series.counters ≤ c.args.index = subst (λ n. n ≤ c.args.index) c.counter_count-counters.ensures.count c.if-index-counters-2.true in
@@ -39,7 +38,7 @@ returns-then-index-counters c =
     let cell = c.counter_at.result.now in
     let new = c.take_from_lane.new.self in
     let below = c.if-index-counters.true in
-    let took = took_back cell new (counter_known c.in-Counter.counter) c.take_from_lane.ensures in
+    let took = took_back cell new c.in-Counter.counter.knows c.take_from_lane.ensures in
     rw (← c.self.view_is, c.in-Counter.is) (record {
       frame = counter_frame (the_view c.self.inside) c.args.index cell new c.counter_at.ensures.value took.1;
       taken = λ t e.
@@ -62,7 +61,7 @@ returns-then-index-counters-2 c =
     let new = c.take_from_lane-then-index-counters-2.new.self in
     let least : length series.counters ≤ c.args.index = subst (λ n. n ≤ c.args.index) c.counter_count-counters.ensures.count c.if-index-counters-2.true in
     let value = subst (λ n. option_map (λ (s : LiveSeries (Shared PromGauge)). s.cell) (slice_get series.gauges (c.args.index - n)) ≡ Some cell) c.counter_count-counters.ensures.count c.gauge_at.ensures.value in
-    let took = took_back cell new (gauge_known c.in-Gauge.gauge) c.take_from_lane-then-index-counters-2.ensures in
+    let took = took_back cell new c.in-Gauge.gauge.knows c.take_from_lane-then-index-counters-2.ensures in
     rw (← c.self.view_is, c.in-Gauge.is) (record {
       frame = gauge_frame (the_view c.self.inside) (c.args.index - c.counter_count-counters.result) cell new c.gauge_at.ensures.value took.1;
       taken = λ t e.

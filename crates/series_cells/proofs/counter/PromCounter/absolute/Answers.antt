@@ -1,6 +1,6 @@
 use Rattle.std.proofs.Common.{refl, ap, ◌∙◌, arith}
 use Rattle.series_cells.specs.Values.{counter_step, itself}
-use Rattle.series_cells.specs.declared.calls.ValueCall.TheVariants.{Absolute}
+use Rattle.metrics_core.specs.declared.calls.SeriesCall.TheVariants.{Absolute}
 use Rattle.series_cells.specs.declared.views.CellView.{CellView}
 use Rattle.series_cells.proofs.CellSteps.{makes, counts}
 use Rattle.series_cells.proofs.counter.PromCounter.absolute.Goals as goal

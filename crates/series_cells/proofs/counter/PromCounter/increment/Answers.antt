@@ -1,6 +1,6 @@
 use Rattle.std.proofs.Common.{refl, ap, ◌∙◌, arith}
 use Rattle.series_cells.specs.Values.{counter_step, itself}
-use Rattle.series_cells.specs.declared.calls.ValueCall.TheVariants.{Increment}
+use Rattle.metrics_core.specs.declared.calls.SeriesCall.TheVariants.{Increment}
 use Rattle.series_cells.specs.declared.views.CellView.{CellView}
 use Rattle.series_cells.proofs.CellSteps.{makes, counts}
 use Rattle.series_cells.proofs.counter.PromCounter.increment.Goals as goal

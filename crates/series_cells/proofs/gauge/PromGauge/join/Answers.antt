@@ -6,7 +6,7 @@ use Rattle.legal_history.proofs.Placed.{came_back}
 use Rattle.series_cells.specs.Cell.{Seen, history_of}
 use Rattle.std.specs.Prelude.{pos}
 use Rattle.series_cells.specs.Values.{gauge_step, signed}
-use Rattle.series_cells.specs.declared.calls.ValueCall.{ValueCall}
+use Rattle.metrics_core.specs.declared.calls.SeriesCall.{SeriesCall}
 use Rattle.series_cells.proofs.CellSteps.{peeks, takes_back}
 use Rattle.series_cells.proofs.gauge.PromGauge.join.Goals as goal
 
@@ -28,5 +28,5 @@ returns-clause-seen c =
     let told = c.load.ensures.2 in
     let joined = ap (λ (m : Seen). history_of m.0) e.2 in
     let now = ap (λ (m : Seen). history_of m.0) told.0 ∙ joined in
-    subst (λ (v : View ValueCall). IsPrefix (history_of c.args.child.seat.me.0).seen v.seen) (sym now)
-    (came_back (history_of c.args.pass.now.seat.me.0) (history_of c.args.child.seat.me.0) told.1.0 (subst (λ (v : View ValueCall). Sees v told.1.0) joined told.1.1))
+    subst (λ (v : View SeriesCall). IsPrefix (history_of c.args.child.seat.me.0).seen v.seen) (sym now)
+    (came_back (history_of c.args.pass.now.seat.me.0) (history_of c.args.child.seat.me.0) told.1.0 (subst (λ (v : View SeriesCall). Sees v told.1.0) joined told.1.1))

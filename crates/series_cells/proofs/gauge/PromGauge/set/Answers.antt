@@ -3,7 +3,7 @@ use Rattle.std.specs.Prelude.{pos}
 use Rattle.series_cells.specs.Values.{gauge_step, signed}
 use Rattle.series_cells.specs.Values.{billionths}
 use Rattle.series_cells.proofs.GaugeSteps.{gauge_sets}
-use Rattle.series_cells.specs.declared.calls.ValueCall.TheVariants.{Set}
+use Rattle.metrics_core.specs.declared.calls.SeriesCall.TheVariants.{Set}
 use Rattle.series_cells.specs.declared.views.CellView.{CellView}
 use Rattle.series_cells.proofs.CellSteps.{makes, counts}
 use Rattle.series_cells.proofs.gauge.PromGauge.set.Goals as goal

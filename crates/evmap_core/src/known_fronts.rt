@@ -3,7 +3,7 @@ use evmap_contents::Write;
 use std::collections::LinkedList;
 
 /// What a thread knows of the fronts, the lists of published writes. No value of it is made.
-pub struct View<K, V, M, P> {
+pub struct KnownFronts<K, V, M, P> {
     /// The meta that the map was made with, once a front was seen.
     pub made: Option<M>,
     /// The front that it saw last.
