@@ -10,7 +10,7 @@ use Rattle.std.proofs.lemmas.List.Sorted.{IsPermutation-refl, IsPermutation-tran
 use Rattle.std.proofs.lemmas.Option.{slice_get-get_or, slice_get_cases}
 use Rattle.evmap_contents.specs.Fold.{without_place}
 use Rattle.evmap_core.specs.Marked.{entries_at}
-use Rattle.evmap_core.proofs.Prefixes.{fold-append}
+use Rattle.evmap_core.proofs.Fronts.{fold-append}
 
 -- the places ascend from low, and are below n
 abbrev Rise : ℕ → ℕ → List ℕ → Type 0

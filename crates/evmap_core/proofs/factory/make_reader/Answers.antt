@@ -1,5 +1,5 @@
 use Rattle.evmap_contents.specs.Fold.{after}
-use Rattle.evmap_core.proofs.Prefixes.{admits}
+use Rattle.evmap_core.proofs.Fronts.{admits}
 use Rattle.evmap_core.proofs.factory.make_reader.Goals as goal
 
 pub reader-requires : goal.reader-requires

@@ -1,5 +1,5 @@
 use Rattle.evmap_contents.specs.Fold.{after}
-use Rattle.evmap_core.proofs.Prefixes.{starts}
+use Rattle.evmap_core.proofs.Fronts.{starts}
 use Rattle.evmap_core.proofs.writer.empty_writer.Goals as goal
 
 pub new-requires-4-clause-rule : goal.new-requires-4-clause-rule

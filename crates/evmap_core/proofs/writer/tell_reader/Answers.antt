@@ -1,6 +1,6 @@
 use Rattle.std.proofs.Common.{rules}
 use Rattle.evmap_contents.specs.Fold.{after}
-use Rattle.evmap_core.proofs.Prefixes.{admits, forks, merges}
+use Rattle.evmap_core.proofs.Fronts.{admits, forks, merges}
 use Rattle.evmap_core.proofs.writer.tell_reader.Goals as goal
 
 pub reader-requires : goal.reader-requires

@@ -2,7 +2,7 @@ use Rattle.std.proofs.Common.{sym, ap, ◌∙◌}
 use Rattle.left_right.specs.Sides.{view}
 use Rattle.std.specs.Option.{option_map}
 use Rattle.evmap_contents.specs.Fold.{after}
-use Rattle.evmap_core.proofs.Prefixes.{stays}
+use Rattle.evmap_core.proofs.Fronts.{stays}
 use Rattle.evmap_core.proofs.reader.ReadHandle.look.Goals as goal
 
 pub enter_as-requires : goal.enter_as-requires
