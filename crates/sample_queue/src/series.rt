@@ -21,7 +21,7 @@ pub struct Sample<T> {
 
 impl<T: Copy + Drop + Send + Sync> SharedCell for SampleQueue<T> {
     ghost use Rattle.sample_queue.specs.Passes.{IsSamplePass, view_of};
-    ghost use Rattle.std.proofs.Props.{props};
+    ghost use Rattle.sample_queue.specs.OneFact.{one_sample_pass};
     ghost use Rattle.sample_queue.specs.Series.{IsPush, GivesOut, given_found, pops};
 
     type Pass = SamplePass<T>;
@@ -34,7 +34,7 @@ impl<T: Copy + Drop + Send + Sync> SharedCell for SampleQueue<T> {
 
     ghost is_pass = { IsSamplePass };
 
-    ghost is_one_fact = { λ queue pass. Prim.hlevel props };
+    ghost is_one_fact = { one_sample_pass };
 
     ghost view = { view_of };
 
