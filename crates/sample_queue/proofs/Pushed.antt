@@ -9,9 +9,9 @@ use Rattle.cell_lanes.specs.Lanes.{ReadAfter}
 use Rattle.sample_queue.specs.declared.series.Sample.{Sample}
 use Rattle.sample_queue.specs.declared.calls.SampleEntry.{SampleEntry}
 use Rattle.sample_queue.specs.declared.calls.QueueCall.{QueueCall}
-use Rattle.sample_queue.specs.Queues.{QueueStep}
+use Rattle.sample_queue.specs.Queues.{QueueStep, GivesOut}
 use Rattle.sample_queue.specs.Rounds.{GivenOut}
-use Rattle.sample_queue.specs.Series.{IsPush, GivesOut, push_of}
+use Rattle.sample_queue.specs.Series.{IsPush, push_of}
 use Rattle.sample_queue.proofs.InOrder.{found}
 
 module _ {T : Type 0} where

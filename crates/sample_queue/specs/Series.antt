@@ -1,14 +1,13 @@
 -- Queues as a state keeps them and lends them to lanes.
-use Rattle.std.specs.Prelude.{◌≡◌, refl, List, [], ◌∷◌, Option, Some, None, MatchOption}
+use Rattle.std.specs.Prelude.{◌≡◌, refl, List, [], ◌∷◌, Option, Some, None}
 use mathlib.Core.Logic.{inl, inr}
 use Rattle.legal_history.specs.declared.history.View.{View}
-use Rattle.legal_history.specs.Object.{Made, Told}
 use Rattle.cell_lanes.specs.Calls.{Found}
 use Rattle.sample_queue.specs.declared.calls.SampleEntry.{SampleEntry}
 use Rattle.sample_queue.specs.declared.calls.QueueCall.{QueueCall}
 use Rattle.sample_queue.specs.declared.calls.QueueCall.TheVariants.{Push, Pop}
 use Rattle.sample_queue.specs.declared.series.Sample.{Sample}
-use Rattle.sample_queue.specs.Queues.{QueueStep, entry_of}
+use Rattle.sample_queue.specs.Queues.{entry_of, GivesOut}
 
 module _ {T : Type 0} where
   -- a sample stands as its push
@@ -17,10 +16,6 @@ module _ {T : Type 0} where
 
   abbrev pub IsPush : Sample T → List (QueueCall T) → Type 0
   IsPush s made = made ≡ push_of s ∷ []
-
-  -- what was given out, or that the queue was empty at a moment of the call
-  abbrev pub GivesOut : View (QueueCall T) → Option (SampleEntry T) → View (QueueCall T) → Type 0
-  GivesOut v answer w = MatchOption answer ((w ≡ v) × Told QueueStep [] v []) (λ entry. Made QueueStep [] (Pop entry) v w)
 
   -- how what was given out stands in the history: a queue that was found empty stands as no call
   abbrev pub pops : Option (SampleEntry T) → List (QueueCall T)

@@ -22,7 +22,7 @@ mod rule;
 mod series;
 
 pub use calls::{QueueCall, SampleEntry};
-pub use histograms::{DsdHistogram, PromHistogram};
+pub use histograms::{DsdHistogram, PromHistogram, Recorded};
 pub use pass::SamplePass;
 pub use queue::SampleQueue;
 pub use rounds::run_queues;

@@ -1,11 +1,8 @@
 //! A queue of samples that threads share.
 
-ghost use Rattle.std.specs.Prelude.{◌≡◌, ◌<◌, [], List, Ok, MatchOption, IfOk, OnOk, OnErr};
-ghost use Rattle.legal_history.specs.Object.{Made, Told, Runs};
-ghost use Rattle.legal_history.specs.History.{Settled, calls, first, lender, child, taker};
-ghost use Rattle.sample_queue.specs.Queues.{QueueStep, front, entry_of};
-ghost use Rattle.sample_queue.specs.declared.calls.SampleEntry.{SampleEntry};
-ghost use Rattle.sample_queue.specs.declared.calls.QueueCall.TheVariants.{Push, Pop};
+ghost use Rattle.std.specs.Prelude.{◌≡◌, Ok, IfOk, OnOk, OnErr};
+ghost use Rattle.legal_history.specs.History.{Settled, first, lender, child, taker};
+ghost use Rattle.sample_queue.specs.Queues.{Entries, Holds, Puts, GivesOut, AnswersAlone};
 
 use crate::calls::{QueueCall, SampleEntry};
 use crate::pass::SamplePass;
@@ -33,7 +30,8 @@ impl<T: Drop> SampleQueue<T> {
 
     /// An empty queue, with its root pass.
     pub fn new(alloc: Global) -> Result<(SampleQueue<T>, SamplePass<T>), Memory>
-        ensures { IfOk result (λ made. IsSamplePass made.0 made.1 × (view_of made.1 ≡ first) × Settled (view_of made.1)) }
+        ensures pass { IfOk result (λ made. IsSamplePass made.0 made.1) }
+        ensures first { IfOk result (λ made. (view_of made.1 ≡ first) × Settled (view_of made.1)) }
     {
         let (queue, seat) = RuledSegQueue::with_rule(alloc)?;
         Ok((SampleQueue { queue }, SamplePass { seat, root: true }))
@@ -50,7 +48,7 @@ impl<T: Drop> SampleQueue<T> {
     ) -> Result<(), Memory>
         requires { IsSamplePass self.now pass.old }
         ensures pass { IsSamplePass self.now pass.new }
-        ensures call { OnOk result (0 < count → Made QueueStep [] (Push (entry_of item count)) (view_of pass.old) (view_of pass.new)) }
+        ensures call { OnOk result (Puts item count (view_of pass.old) (view_of pass.new)) }
         ensures refused { OnErr result (view_of pass.new ≡ view_of pass.old) }
         ensures none { count ≡ 0 → (result ≡ Ok tt) × (view_of pass.new ≡ view_of pass.old) }
     {
@@ -70,8 +68,8 @@ impl<T: Drop> SampleQueue<T> {
     pub fn next<R: Wait>(&self, rt: &R, pass: &mut SamplePass<T>) -> Option<SampleEntry<T>>
         requires { IsSamplePass self.now pass.old }
         ensures pass { IsSamplePass self.now pass.new }
-        ensures call { MatchOption result ((view_of pass.new ≡ view_of pass.old) × Told QueueStep [] (view_of pass.old) []) (λ entry. Made QueueStep [] (Pop entry) (view_of pass.old) (view_of pass.new)) }
-        ensures alone { (view_of pass.old).number ≡ 0 → (view_of pass.old).out ≡ 0 → (items : List (SampleEntry T)) → Runs QueueStep [] (calls (view_of pass.old).seen) items → result ≡ front items }
+        ensures call { GivesOut (view_of pass.old) result (view_of pass.new) }
+        ensures alone { AnswersAlone (view_of pass.old) result }
     {
         self.queue.pop_as::<Pops, R>(rt, &mut pass.seat)
     }
@@ -84,7 +82,7 @@ impl<T: Drop> SampleQueue<T> {
         ensures pass { IsSamplePass self.now pass.new }
         ensures same { view_of pass.new ≡ view_of pass.old }
         ensures settled { Settled (view_of pass.old) }
-        ensures items { (items : List (SampleEntry T)) × Runs QueueStep [] (calls (view_of pass.old).seen) items }
+        ensures items { (items : Entries T) × Holds (view_of pass.old) items }
     {
         self.queue.len_as::<Pops, R>(rt, &mut pass.seat);
     }
@@ -94,7 +92,9 @@ impl<T: Drop> SampleQueue<T> {
         requires pass { IsSamplePass self.now pass.old }
         requires root { (view_of pass.old).number ≡ 0 }
         ensures pass { IsSamplePass self.now pass.new }
-        ensures lent { IfOk result (λ lent. IsSamplePass self.now lent × (view_of lent ≡ child (view_of pass.old)) × (view_of pass.new ≡ lender (view_of pass.old))) }
+        ensures lent { IfOk result (IsSamplePass self.now) }
+        ensures child { IfOk result (λ lent. view_of lent ≡ child (view_of pass.old)) }
+        ensures root { OnOk result (view_of pass.new ≡ lender (view_of pass.old)) }
         ensures refused { OnErr result (view_of pass.new ≡ view_of pass.old) }
     {
         let seat = self.queue.another::<Loan>(&mut pass.seat);

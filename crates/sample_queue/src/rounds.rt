@@ -1,13 +1,8 @@
 //! Rounds of lanes over queues.
-ghost use Rattle.std.specs.Prelude.{◌≡◌, ◌<◌, length, IfOk, OnErr};
-ghost use mathlib.Core.Option.{some};
-ghost use lib.ListN.{get_elem?};
-ghost use Rattle.cell_lanes.specs.Things.{Thing, root_of};
-ghost use Rattle.cell_lanes.specs.Lanes.{Roots, AtRest, AllFit, Finished, Stopped, all_calls_on, later_on};
-ghost use Rattle.sample_queue.specs.declared.calls.QueueCall.{QueueCall};
-ghost use Rattle.sample_queue.specs.declared.queue.SampleQueue.{SampleQueue};
-ghost use Rattle.sample_queue.specs.Series.{IsPush, pops};
-ghost use Rattle.sample_queue.specs.Rounds.{GivenOut};
+ghost use Rattle.std.specs.Prelude.{◌<◌, length, IfOk, OnErr};
+ghost use Rattle.cell_lanes.specs.Things.{root_of};
+ghost use Rattle.cell_lanes.specs.Lanes.{Roots, AtRest, AllFit};
+ghost use Rattle.sample_queue.specs.Rounds.{Popped, GivenAfter, PushesStopped};
 
 use crate::calls::SampleEntry;
 use crate::queue::SampleQueue;
@@ -34,9 +29,9 @@ pub fn run_queues<R: Threads + Wait + Sync, H: LaneHook + Sync, T: Copy + Drop +
     requires fit { AllFit (length queues.old.items) lanes.now }
     requires index { index < length queues.old.items }
     ensures roots { Roots root_of queues.new.items × AtRest root_of queues.new.items }
-    ensures finished { IfOk result (λ answer. Finished root_of IsPush lanes.now (later_on index (pops answer)) queues.old.items queues.new.items) }
-    ensures stopped { OnErr result (Stopped root_of IsPush lanes.now queues.old.items queues.new.items) }
-    ensures given { IfOk result (λ answer. (q : Thing (QueueCall T) (SampleQueue T)) → get_elem? queues.old.items index ≡ some q → GivenOut (all_calls_on index lanes.now) q.root answer) }
+    ensures finished { IfOk result (Popped lanes.now index queues.old.items queues.new.items) }
+    ensures stopped { OnErr result (PushesStopped lanes.now queues.old.items queues.new.items) }
+    ensures given { IfOk result (GivenAfter lanes.now index queues.old.items) }
 {
     run_and_read(rt, alloc, hook, queues, lanes, index)
 }

@@ -22,7 +22,8 @@ pub struct Sample<T> {
 impl<T: Copy + Drop + Send + Sync> SharedCell for SampleQueue<T> {
     ghost use Rattle.sample_queue.specs.Passes.{IsSamplePass, view_of};
     ghost use Rattle.sample_queue.specs.OneFact.{one_sample_pass};
-    ghost use Rattle.sample_queue.specs.Series.{IsPush, GivesOut, given_found, pops};
+    ghost use Rattle.sample_queue.specs.Queues.{GivesOut};
+    ghost use Rattle.sample_queue.specs.Series.{IsPush, given_found, pops};
 
     type Pass = SamplePass<T>;
 
