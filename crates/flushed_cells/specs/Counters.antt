@@ -1,6 +1,9 @@
 -- The counter of one thread that is flushed (this project's rule).
 use Rattle.std.specs.Prelude.{◌≡◌, ℕ, ◌+◌, ◌-◌, max, List, [], ◌∷◌}
 use Rattle.metrics_core.specs.Numbers.{in_64_bits}
+use Rattle.legal_history.specs.declared.history.View.{View}
+use Rattle.legal_history.specs.History.{calls}
+use Rattle.legal_history.specs.Object.{Runs, Made}
 use Rattle.flushed_cells.specs.declared.counter_state.CounterMode.{CounterMode}
 use Rattle.flushed_cells.specs.declared.counter_state.CounterMode.TheVariants as mode
 use Rattle.flushed_cells.specs.declared.counter_state.CounterState.{CounterState}
@@ -48,6 +51,26 @@ abbrev pub changed : CounterChange → CounterState → CounterState
 changed (change.Increment n) s = incremented n s
 changed (change.Absolute n) s = absolute n s
 changed change.Flush s = flushed s
+
+-- after these calls a counter holds this
+abbrev pub CounterAfter : List CounterCall → CounterState → Type 0
+CounterAfter = Runs CounterStep counter_start
+
+-- the same of the calls that a pass has seen
+abbrev pub Holds : View CounterCall → CounterState → Type 0
+Holds v s = CounterAfter (calls v.seen) s
+
+-- the call was made, behind a history that begins with all that the pass had seen, and its answer is right there
+abbrev pub Called : CounterCall → View CounterCall → View CounterCall → Type 0
+Called = Made CounterStep counter_start
+
+-- the same of what was asked, at a state
+abbrev pub Turned : CounterChange → CounterState → View CounterCall → View CounterCall → Type 0
+Turned change s = Called (answered change s)
+
+-- a flush with this answer
+abbrev pub counter_flush : ℕ × ℕ → CounterCall
+counter_flush answer = Flush answer.0 answer.1
 
 -- a counter as four words
 abbrev pub code_of_mode : CounterMode → ℕ

@@ -4,6 +4,9 @@ use Rattle.std.specs.Int.{w64, cast_unsigned}
 use Rattle.metrics_core.specs.declared.numbers.Fixed.{Fixed as FixedOf}
 use Rattle.metrics_core.specs.Numbers.{in_64_bits}
 use Rattle.metrics_core.specs.Fixed.{of_billionths, updated}
+use Rattle.legal_history.specs.declared.history.View.{View}
+use Rattle.legal_history.specs.History.{calls}
+use Rattle.legal_history.specs.Object.{Runs, Made}
 use Rattle.flushed_cells.specs.declared.gauge_state.GaugeState.{GaugeState}
 use Rattle.flushed_cells.specs.declared.gauge_calls.GaugeCall.{GaugeCall}
 use Rattle.flushed_cells.specs.declared.gauge_calls.GaugeCall.TheVariants.{Update, Flush}
@@ -29,6 +32,26 @@ answered change.Flush s = Flush s.value s.updates
 abbrev pub changed : GaugeChange → GaugeState → GaugeState
 changed (change.Update update) s = gauge_of (updated update s.value) (in_64_bits (s.updates + 1))
 changed change.Flush s = gauge_of s.value 0
+
+-- after these calls a gauge holds this
+abbrev pub GaugeAfter : List GaugeCall → GaugeState → Type 0
+GaugeAfter = Runs GaugeStep gauge_start
+
+-- the same of the calls that a pass has seen
+abbrev pub Holds : View GaugeCall → GaugeState → Type 0
+Holds v s = GaugeAfter (calls v.seen) s
+
+-- the call was made, behind a history that begins with all that the pass had seen, and its answer is right there
+abbrev pub Called : GaugeCall → View GaugeCall → View GaugeCall → Type 0
+Called = Made GaugeStep gauge_start
+
+-- the same of what was asked, at a state
+abbrev pub Turned : GaugeChange → GaugeState → View GaugeCall → View GaugeCall → Type 0
+Turned change s = Called (answered change s)
+
+-- a flush with this answer
+abbrev pub gauge_flush : FixedOf × ℕ → GaugeCall
+gauge_flush answer = Flush answer.0 answer.1
 
 -- n stands for the values n and -1 - n, in as many bits
 abbrev pub size_of : ℤ → ℕ

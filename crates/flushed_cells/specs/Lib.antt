@@ -3,6 +3,7 @@ pub mod Passes
 pub mod Counters
 pub mod Gauges
 pub mod Totals
+pub mod Laws
 pub mod Cells
 pub mod Series
 pub mod Rounds

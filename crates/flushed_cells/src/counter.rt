@@ -1,9 +1,9 @@
 //! A counter that threads share and that is flushed.
 
-ghost use Rattle.std.specs.Prelude.{◌≡◌, true, MatchBool, IfOk, OnErr};
+ghost use Rattle.std.specs.Prelude.{◌≡◌, true, IfOk, OnOk, OnErr};
+ghost use Rattle.std.specs.Bool.{OnTrue, OnFalse};
 ghost use Rattle.crossbeam_utils.specs.Seq.{cell_view};
-ghost use Rattle.legal_history.specs.Object.{Made, Runs};
-ghost use Rattle.flushed_cells.specs.Counters.{CounterStep, counter_start, answered};
+ghost use Rattle.flushed_cells.specs.Counters.{Called, Turned, Holds, answered};
 
 use crate::counter_calls::{CounterCall, CounterChange};
 use crate::counter_state::CounterState;
@@ -88,11 +88,12 @@ impl DsdCounter {
     ghost use Rattle.flushed_cells.specs.Passes.{view_of};
     ghost use Rattle.flushed_cells.specs.declared.counter_state.CounterState.{CounterState as StateOf};
     ghost use Rattle.flushed_cells.specs.declared.counter_calls.CounterCall.TheVariants.{Increment, Absolute, Flush};
-    ghost use Rattle.legal_history.specs.History.{Settled, calls, first, lender, child, taker};
+    ghost use Rattle.legal_history.specs.History.{Settled, first, lender, child, taker};
 
     /// A new counter, with its root pass.
     pub fn new(alloc: Global) -> Result<(DsdCounter, CounterPass), Memory>
-        ensures { IfOk result (λ made. IsCounterPass made.0 made.1 × (view_of made.1 ≡ first) × Settled (view_of made.1)) }
+        ensures pass { IfOk result (λ made. IsCounterPass made.0 made.1) }
+        ensures first { IfOk result (λ made. (view_of made.1 ≡ first) × Settled (view_of made.1)) }
     {
         let (cell, seat) = RuledSeqCell::ruled(alloc, CounterState::START)?;
         Ok((DsdCounter { cell }, DsdPass { seat, root: true }))
@@ -102,7 +103,7 @@ impl DsdCounter {
     pub fn increment<R: Wait>(&self, rt: &R, pass: &mut CounterPass, value: u64)
         requires { IsCounterPass self.now pass.old }
         ensures pass { IsCounterPass self.now pass.new }
-        ensures call { Made CounterStep counter_start (Increment value) (view_of pass.old) (view_of pass.new) }
+        ensures call { Called (Increment value) (view_of pass.old) (view_of pass.new) }
     {
         self.turn(rt, &mut pass.seat, CounterChange::Increment(value));
     }
@@ -112,7 +113,7 @@ impl DsdCounter {
     pub fn absolute<R: Wait>(&self, rt: &R, pass: &mut CounterPass, value: u64)
         requires { IsCounterPass self.now pass.old }
         ensures pass { IsCounterPass self.now pass.new }
-        ensures call { Made CounterStep counter_start (Absolute value) (view_of pass.old) (view_of pass.new) }
+        ensures call { Called (Absolute value) (view_of pass.old) (view_of pass.new) }
     {
         self.turn(rt, &mut pass.seat, CounterChange::Absolute(value));
     }
@@ -121,7 +122,7 @@ impl DsdCounter {
     pub fn flush<R: Wait>(&self, rt: &R, pass: &mut CounterPass) -> (u64, u64)
         requires { IsCounterPass self.now pass.old }
         ensures pass { IsCounterPass self.now pass.new }
-        ensures call { Made CounterStep counter_start (Flush result.0 result.1) (view_of pass.old) (view_of pass.new) }
+        ensures call { Called (Flush result.0 result.1) (view_of pass.old) (view_of pass.new) }
     {
         let found = self.turn(rt, &mut pass.seat, CounterChange::Flush);
         (found.delta, found.updates)
@@ -132,7 +133,9 @@ impl DsdCounter {
         requires pass { IsCounterPass self.now pass.old }
         requires root { (view_of pass.old).number ≡ 0 }
         ensures pass { IsCounterPass self.now pass.new }
-        ensures lent { IfOk result (λ lent. IsCounterPass self.now lent × (view_of lent ≡ child (view_of pass.old)) × (view_of pass.new ≡ lender (view_of pass.old))) }
+        ensures lent { IfOk result (IsCounterPass self.now) }
+        ensures child { IfOk result (λ lent. view_of lent ≡ child (view_of pass.old)) }
+        ensures root { OnOk result (view_of pass.new ≡ lender (view_of pass.old)) }
         ensures refused { OnErr result (view_of pass.new ≡ view_of pass.old) }
     {
         let seat = self.cell.split_pass::<Loan>(&mut pass.seat);
@@ -159,16 +162,22 @@ impl DsdCounter {
         ensures pass { IsCounterPass self.now pass.new }
         ensures same { view_of pass.new ≡ view_of pass.old }
         ensures settled { Settled (view_of pass.old) }
-        ensures state { (state : StateOf) × Runs CounterStep counter_start (calls (view_of pass.old).seen) state }
+        ensures state { (state : StateOf) × Holds (view_of pass.old) state }
     {
         self.cell.load_as::<CounterLook, R>(rt, &mut pass.seat);
     }
 
     // Makes a change, and answers the state at which it was made.
-    fn turn<R: Wait>(&self, rt: &R, seat: &mut Seat, change: CounterChange) -> CounterState
-        requires { (seat.old.table_id ≡ self.now.cell.table.shared.table_id) × ((cell_view seat.old).live ≡ true) }
+    pub(crate) fn turn<R: Wait>(
+        &self,
+        rt: &R,
+        seat: &mut Seat,
+        change: CounterChange,
+    ) -> CounterState
+        requires cell { seat.old.table_id ≡ self.now.cell.table.shared.table_id }
+        requires live { (cell_view seat.old).live ≡ true }
         ensures seat { seat.new.table_id ≡ seat.old.table_id }
-        ensures call { Made CounterStep counter_start (answered change result) (cell_view seat.old) (cell_view seat.new) }
+        ensures call { Turned change result (cell_view seat.old) (cell_view seat.new) }
     {
         for _ in rt.forever() {
             let found = self.cell.load_as::<Peeks, R>(rt, seat);
@@ -187,10 +196,12 @@ impl DsdCounter {
         old: CounterState,
         change: CounterChange,
     ) -> bool
-        requires seat { (seat.old.table_id ≡ self.now.cell.table.shared.table_id) × ((cell_view seat.old).live ≡ true) }
+        requires cell { seat.old.table_id ≡ self.now.cell.table.shared.table_id }
+        requires live { (cell_view seat.old).live ≡ true }
         requires asked { (N.call ≡ answered change old) × (N.expected ≡ old) }
         ensures seat { seat.new.table_id ≡ seat.old.table_id }
-        ensures call { MatchBool result (Made CounterStep counter_start (answered change old) (cell_view seat.old) (cell_view seat.new)) (cell_view seat.new ≡ cell_view seat.old) }
+        ensures call { OnTrue result (Turned change old (cell_view seat.old) (cell_view seat.new)) }
+        ensures none { OnFalse result (cell_view seat.new ≡ cell_view seat.old) }
     {
         match self
             .cell

@@ -1,9 +1,9 @@
 //! A gauge that threads share and that is flushed.
 
-ghost use Rattle.std.specs.Prelude.{◌≡◌, true, MatchBool, IfOk, OnErr};
+ghost use Rattle.std.specs.Prelude.{◌≡◌, true, IfOk, OnOk, OnErr};
+ghost use Rattle.std.specs.Bool.{OnTrue, OnFalse};
 ghost use Rattle.crossbeam_utils.specs.Seq.{cell_view};
-ghost use Rattle.legal_history.specs.Object.{Made, Runs};
-ghost use Rattle.flushed_cells.specs.Gauges.{GaugeStep, gauge_start, answered};
+ghost use Rattle.flushed_cells.specs.Gauges.{Called, Turned, Holds, answered};
 
 use crate::gauge_calls::{GaugeCall, GaugeChange};
 use crate::gauge_state::GaugeState;
@@ -89,11 +89,12 @@ impl DsdGauge {
     ghost use Rattle.flushed_cells.specs.declared.gauge_state.GaugeState.{GaugeState as StateOf};
     ghost use Rattle.flushed_cells.specs.declared.gauge_calls.GaugeCall.TheVariants.{Update, Flush};
     ghost use Rattle.metrics_core.specs.declared.gauge_values.GaugeValue.TheVariants.{Absolute, Increment, Decrement};
-    ghost use Rattle.legal_history.specs.History.{Settled, calls, first, lender, child, taker};
+    ghost use Rattle.legal_history.specs.History.{Settled, first, lender, child, taker};
 
     /// A new gauge, with its root pass.
     pub fn new(alloc: Global) -> Result<(DsdGauge, GaugePass), Memory>
-        ensures { IfOk result (λ made. IsGaugePass made.0 made.1 × (view_of made.1 ≡ first) × Settled (view_of made.1)) }
+        ensures pass { IfOk result (λ made. IsGaugePass made.0 made.1) }
+        ensures first { IfOk result (λ made. (view_of made.1 ≡ first) × Settled (view_of made.1)) }
     {
         let (cell, seat) = RuledSeqCell::ruled(alloc, GaugeState::START)?;
         Ok((DsdGauge { cell }, DsdPass { seat, root: true }))
@@ -103,7 +104,7 @@ impl DsdGauge {
     pub fn increment<R: Wait>(&self, rt: &R, pass: &mut GaugePass, value: Fixed)
         requires { IsGaugePass self.now pass.old }
         ensures pass { IsGaugePass self.now pass.new }
-        ensures call { Made GaugeStep gauge_start (Update (Increment value)) (view_of pass.old) (view_of pass.new) }
+        ensures call { Called (Update (Increment value)) (view_of pass.old) (view_of pass.new) }
     {
         self.update(rt, pass, GaugeValue::Increment(value));
     }
@@ -112,7 +113,7 @@ impl DsdGauge {
     pub fn decrement<R: Wait>(&self, rt: &R, pass: &mut GaugePass, value: Fixed)
         requires { IsGaugePass self.now pass.old }
         ensures pass { IsGaugePass self.now pass.new }
-        ensures call { Made GaugeStep gauge_start (Update (Decrement value)) (view_of pass.old) (view_of pass.new) }
+        ensures call { Called (Update (Decrement value)) (view_of pass.old) (view_of pass.new) }
     {
         self.update(rt, pass, GaugeValue::Decrement(value));
     }
@@ -121,7 +122,7 @@ impl DsdGauge {
     pub fn set<R: Wait>(&self, rt: &R, pass: &mut GaugePass, value: Fixed)
         requires { IsGaugePass self.now pass.old }
         ensures pass { IsGaugePass self.now pass.new }
-        ensures call { Made GaugeStep gauge_start (Update (Absolute value)) (view_of pass.old) (view_of pass.new) }
+        ensures call { Called (Update (Absolute value)) (view_of pass.old) (view_of pass.new) }
     {
         self.update(rt, pass, GaugeValue::Absolute(value));
     }
@@ -130,7 +131,7 @@ impl DsdGauge {
     pub fn update<R: Wait>(&self, rt: &R, pass: &mut GaugePass, update: GaugeValue)
         requires { IsGaugePass self.now pass.old }
         ensures pass { IsGaugePass self.now pass.new }
-        ensures call { Made GaugeStep gauge_start (Update update) (view_of pass.old) (view_of pass.new) }
+        ensures call { Called (Update update) (view_of pass.old) (view_of pass.new) }
     {
         self.turn(rt, &mut pass.seat, GaugeChange::Update(update));
     }
@@ -139,7 +140,7 @@ impl DsdGauge {
     pub fn flush<R: Wait>(&self, rt: &R, pass: &mut GaugePass) -> (Fixed, u64)
         requires { IsGaugePass self.now pass.old }
         ensures pass { IsGaugePass self.now pass.new }
-        ensures call { Made GaugeStep gauge_start (Flush result.0 result.1) (view_of pass.old) (view_of pass.new) }
+        ensures call { Called (Flush result.0 result.1) (view_of pass.old) (view_of pass.new) }
     {
         let found = self.turn(rt, &mut pass.seat, GaugeChange::Flush);
         (found.value, found.updates)
@@ -150,7 +151,9 @@ impl DsdGauge {
         requires pass { IsGaugePass self.now pass.old }
         requires root { (view_of pass.old).number ≡ 0 }
         ensures pass { IsGaugePass self.now pass.new }
-        ensures lent { IfOk result (λ lent. IsGaugePass self.now lent × (view_of lent ≡ child (view_of pass.old)) × (view_of pass.new ≡ lender (view_of pass.old))) }
+        ensures lent { IfOk result (IsGaugePass self.now) }
+        ensures child { IfOk result (λ lent. view_of lent ≡ child (view_of pass.old)) }
+        ensures root { OnOk result (view_of pass.new ≡ lender (view_of pass.old)) }
         ensures refused { OnErr result (view_of pass.new ≡ view_of pass.old) }
     {
         let seat = self.cell.split_pass::<Loan>(&mut pass.seat);
@@ -177,16 +180,17 @@ impl DsdGauge {
         ensures pass { IsGaugePass self.now pass.new }
         ensures same { view_of pass.new ≡ view_of pass.old }
         ensures settled { Settled (view_of pass.old) }
-        ensures state { (state : StateOf) × Runs GaugeStep gauge_start (calls (view_of pass.old).seen) state }
+        ensures state { (state : StateOf) × Holds (view_of pass.old) state }
     {
         self.cell.load_as::<GaugeLook, R>(rt, &mut pass.seat);
     }
 
     // Makes a change, and answers the state at which it was made.
-    fn turn<R: Wait>(&self, rt: &R, seat: &mut Seat, change: GaugeChange) -> GaugeState
-        requires { (seat.old.table_id ≡ self.now.cell.table.shared.table_id) × ((cell_view seat.old).live ≡ true) }
+    pub(crate) fn turn<R: Wait>(&self, rt: &R, seat: &mut Seat, change: GaugeChange) -> GaugeState
+        requires cell { seat.old.table_id ≡ self.now.cell.table.shared.table_id }
+        requires live { (cell_view seat.old).live ≡ true }
         ensures seat { seat.new.table_id ≡ seat.old.table_id }
-        ensures call { Made GaugeStep gauge_start (answered change result) (cell_view seat.old) (cell_view seat.new) }
+        ensures call { Turned change result (cell_view seat.old) (cell_view seat.new) }
     {
         for _ in rt.forever() {
             let found = self.cell.load_as::<Peeks, R>(rt, seat);
@@ -205,10 +209,12 @@ impl DsdGauge {
         old: GaugeState,
         change: GaugeChange,
     ) -> bool
-        requires seat { (seat.old.table_id ≡ self.now.cell.table.shared.table_id) × ((cell_view seat.old).live ≡ true) }
+        requires cell { seat.old.table_id ≡ self.now.cell.table.shared.table_id }
+        requires live { (cell_view seat.old).live ≡ true }
         requires asked { (N.call ≡ answered change old) × (N.expected ≡ old) }
         ensures seat { seat.new.table_id ≡ seat.old.table_id }
-        ensures call { MatchBool result (Made GaugeStep gauge_start (answered change old) (cell_view seat.old) (cell_view seat.new)) (cell_view seat.new ≡ cell_view seat.old) }
+        ensures call { OnTrue result (Turned change old (cell_view seat.old) (cell_view seat.new)) }
+        ensures none { OnFalse result (cell_view seat.new ≡ cell_view seat.old) }
     {
         match self
             .cell

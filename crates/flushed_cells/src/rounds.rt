@@ -1,15 +1,8 @@
 //! Rounds of lanes over counters and over gauges.
-ghost use Rattle.std.specs.Prelude.{◌≡◌, ◌<◌, length, IfOk, OnErr};
-ghost use mathlib.Core.Option.{some};
-ghost use lib.ListN.{get_elem?};
-ghost use Rattle.cell_lanes.specs.Things.{Thing, root_of};
-ghost use Rattle.cell_lanes.specs.Lanes.{Roots, AtRest, AllFit, Finished, Stopped, all_calls_on, later_on};
-ghost use Rattle.flushed_cells.specs.declared.counter.DsdCounter.{DsdCounter};
-ghost use Rattle.flushed_cells.specs.declared.counter_calls.CounterCall.{CounterCall};
-ghost use Rattle.flushed_cells.specs.declared.gauge.DsdGauge.{DsdGauge};
-ghost use Rattle.flushed_cells.specs.declared.gauge_calls.GaugeCall.{GaugeCall};
-ghost use Rattle.flushed_cells.specs.Series.{StandsAsCounter, StandsAsGauge, counter_flush, gauge_flush};
-ghost use Rattle.flushed_cells.specs.Rounds.{CounterFlushed, GaugeFlushed};
+ghost use Rattle.std.specs.Prelude.{◌<◌, length, IfOk, OnErr};
+ghost use Rattle.cell_lanes.specs.Things.{root_of};
+ghost use Rattle.cell_lanes.specs.Lanes.{Roots, AtRest, AllFit};
+ghost use Rattle.flushed_cells.specs.Rounds.{CountersFlushed, CountersStopped, CounterFlushed, GaugesFlushed, GaugesStopped, GaugeFlushed};
 
 use crate::counter::DsdCounter;
 use crate::counter_calls::CounterChange;
@@ -37,9 +30,9 @@ pub fn run_counters<R: Threads + Wait + Sync, H: LaneHook + Sync>(
     requires fit { AllFit (length counters.old.items) lanes.now }
     requires index { index < length counters.old.items }
     ensures roots { Roots root_of counters.new.items × AtRest root_of counters.new.items }
-    ensures finished { IfOk result (λ answer. Finished root_of StandsAsCounter lanes.now (later_on index (counter_flush answer)) counters.old.items counters.new.items) }
-    ensures stopped { OnErr result (Stopped root_of StandsAsCounter lanes.now counters.old.items counters.new.items) }
-    ensures flushed { IfOk result (λ answer. (c : Thing CounterCall DsdCounter) → get_elem? counters.old.items index ≡ some c → CounterFlushed (all_calls_on index lanes.now) c.root answer.0 answer.1) }
+    ensures finished { IfOk result (CountersFlushed lanes.now index counters.old counters.new) }
+    ensures stopped { OnErr result (CountersStopped lanes.now counters.old counters.new) }
+    ensures flushed { IfOk result (CounterFlushed lanes.now index counters.old) }
 {
     run_and_read(rt, alloc, hook, counters, lanes, index)
 }
@@ -60,9 +53,9 @@ pub fn run_gauges<R: Threads + Wait + Sync, H: LaneHook + Sync>(
     requires fit { AllFit (length gauges.old.items) lanes.now }
     requires index { index < length gauges.old.items }
     ensures roots { Roots root_of gauges.new.items × AtRest root_of gauges.new.items }
-    ensures finished { IfOk result (λ answer. Finished root_of StandsAsGauge lanes.now (later_on index (gauge_flush answer)) gauges.old.items gauges.new.items) }
-    ensures stopped { OnErr result (Stopped root_of StandsAsGauge lanes.now gauges.old.items gauges.new.items) }
-    ensures flushed { IfOk result (λ answer. (c : Thing GaugeCall DsdGauge) → get_elem? gauges.old.items index ≡ some c → GaugeFlushed (all_calls_on index lanes.now) c.root answer.0 answer.1) }
+    ensures finished { IfOk result (GaugesFlushed lanes.now index gauges.old gauges.new) }
+    ensures stopped { OnErr result (GaugesStopped lanes.now gauges.old gauges.new) }
+    ensures flushed { IfOk result (GaugeFlushed lanes.now index gauges.old) }
 {
     run_and_read(rt, alloc, hook, gauges, lanes, index)
 }

@@ -12,7 +12,8 @@ use std::sync::Wait;
 impl SharedCell for DsdCounter {
     ghost use Rattle.flushed_cells.specs.Cells.{IsCounterPass, one_counter_pass};
     ghost use Rattle.flushed_cells.specs.Passes.{view_of};
-    ghost use Rattle.flushed_cells.specs.Series.{StandsAsCounter, counter_flush, counter_flush_found, FlushesCounter};
+    ghost use Rattle.flushed_cells.specs.Counters.{CounterStep, counter_start, counter_flush, answered};
+    ghost use Rattle.flushed_cells.specs.Series.{StandsAs, only, Flushes, flush_found};
 
     type Pass = CounterPass;
 
@@ -28,13 +29,13 @@ impl SharedCell for DsdCounter {
 
     ghost view = { view_of };
 
-    ghost stands_as = { StandsAsCounter };
+    ghost stands_as = { StandsAs answered };
 
-    ghost read_as = { counter_flush };
+    ghost read_as = { only counter_flush };
 
-    ghost reads = { FlushesCounter };
+    ghost reads = { Flushes CounterStep counter_start counter_flush };
 
-    ghost readings_stand = { counter_flush_found };
+    ghost readings_stand = { flush_found CounterStep counter_start counter_flush };
 
     fn make<R: Wait>(
         &self,
@@ -43,13 +44,7 @@ impl SharedCell for DsdCounter {
         pass: &mut CounterPass,
         call: &CounterChange,
     ) -> Result<(), Memory> {
-        match *call {
-            CounterChange::Increment(value) => self.increment(rt, pass, value),
-            CounterChange::Absolute(value) => self.absolute(rt, pass, value),
-            CounterChange::Flush => {
-                self.flush(rt, pass);
-            }
-        }
+        self.turn(rt, &mut pass.seat, *call);
         Ok(())
     }
 
@@ -86,7 +81,8 @@ impl DsdCounter {
 impl SharedCell for DsdGauge {
     ghost use Rattle.flushed_cells.specs.Cells.{IsGaugePass, one_gauge_pass};
     ghost use Rattle.flushed_cells.specs.Passes.{view_of};
-    ghost use Rattle.flushed_cells.specs.Series.{StandsAsGauge, gauge_flush, gauge_flush_found, FlushesGauge};
+    ghost use Rattle.flushed_cells.specs.Gauges.{GaugeStep, gauge_start, gauge_flush, answered};
+    ghost use Rattle.flushed_cells.specs.Series.{StandsAs, only, Flushes, flush_found};
 
     type Pass = GaugePass;
 
@@ -102,13 +98,13 @@ impl SharedCell for DsdGauge {
 
     ghost view = { view_of };
 
-    ghost stands_as = { StandsAsGauge };
+    ghost stands_as = { StandsAs answered };
 
-    ghost read_as = { gauge_flush };
+    ghost read_as = { only gauge_flush };
 
-    ghost reads = { FlushesGauge };
+    ghost reads = { Flushes GaugeStep gauge_start gauge_flush };
 
-    ghost readings_stand = { gauge_flush_found };
+    ghost readings_stand = { flush_found GaugeStep gauge_start gauge_flush };
 
     fn make<R: Wait>(
         &self,
@@ -117,12 +113,7 @@ impl SharedCell for DsdGauge {
         pass: &mut GaugePass,
         call: &GaugeChange,
     ) -> Result<(), Memory> {
-        match *call {
-            GaugeChange::Update(update) => self.update(rt, pass, update),
-            GaugeChange::Flush => {
-                self.flush(rt, pass);
-            }
-        }
+        self.turn(rt, &mut pass.seat, *call);
         Ok(())
     }
 

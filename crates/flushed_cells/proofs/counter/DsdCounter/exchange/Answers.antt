@@ -13,11 +13,11 @@ compare_exchange_as-requires g c = (
   (
     search rules,
     (
-      c.requires.seat.0,
+      c.requires.cell,
       λ x seats k at.
           exchanges_as CounterStep counter_start x c.args.old c.after.result (same_counter x c.args.old) (counters_alike x c.args.old) (counters_unlike x c.args.old)
           seats c.args.seat.now.id (cell_view c.args.seat.now) (answered c.args.change c.args.old) g.N.AskedCounter.call g.N.AskedCounter.expected c.requires.asked.0 c.requires.asked.1
-          c.requires.seat.1 (subst (λ (z : CounterState). CounterStep (answered c.args.change c.args.old) c.args.old z) (sym c.after.ensures) (counter_turns c.args.change c.args.old)) k at,
+          c.requires.live (subst (λ (z : CounterState). CounterStep (answered c.args.change c.args.old) c.args.old z) (sym c.after.ensures) (counter_turns c.args.change c.args.old)) k at,
     ),
   ),
 )

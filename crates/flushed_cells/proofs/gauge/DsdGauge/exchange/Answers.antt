@@ -13,11 +13,11 @@ compare_exchange_as-requires g c = (
   (
     search rules,
     (
-      c.requires.seat.0,
+      c.requires.cell,
       λ x seats k at.
           exchanges_as GaugeStep gauge_start x c.args.old c.after.result (same_gauge x c.args.old) (gauges_alike x c.args.old) (gauges_unlike x c.args.old)
           seats c.args.seat.now.id (cell_view c.args.seat.now) (answered c.args.change c.args.old) g.N.AskedGauge.call g.N.AskedGauge.expected c.requires.asked.0 c.requires.asked.1
-          c.requires.seat.1 (subst (λ (z : GaugeState). GaugeStep (answered c.args.change c.args.old) c.args.old z) (sym c.after.ensures) (gauge_turns c.args.change c.args.old)) k at,
+          c.requires.live (subst (λ (z : GaugeState). GaugeStep (answered c.args.change c.args.old) c.args.old z) (sym c.after.ensures) (gauge_turns c.args.change c.args.old)) k at,
     ),
   ),
 )

@@ -5,4 +5,4 @@ use Rattle.flushed_cells.proofs.Sitting.{peeks}
 use Rattle.flushed_cells.proofs.gauge.DsdGauge.turn.Goals as goal
 
 pub load_as-found-requires : goal.load_as-found-requires
-load_as-found-requires g c = (search rules, (search rules, (c.loop.invariant.cell ∙ c.requires.0, λ x seats k at. peeks GaugeStep gauge_start x seats c.loop.seat.id (cell_view c.loop.seat) k at)))
+load_as-found-requires g c = (search rules, (search rules, (c.loop.invariant.cell ∙ c.requires.cell, λ x seats k at. peeks GaugeStep gauge_start x seats c.loop.seat.id (cell_view c.loop.seat) k at)))
