@@ -1,12 +1,12 @@
 //! Outside vectors of counters and gauges that are flushed, and two threads on them.
 
-ghost use Rattle.flushed_cells.specs.Cells.{IsCounterPass, IsGaugePass};
+ghost use Rattle.flushed_cells.specs.Cells.{IsCounterPass};
 
+use crate::answers::answered;
 use crate::lanes::two_lanes;
 use cell_lanes::{NoHook, lanes_fit};
 use flushed_cells::{
-    CounterChange, CounterPass, DsdCounter, DsdGauge, GaugeChange, GaugePass, run_counters,
-    run_gauges,
+    CounterChange, CounterPass, DsdCounter, DsdGauge, GaugeChange, run_counters, run_gauges,
 };
 use metrics_core::{Fixed, GaugeValue, Memory};
 use std::alloc::Global;
@@ -14,63 +14,47 @@ use std::sync::Wait;
 use std::test::Fail;
 use std::thread::{Threads, join};
 
-/// What the flushes among these calls answer.
-fn counts<R: Wait>(
-    rt: &R,
-    alloc: Global,
-    counter: &DsdCounter,
-    pass: &mut CounterPass,
-    calls: &[CounterChange],
-) -> Result<Vec<(u64, u64)>, Memory>
-    requires { IsCounterPass counter.now pass.old }
-{
-    let mut answers = Vec::new(alloc);
-    for call in calls {
-        match *call {
-            CounterChange::Increment(value) => counter.increment(rt, pass, value),
-            CounterChange::Absolute(value) => counter.absolute(rt, pass, value),
-            CounterChange::Flush => answers.push(counter.flush(rt, pass))?,
-        }
-    }
-    Ok(answers)
-}
-
-/// What the flushes among these calls on a new counter answer.
+/// What a new counter answers.
 fn counted<R: Wait>(
     rt: &R,
     alloc: Global,
-    calls: &[CounterChange],
+    calls: &[Option<CounterChange>],
 ) -> Result<Vec<(u64, u64)>, Memory> {
-    let (counter, mut pass) = DsdCounter::new(alloc)?;
-    counts(rt, alloc, &counter, &mut pass, calls)
+    answered(rt, alloc, &mut DsdCounter::owned(alloc)?, calls)
 }
 
 #[test]
 fn counters_answer_their_rows(rt: HostRuntime) -> Result<(), Fail> {
-    use CounterChange::{Absolute, Flush, Increment};
+    use CounterChange::{Absolute, Increment};
     let great = 18_446_744_073_709_486_080;
-    let added = [Flush, Increment(42), Flush, Increment(great), Flush];
-    let raised = [
-        Absolute(42),
-        Flush,
-        Absolute(129),
-        Flush,
-        Absolute(142),
-        Flush,
+    let added = [
+        None,
+        Some(Increment(42)),
+        None,
+        Some(Increment(great)),
+        None,
     ];
-    let twice = [Absolute(42), Absolute(108), Flush];
+    let raised = [
+        Some(Absolute(42)),
+        None,
+        Some(Absolute(129)),
+        None,
+        Some(Absolute(142)),
+        None,
+    ];
+    let twice = [Some(Absolute(42)), Some(Absolute(108)), None];
     let mixed = [
-        Increment(27),
-        Absolute(42),
-        Flush,
-        Increment(13),
-        Flush,
-        Absolute(87),
-        Flush,
-        Absolute(80),
-        Flush,
-        Increment(78),
-        Flush,
+        Some(Increment(27)),
+        Some(Absolute(42)),
+        None,
+        Some(Increment(13)),
+        None,
+        Some(Absolute(87)),
+        None,
+        Some(Absolute(80)),
+        None,
+        Some(Increment(78)),
+        None,
     ];
     for (calls, answers) in [
         (added.as_slice(), [(0, 0), (42, 1), (great, 1)].as_slice()),
@@ -86,53 +70,30 @@ fn counters_answer_their_rows(rt: HostRuntime) -> Result<(), Fail> {
     Ok(())
 }
 
-/// What the flushes among these calls answer.
-fn moves<R: Wait>(
-    rt: &R,
-    alloc: Global,
-    gauge: &DsdGauge,
-    pass: &mut GaugePass,
-    calls: &[GaugeChange],
-) -> Result<Vec<(Fixed, u64)>, Memory>
-    requires { IsGaugePass gauge.now pass.old }
-{
-    let mut answers = Vec::new(alloc);
-    for call in calls {
-        match *call {
-            GaugeChange::Update(GaugeValue::Increment(value)) => gauge.increment(rt, pass, value),
-            GaugeChange::Update(GaugeValue::Decrement(value)) => gauge.decrement(rt, pass, value),
-            GaugeChange::Update(GaugeValue::Absolute(value)) => gauge.set(rt, pass, value),
-            GaugeChange::Flush => answers.push(gauge.flush(rt, pass))?,
-        }
-    }
-    Ok(answers)
-}
-
-/// What the flushes among these calls on a new gauge answer.
+/// What a new gauge answers.
 fn moved<R: Wait>(
     rt: &R,
     alloc: Global,
-    calls: &[GaugeChange],
+    calls: &[Option<GaugeChange>],
 ) -> Result<Vec<(Fixed, u64)>, Memory> {
-    let (gauge, mut pass) = DsdGauge::new(alloc)?;
-    moves(rt, alloc, &gauge, &mut pass, calls)
+    answered(rt, alloc, &mut DsdGauge::owned(alloc)?, calls)
 }
 
 #[test]
 fn gauges_answer_their_rows(rt: HostRuntime) -> Result<(), Fail> {
-    use GaugeChange::{Flush, Update};
+    use GaugeChange::Update;
     use GaugeValue::{Absolute, Decrement, Increment};
     let lowered = [
-        Update(Decrement(Fixed(42))),
-        Flush,
-        Update(Decrement(Fixed(13))),
-        Flush,
+        Some(Update(Decrement(Fixed(42)))),
+        None,
+        Some(Update(Decrement(Fixed(13)))),
+        None,
     ];
     let set = [
-        Update(Absolute(Fixed(5))),
-        Update(Increment(Fixed(3))),
-        Flush,
-        Flush,
+        Some(Update(Absolute(Fixed(5)))),
+        Some(Update(Increment(Fixed(3)))),
+        None,
+        None,
     ];
     for (calls, answers) in [
         (
@@ -143,6 +104,31 @@ fn gauges_answer_their_rows(rt: HostRuntime) -> Result<(), Fail> {
     ] {
         assert_eq!(rt; moved(&rt, rt.alloc(), calls)?.as_slice(), answers);
     }
+    Ok(())
+}
+
+/// What a flush answers after a call of each kind on a counter.
+fn counted_by_calls<R: Wait>(rt: &R, alloc: Global) -> Result<(u64, u64), Memory> {
+    let (counter, mut pass) = DsdCounter::new(alloc)?;
+    counter.absolute(rt, &mut pass, 5);
+    counter.absolute(rt, &mut pass, 7);
+    counter.increment(rt, &mut pass, 4);
+    Ok(counter.flush(rt, &mut pass))
+}
+
+/// What a flush answers after a call of each kind on a gauge.
+fn moved_by_calls<R: Wait>(rt: &R, alloc: Global) -> Result<(Fixed, u64), Memory> {
+    let (gauge, mut pass) = DsdGauge::new(alloc)?;
+    gauge.set(rt, &mut pass, Fixed(5));
+    gauge.increment(rt, &mut pass, Fixed(4));
+    gauge.decrement(rt, &mut pass, Fixed(6));
+    Ok(gauge.flush(rt, &mut pass))
+}
+
+#[test]
+fn calls_of_each_kind_are_made(rt: HostRuntime) -> Result<(), Fail> {
+    assert_eq!(rt; counted_by_calls(&rt, rt.alloc())?, (6, 3));
+    assert_eq!(rt; moved_by_calls(&rt, rt.alloc())?, (Fixed(3), 3));
     Ok(())
 }
 

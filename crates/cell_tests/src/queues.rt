@@ -1,14 +1,11 @@
 //! Two threads that push while one drains, lanes that push, and a histogram of each kind.
 
-ghost use Rattle.std.specs.Thread.{IsSync};
-ghost use Rattle.sample_queue.specs.Passes.{IsSamplePass};
+ghost use Rattle.std.specs.Prelude.{◌≡◌};
 
-use cell_lanes::{Lane, Line, NoHook, lanes_fit};
+use cell_lanes::{Lane, Lender, LentCell, Line, NoHook, OwnedCell, lanes_fit};
 use metrics_core::{Fixed, Memory};
 use metrics_facade::HistogramFn;
-use sample_queue::{
-    DsdHistogram, PromHistogram, Sample, SampleEntry, SamplePass, SampleQueue, run_queues,
-};
+use sample_queue::{DsdHistogram, PromHistogram, Sample, SampleEntry, SampleQueue, run_queues};
 use std::alloc::Global;
 use std::sync::Wait;
 use std::test::Fail;
@@ -50,34 +47,43 @@ type LaneItem = (bool, u32);
 fn push_all<R: Wait>(
     rt: &R,
     alloc: Global,
-    queue: &SampleQueue<LaneItem>,
-    mut pass: SamplePass<LaneItem>,
+    lent: &mut LentCell<SampleQueue<LaneItem>>,
     lane: bool,
-) -> Result<SamplePass<LaneItem>, Memory>
-    requires { IsSamplePass queue.now pass }
-{
+) -> Result<(), Memory> {
     for number in 0..500u32 {
-        queue.push(rt, alloc, &mut pass, (lane, number), 1)?;
+        let item = (lane, number);
+        lent.make(rt, alloc, &Sample { item, count: 1 })?;
     }
-    Ok(pass)
+    Ok(())
+}
+
+/// Two threads push at once.
+fn push_side_by_side<R: Threads + Wait + Sync>(
+    rt: &R,
+    alloc: Global,
+    one: &mut LentCell<SampleQueue<LaneItem>>,
+    two: &mut LentCell<SampleQueue<LaneItem>>,
+) {
+    let _pushed = join(
+        rt,
+        || push_all(rt, alloc, one, false),
+        || push_all(rt, alloc, two, true),
+    );
 }
 
 /// Takes so many items.
 fn drain<R: Wait>(
     rt: &R,
     alloc: Global,
-    queue: &SampleQueue<LaneItem>,
-    mut pass: SamplePass<LaneItem>,
+    queue: &mut OwnedCell<SampleQueue<LaneItem>>,
     wanted: usize,
-) -> Result<Vec<LaneItem>, Memory>
-    requires { IsSamplePass queue.now pass }
-{
+) -> Result<Vec<LaneItem>, Memory> {
     let mut items = Vec::new(alloc);
     for _ in rt.forever() {
         if items.len() >= wanted {
             return Ok(items);
         }
-        match queue.next(rt, &mut pass) {
+        match queue.read(rt) {
             Some(entry) => items.push(entry.item)?,
             None => yield_now(),
         }
@@ -85,41 +91,22 @@ fn drain<R: Wait>(
     unreachable!()
 }
 
-/// Two threads push at once.
-fn push_side_by_side<R: Threads + Wait + Sync>(
-    rt: &R,
-    alloc: Global,
-    queue: &SampleQueue<LaneItem>,
-    one: SamplePass<LaneItem>,
-    two: SamplePass<LaneItem>,
-)
-    requires { IsSamplePass queue.now one × IsSamplePass queue.now two }
-{
-    let _pushed = join(
-        rt,
-        move || push_all(rt, alloc, queue, one, false),
-        move || push_all(rt, alloc, queue, two, true),
-    );
-}
-
 /// What one thread drains while two others push, and whether the queue is empty afterwards.
 fn drained_side_by_side<R: Threads + Wait + Sync>(
     rt: &R,
     alloc: Global,
-) -> Result<(Vec<LaneItem>, bool), Memory> {
-    let (queue, mut root) = SampleQueue::new(alloc)?;
-    let one = queue.split(alloc, &mut root)?;
-    let two = queue.split(alloc, &mut root)?;
-    let three = queue.split(alloc, &mut root)?;
-    let shared = &queue;
+    queue: &mut OwnedCell<SampleQueue<LaneItem>>,
+) -> Result<(Vec<LaneItem>, bool), Memory>
+    requires { queue.old.root.number ≡ 0 }
+{
+    let mut one = queue.lend(alloc)?;
+    let mut two = queue.lend(alloc)?;
     let (items, ()) = join(
         rt,
-        move || drain(rt, alloc, shared, three, 1000),
-        move || -> ()
-            requires { IsSync R.row × IsSamplePass shared.now one × IsSamplePass shared.now two }
-        { push_side_by_side(rt, alloc, shared, one, two) },
+        || drain(rt, alloc, queue, 1000),
+        || push_side_by_side(rt, alloc, &mut one, &mut two),
     );
-    Ok((items?, queue.next(rt, &mut root).is_none()))
+    Ok((items?, queue.read(rt).is_none()))
 }
 
 /// How many items each lane has, where each lane's come in order.
@@ -137,7 +124,11 @@ fn in_order(items: &[LaneItem]) -> Option<(u32, u32)> {
 
 #[test]
 fn no_item_is_lost_or_repeated(rt: HostRuntime) -> Result<(), Fail> {
-    let (items, is_empty) = drained_side_by_side(&rt, rt.alloc())?;
+    let (items, is_empty) = drained_side_by_side(
+        &rt,
+        rt.alloc(),
+        &mut SampleQueue::owned(rt.alloc())?,
+    )?;
     assert_eq!(rt; in_order(items.as_slice()), Some((500, 500)));
     assert!(rt; is_empty);
     Ok(())
