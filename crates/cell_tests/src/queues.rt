@@ -2,7 +2,8 @@
 
 ghost use Rattle.std.specs.Prelude.{◌≡◌};
 
-use cell_lanes::{Lane, Lender, LentCell, Line, NoHook, OwnedCell, lanes_fit};
+use crate::lanes::lane_of;
+use cell_lanes::{Lane, Lender, LentCell, NoHook, OwnedCell, lanes_fit};
 use metrics_core::{Fixed, Memory};
 use metrics_facade::HistogramFn;
 use sample_queue::{DsdHistogram, PromHistogram, Sample, SampleEntry, SampleQueue, run_queues};
@@ -138,15 +139,8 @@ fn no_item_is_lost_or_repeated(rt: HostRuntime) -> Result<(), Fail> {
 fn pushing_lanes(alloc: Global) -> Result<Vec<Lane<Sample<u8>>>, Fail> {
     let mut lanes = Vec::new(alloc);
     for item in [5u8, 7] {
-        let mut lines = Vec::new(alloc);
-        lines.push(Line {
-            slot: 0,
-            call: Sample { item, count: 2 },
-        })?;
-        lanes.push(Lane {
-            cells: vec![in alloc; 0usize]?,
-            lines,
-        })?;
+        let call = Sample { item, count: 2 };
+        lanes.push(lane_of(alloc, vec![in alloc; call]?)?)?;
     }
     Ok(lanes)
 }
