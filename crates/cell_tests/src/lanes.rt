@@ -14,7 +14,8 @@ pub fn two_lanes<K: Copy + Drop>(
     for call in calls {
         let mut lines = Vec::new(alloc);
         for _ in 0..times {
-            lines.push(Line { slot: 0, call })?;
+            let slot = Some(0);
+            lines.push(Line { slot, call })?;
         }
         lanes.push(Lane {
             cells: vec![in alloc; 0usize]?,

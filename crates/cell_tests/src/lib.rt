@@ -4,6 +4,8 @@
 #[cfg(test)]
 mod flushed;
 #[cfg(test)]
+mod hooks;
+#[cfg(test)]
 mod lanes;
 #[cfg(test)]
 mod queues;

@@ -149,7 +149,7 @@ fn pushing_lanes(alloc: Global) -> Result<Vec<Lane<Sample<u8>>>, Fail> {
     for item in [5u8, 7] {
         let mut lines = Vec::new(alloc);
         lines.push(Line {
-            slot: 0,
+            slot: Some(0),
             call: Sample { item, count: 2 },
         })?;
         lanes.push(Lane {

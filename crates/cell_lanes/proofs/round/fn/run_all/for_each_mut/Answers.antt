@@ -21,7 +21,7 @@ run_job-requires-clause-lines g c κs within =
 pub run_job-requires-clause-taken : goal.run_job-requires-clause-taken
 run_job-requires-clause-taken g c κs within =
     let a = slice_index_or c.captures.lanes.now c.args.l c.index-lanes-l.result in
-    λ k x y e. (c.requires.1 a (at_or c.captures.lanes.now c.args.l c.index-lanes-l.result c.requires.0)).2 k x y (subst (λ l. get_elem? l k ≡ some x) c.as_slice.ensures.value e)
+    λ k x e. (c.requires.1 a (at_or c.captures.lanes.now c.args.l c.index-lanes-l.result c.requires.0)).2 k x (subst (λ l. get_elem? l k ≡ some x) c.as_slice.ensures.value e)
 
 pub returns : goal.returns
 returns g c =
