@@ -1,4 +1,5 @@
 pub mod ReadingSteps
+pub mod Returned
 pub mod RoundSteps
 pub mod BuiltRounds
 pub mod RunPages

@@ -42,10 +42,7 @@ pub fn play<R: Threads + Wait + Sync, G: Gate + Sync, K: Sink>(
         Err(Memory) => return Err(DriveFault::Memory),
     };
     for round in &script.rounds {
-        match player.play_round(rt, alloc, gate, round, out) {
-            Ok(()) => (),
-            Err(fault) => return Err(fault),
-        }
+        player.play_round(rt, alloc, gate, round, out)?;
     }
     Ok(Report {
         pages: script.rounds.len() as u64,
@@ -137,10 +134,7 @@ impl Player {
         ensures stepped { OnOk result (state_of self.new ≡ fold setup_step (state_of self.old) (map setup_of setup.now)) }
     {
         for line in setup {
-            match self.set_up_line(alloc, line) {
-                Ok(()) => (),
-                Err(refused) => return Err(refused),
-            }
+            self.set_up_line(alloc, line)?;
         }
         Ok(())
     }
