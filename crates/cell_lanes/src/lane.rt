@@ -13,6 +13,8 @@ pub struct Line<K> {
 /// What a lane is to do.
 #[derive(Drop)]
 pub struct Lane<K> {
+    /// Its number, which the hook is given.
+    pub number: usize,
     /// The indices of the shared things that the lane names, each once.
     pub cells: Vec<usize>,
     /// Its calls, in order.

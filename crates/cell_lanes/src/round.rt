@@ -163,7 +163,10 @@ fn run_all<R: Threads + Wait + Sync, H: LaneHook + Sync, S: Lenders>(
         &|l: usize, job: &mut Job<S::Lent>|
             requires { (l < length lanes.now) × ((a : Lane S.Call) → get_elem? lanes.now l ≡ some a → LaneReady S.knows S.owns S.takes a job.now) }
             ensures { (a : Lane S.Call) → get_elem? lanes.entry.now l ≡ some a → LaneRan S.knows S.stands_as S.owns a job.entry.now job.exit.now }
-        { run_job::<R, H, S>(rt, alloc, hook, l, job, lanes[l].lines.as_slice()) },
+        {
+            let lane = &lanes[l];
+            run_job::<R, H, S>(rt, alloc, hook, lane.number, job, lane.lines.as_slice())
+        },
     );
 }
 

@@ -11,13 +11,14 @@ pub fn two_lanes<K: Copy + Drop>(
     times: usize,
 ) -> Result<Vec<Lane<K>>, Fail> {
     let mut lanes = Vec::new(alloc);
-    for call in calls {
+    for (number, call) in [(0, calls[0]), (1, calls[1])] {
         let mut lines = Vec::new(alloc);
         for _ in 0..times {
             let slot = Some(0);
             lines.push(Line { slot, call })?;
         }
         lanes.push(Lane {
+            number,
             cells: vec![in alloc; 0usize]?,
             lines,
         })?;

@@ -146,13 +146,14 @@ fn no_item_is_lost_or_repeated(rt: HostRuntime) -> Result<(), Fail> {
 /// Two lanes, each of which pushes its item twice at once.
 fn pushing_lanes(alloc: Global) -> Result<Vec<Lane<Sample<u8>>>, Fail> {
     let mut lanes = Vec::new(alloc);
-    for item in [5u8, 7] {
+    for (number, item) in [(0, 5u8), (1, 7)] {
         let mut lines = Vec::new(alloc);
         lines.push(Line {
             slot: Some(0),
             call: Sample { item, count: 2 },
         })?;
         lanes.push(Lane {
+            number,
             cells: vec![in alloc; 0usize]?,
             lines,
         })?;

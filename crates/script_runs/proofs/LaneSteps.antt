@@ -1,6 +1,6 @@
 -- A lane that is gathered call by call, and the lanes of a round.
 use Rattle.std.proofs.Common.{◌≡◌, ◌≢◌, ℕ, zero, suc, ◌+◌, ◌<◌, ◌≤◌, ◌⊎◌, Bool, true, false, cond, List, [], ◌∷◌, ◌++◌, length, map, refl, sym, ap, subst, ◌∙◌, inl, inr, ⊎_elim, append-nil, arith, length-append}
-use Rattle.std.specs.Prelude.{◌==◌, ◌&&◌, Result, Ok, Err, IfOk, OnOk, Option, Some, None, IfSome, All, option_map, unwrap_or, set, slice_get, slice_index, filter}
+use Rattle.std.specs.Prelude.{◌==◌, ◌&&◌, Result, Ok, Err, IfOk, OnOk, Option, Some, None, IfSome, All, if◌then◌else◌, not, option_map, unwrap_or, set, slice_get, slice_index, filter}
 use Rattle.std.proofs.lemmas.Option.{IfSome_then}
 use Rattle.std.specs.List.{list_any, IsDistinct, AllByRecursion}
 use Rattle.std.proofs.lemmas.Bool.{true≢false, eq-eqb, ne_eqb}
@@ -32,7 +32,7 @@ use Rattle.drive_script.specs.declared.script.CallLine.{CallLine}
 use Rattle.drive_script.specs.declared.script.Act.{Act}
 use Rattle.drive_script.specs.declared.script.Act.TheVariants as acts
 use Rattle.script_runs.specs.declared.lanes.LaneCalls.{LaneCalls}
-use Rattle.script_runs.specs.LaneCalls.{AllAsked, AreReady, AsksKind, HasLane, all_asked, asked, call_asked, calls_at, gathered_asked, gathered_at, gathered_parts, kind_asked, id_at, is_at, is_place, lane_asks, lane_cells, lane_lines, parts_of, told_of}
+use Rattle.script_runs.specs.LaneCalls.{AllAsked, AreInPlace, AreReady, AsksKind, HasLane, Parts, asked, call_asked, calls_at, gathered_asked, gathered_at, gathered_parts, has_lines, kind_asked, id_at, is_at, is_place, lane_asks, lane_cells, lane_lines, lane_number, numbered, numbered_asked, numbered_at, parts_of, told_of}
 
 pub counter≢gauge : kinds.Counter ≡ kinds.Gauge → ⊥
 counter≢gauge e = true≢false (ap (λ k. kind_eq k kinds.Counter) e)
@@ -353,33 +353,146 @@ map_at f [] i b e = absurd (some-ne-none b (sym e))
 map_at f (x ∷ xs) zero b e = (x, refl, some-injective (f x) b e)
 map_at f (x ∷ xs) (suc i) b e = map_at f xs i b e
 
-first_same : {A : Type 0} (x y : A) (xs ys : List A) → x ∷ xs ≡ y ∷ ys → x ≡ y
-first_same x y xs ys e = cc
+pub in_place_more : (k n : ℕ) (gs : List LaneCalls) (y : LaneCalls) → length gs ≡ n → y.number ≡ k + n → AreInPlace k gs → AreInPlace k (gs ++ y ∷ [])
+in_place_more k n [] y many is places = (is ∙ omega (arith, many), tt)
+in_place_more k zero (g ∷ gs) y many is places = absurd (omega (arith, many))
+in_place_more k (suc n) (g ∷ gs) y many is places = (places.0, in_place_more (suc k) n gs y (omega (arith, many)) (is ∙ omega arith) places.1)
 
-rest_same : {A : Type 0} (x y : A) (xs ys : List A) → x ∷ xs ≡ y ∷ ys → xs ≡ ys
-rest_same x y xs ys e = cc
+pub in_place_set : (k : ℕ) (gs : List LaneCalls) (lane : ℕ) (x y : LaneCalls) → get_elem? gs lane ≡ some x → y.number ≡ x.number → AreInPlace k gs → AreInPlace k (set gs lane y)
+in_place_set k [] lane x y at same places = absurd (some-ne-none x (sym at))
+in_place_set k (g ∷ gs) zero x y at same places = (same ∙ ap (λ (z : LaneCalls). z.number) (sym (some-injective g x at)) ∙ places.0, places.1)
+in_place_set k (g ∷ gs) (suc lane) x y at same places = (places.0, in_place_set (suc k) gs lane x y at same places.1)
 
-pub built_at : (lanes : List (Lane SeriesCall)) (gs : List LaneCalls) → map parts_of lanes ≡ map gathered_parts gs → (j l : ℕ) → all_calls_on j lanes l ≡ gathered_at j gs l
-built_at [] [] e j l = refl
-built_at [] (g ∷ gs) e j l = absurd cc
-built_at (x ∷ xs) [] e j l = absurd cc
-built_at (x ∷ xs) (g ∷ gs) e j zero = ap (λ (parts : List ℕ × List (Line SeriesCall)). cell_calls j parts.0 parts.1) (first_same (parts_of x) (gathered_parts g) (map parts_of xs) (map gathered_parts gs) e)
-built_at (x ∷ xs) (g ∷ gs) e j (suc l) = built_at xs gs (rest_same (parts_of x) (gathered_parts g) (map parts_of xs) (map gathered_parts gs) e) j l
+-- what is told by numbers, of the parts alone
+pub numbered_map : {X Y A : Type 0} (f : X → Y) (number : Y → ℕ) (tells : Y → List A) (xs : List X) (l : ℕ) → numbered (λ x. number (f x)) (λ x. tells (f x)) xs l ≡ numbered number tells (map f xs) l
+numbered_map f number tells [] l = refl
+numbered_map f number tells (x ∷ xs) l = ap (λ t. if number (f x) == l then tells (f x) else t) (numbered_map f number tells xs l)
 
-pub built_asked : (lanes : List (Lane SeriesCall)) (gs : List LaneCalls) → map parts_of lanes ≡ map gathered_parts gs → (l : ℕ) → all_asked lanes l ≡ gathered_asked gs l
-built_asked [] [] e l = refl
-built_asked [] (g ∷ gs) e l = absurd cc
-built_asked (x ∷ xs) [] e l = absurd cc
-built_asked (x ∷ xs) (g ∷ gs) e zero = ap (λ (parts : List ℕ × List (Line SeriesCall)). map call_asked parts.1) (first_same (parts_of x) (gathered_parts g) (map parts_of xs) (map gathered_parts gs) e)
-built_asked (x ∷ xs) (g ∷ gs) e (suc l) = built_asked xs gs (rest_same (parts_of x) (gathered_parts g) (map parts_of xs) (map gathered_parts gs) e) l
+abbrev g_number : LaneCalls → ℕ
+g_number x = x.number
 
-pub built_ready : (ids : List SeriesId) (lanes : List (Lane SeriesCall)) (gs : List LaneCalls) → map parts_of lanes ≡ map gathered_parts gs → AreReady ids gs
-    → (l : ℕ) (lane : Lane SeriesCall) → get_elem? lanes l ≡ some lane → LineFit (length lane.cells.items) lane.lines.items × AllAsked ids lane.cells.items lane.lines.items
-built_ready ids lanes gs e ready l lane at =
-    let found = map_at gathered_parts gs l (parts_of lane) (subst (λ ps. get_elem? ps l ≡ some (parts_of lane)) e (at_map parts_of lanes l lane at)) in
-    subst (λ (parts : List ℕ × List (Line SeriesCall)). LineFit (length parts.0) parts.1 × AllAsked ids parts.0 parts.1) found.2 (ready l found.0 found.1)
+module _ {A : Type 0} (tells : LaneCalls → List A) (silent : (x : LaneCalls) → has_lines x ≡ false → tells x ≡ []) where
+  told_before : (k l : ℕ) (gs : List LaneCalls) → l < k → AreInPlace k gs → numbered g_number tells (filter has_lines gs) l ≡ []
+  told_before k l [] less places = refl
+  told_before k l (x ∷ gs) less places = by (has_lines x) (told_before (suc k) l gs (omega (arith, less)) places.1)
+    where
+      by : (b : Bool) → numbered g_number tells (filter has_lines gs) l ≡ [] → numbered g_number tells (cond b (x ∷ filter has_lines gs) (filter has_lines gs)) l ≡ []
+      by true behind = ap (λ t. if t then tells x else numbered g_number tells (filter has_lines gs) l) (ne_eqb x.number l (λ e. (let is = places.0 in absurd (omega (arith, less, e, is))))) ∙ behind
+      by false behind = behind
+
+  -- what is told of the lanes that have lines is what is told of all
+  told_busy : (k n : ℕ) (gs : List LaneCalls) → AreInPlace k gs → numbered g_number tells (filter has_lines gs) (k + n) ≡ told_of tells gs n
+  told_busy k n [] places = refl
+  told_busy k zero (x ∷ gs) places = by (has_lines x) refl
+    where
+      by : (b : Bool) → has_lines x ≡ b → numbered g_number tells (cond b (x ∷ filter has_lines gs) (filter has_lines gs)) (k + 0) ≡ tells x
+      by true has = ap (λ t. if t then tells x else numbered g_number tells (filter has_lines gs) (k + 0)) (eq-eqb x.number (k + 0) (places.0 ∙ omega arith))
+      by false has = told_before (suc k) (k + 0) gs (omega arith) places.1 ∙ sym (silent x has)
+  told_busy k (suc n) (x ∷ gs) places =
+      let same : k + suc n ≡ suc k + n = omega arith in
+      by (has_lines x) (ap (numbered g_number tells (filter has_lines gs)) same ∙ told_busy (suc k) n gs places.1)
+    where
+      by : (b : Bool) → numbered g_number tells (filter has_lines gs) (k + suc n) ≡ told_of tells gs n
+          → numbered g_number tells (cond b (x ∷ filter has_lines gs) (filter has_lines gs)) (k + suc n) ≡ told_of tells gs n
+      by true behind =
+          ap (λ t. if t then tells x else numbered g_number tells (filter has_lines gs) (k + suc n)) (ne_eqb x.number (k + suc n) (λ e. (let is = places.0 in absurd (omega (arith, e, is)))))
+          ∙ behind
+      by false behind = behind
+
+  pub told_all : (l : ℕ) (gs : List LaneCalls) → AreInPlace 0 gs → numbered g_number tells (filter has_lines gs) l ≡ told_of tells gs l
+  told_all l gs places = let same : l ≡ 0 + l = omega arith in ap (numbered g_number tells (filter has_lines gs)) same ∙ told_busy 0 l gs places
+
+-- the numbers of the lanes that have lines
+numbers_from : (k t : ℕ) (gs : List LaneCalls) → AreInPlace k gs → In t (map g_number (filter has_lines gs)) → k ≤ t
+numbers_from k t [] places is = absurd is
+numbers_from k t (x ∷ gs) places is = by (has_lines x) (λ (r : In t (map g_number (filter has_lines gs))). numbers_from (suc k) t gs places.1 r) is
+  where
+    by : (b : Bool) → (In t (map g_number (filter has_lines gs)) → suc k ≤ t) → In t (map g_number (cond b (x ∷ filter has_lines gs) (filter has_lines gs))) → k ≤ t
+    by true behind is = ⊎_elim (λ (e : t ≡ x.number). (let p = places.0 in omega (arith, e, p))) (λ (r : In t (map g_number (filter has_lines gs))). (let more = behind r in omega (arith, more))) is
+    by false behind is = let more = behind is in omega (arith, more)
+
+numbers_apart : (k : ℕ) (gs : List LaneCalls) → AreInPlace k gs → Distinct (map g_number (filter has_lines gs))
+numbers_apart k [] places = tt
+numbers_apart k (x ∷ gs) places = by (has_lines x) (numbers_apart (suc k) gs places.1)
+  where
+    by : (b : Bool) → Distinct (map g_number (filter has_lines gs)) → Distinct (map g_number (cond b (x ∷ filter has_lines gs) (filter has_lines gs)))
+    by true behind = ((λ is. (let more = numbers_from (suc k) x.number gs places.1 is in let p = places.0 in absurd (omega (arith, more, p)))), behind)
+    by false behind = behind
+
+filter_at : {X : Type 0} (test : X → Bool) (xs : List X) (i : ℕ) (x : X) → get_elem? (filter test xs) i ≡ some x → (k : ℕ) × (get_elem? xs k ≡ some x) × (test x ≡ true)
+filter_at test [] i x at = absurd (some-ne-none x (sym at))
+filter_at {X} test (y ∷ ys) i x at = by (test y) refl (λ k e. filter_at test ys k x e) i at
+  where
+    by : (b : Bool) → test y ≡ b → ((i : ℕ) → get_elem? (filter test ys) i ≡ some x → (k : ℕ) × (get_elem? ys k ≡ some x) × (test x ≡ true)) → (i : ℕ) → get_elem? (cond b (y ∷ filter test ys) (filter test ys)) i ≡ some x → (k : ℕ) × (get_elem? (y ∷ ys) k ≡ some x) × (test x ≡ true)
+    by true is behind zero e = (0, e, subst (λ (z : X). test z ≡ true) (some-injective y x e) is)
+    by true is behind (suc i) e = let h = behind i e in (suc h.0, h.1, h.2)
+    by false is behind i e = let h = behind i e in (suc h.0, h.1, h.2)
+
+no_lines : (x : LaneCalls) → has_lines x ≡ false → lane_lines x ≡ []
+no_lines x none = by (lane_lines x) none
+  where
+    by : (lines : List (Line SeriesCall)) → not (length lines == 0) ≡ false → lines ≡ []
+    by [] is = refl
+    by (y ∷ ys) is = absurd (true≢false (sym (ap not (ne_eqb (length (y ∷ ys)) 0 (λ e. absurd (omega (arith, e))))) ∙ is))
+
+some_lines : (x : LaneCalls) → has_lines x ≡ true → 0 < length (lane_lines x)
+some_lines x is = by (lane_lines x) is
+  where
+    by : (lines : List (Line SeriesCall)) → not (length lines == 0) ≡ true → 0 < length lines
+    by [] is = absurd cc
+    by (y ∷ ys) is = omega arith
+
+-- lanes with these parts
+module _ (lanes : List (Lane SeriesCall)) (gs : List LaneCalls) (parts : map parts_of lanes ≡ map gathered_parts (filter has_lines gs)) where
+  abbrev number_in : Parts → ℕ
+  number_in p = p.0
+
+  built_told : {A : Type 0} (tells : Parts → List A) (l : ℕ) → numbered lane_number (λ lane. tells (parts_of lane)) lanes l ≡ numbered g_number (λ x. tells (gathered_parts x)) (filter has_lines gs) l
+  built_told tells l =
+      numbered_map parts_of number_in tells lanes l ∙ ap (λ ps. numbered number_in tells ps l) parts ∙ sym (numbered_map gathered_parts number_in tells (filter has_lines gs) l)
+
+  pub built_at : AreInPlace 0 gs → (j l : ℕ) → numbered_at j lanes l ≡ gathered_at j gs l
+  built_at places j l =
+      built_told (λ p. cell_calls j p.1 p.2) l
+      ∙ told_all (λ x. cell_calls j (lane_cells x) (lane_lines x)) (λ x none. ap (cell_calls j (lane_cells x)) (no_lines x none)) l gs places
+
+  pub built_asked : AreInPlace 0 gs → (l : ℕ) → numbered_asked lanes l ≡ gathered_asked gs l
+  built_asked places l = built_told (λ p. map call_asked p.2) l ∙ told_all (λ x. map call_asked (lane_lines x)) (λ x none. ap (map call_asked) (no_lines x none)) l gs places
+
+  pub built_numbers : AreInPlace 0 gs → Distinct (map lane_number lanes)
+  built_numbers places = subst Distinct (sym (same_numbers lanes (filter has_lines gs) parts)) (numbers_apart 0 gs places)
+    where
+      same_numbers : (lanes : List (Lane SeriesCall)) (xs : List LaneCalls) → map parts_of lanes ≡ map gathered_parts xs → map lane_number lanes ≡ map g_number xs
+      same_numbers [] [] e = refl
+      same_numbers [] (x ∷ xs) e = absurd cc
+      same_numbers (a ∷ more) [] e = absurd cc
+      same_numbers (a ∷ more) (x ∷ xs) e = (λ i. first_number (parts_of a) (gathered_parts x) (map parts_of more) (map gathered_parts xs) e i ∷ same_numbers more xs (rest_parts (parts_of a) (gathered_parts x) (map parts_of more) (map gathered_parts xs) e) i)
+        where
+          first_number : (p r : Parts) (ps rs : List Parts) → p ∷ ps ≡ r ∷ rs → p.0 ≡ r.0
+          first_number p r ps rs e = let same : p ≡ r = cc in ap (λ (s : Parts). s.0) same
+
+          rest_parts : (p r : Parts) (ps rs : List Parts) → p ∷ ps ≡ r ∷ rs → ps ≡ rs
+          rest_parts p r ps rs e = cc
+
+  found_in : (i : ℕ) (lane : Lane SeriesCall) → get_elem? lanes i ≡ some lane → (k : ℕ) × ((x : LaneCalls) × (get_elem? gs k ≡ some x) × (has_lines x ≡ true) × (gathered_parts x ≡ parts_of lane))
+  found_in i lane at =
+      let found = map_at gathered_parts (filter has_lines gs) i (parts_of lane) (subst (λ ps. get_elem? ps i ≡ some (parts_of lane)) parts (at_map parts_of lanes i lane at)) in
+      let old = filter_at has_lines gs i found.0 found.1 in
+      (old.0, (found.0, old.1, old.2, found.2))
+
+  pub built_ready : (ids : List SeriesId) → AreReady ids gs → (i : ℕ) (lane : Lane SeriesCall) → get_elem? lanes i ≡ some lane → LineFit (length lane.cells.items) lane.lines.items × AllAsked ids lane.cells.items lane.lines.items
+  built_ready ids ready i lane at =
+      let h = found_in i lane at in
+      subst (λ (p : Parts). LineFit (length p.1) p.2 × AllAsked ids p.1 p.2) h.1.3 (ready h.0 h.1.0 h.1.1)
+
+  pub built_busy : (i : ℕ) (lane : Lane SeriesCall) → get_elem? lanes i ≡ some lane → 0 < length lane.lines.items
+  built_busy i lane at = let h = found_in i lane at in subst (λ (p : Parts). 0 < length p.2) h.1.3 (some_lines h.1.0 h.1.2)
 
 -- ---- answers
+
+pub on_ok_known : {T E P : Type 0} (r : Result T E) → P → OnOk r P
+on_ok_known (Ok x) p = p
+on_ok_known (Err e) p = tt
 
 pub on_ok_both : {T E : Type 0} (r : Result T E) (P Q : Type 0) → OnOk r P → OnOk r Q → OnOk r (P × Q)
 on_ok_both (Ok x) P Q p q = (p, q)

@@ -9,5 +9,6 @@ pub mod WordSteps
 pub mod Fits
 pub mod LaneSteps
 pub mod LaneOrders
+pub mod Numbers
 pub mod AfterLanes
 pub mod RestingSteps

@@ -1,5 +1,5 @@
 -- The calls of a lane, as the exporter's lanes make them.
-use Rattle.std.specs.Prelude.{◌≡◌, ℕ, zero, suc, ◌<◌, ◌==◌, ◌&&◌, Bool, false, List, [], ◌∷◌, Option, Some, None, IfSome, map, filter, length, option_map, unwrap_or, slice_get}
+use Rattle.std.specs.Prelude.{◌≡◌, ℕ, zero, suc, ◌<◌, ◌==◌, ◌&&◌, Bool, false, if◌then◌else◌, not, List, [], ◌∷◌, Option, Some, None, IfSome, map, filter, length, option_map, unwrap_or, slice_get}
 use mathlib.Core.Option.{some}
 use lib.ListN.{get_elem?}
 use Rattle.cell_lanes.specs.declared.lane.Lane.{Lane}
@@ -71,14 +71,27 @@ lane_asks l lines = map (λ line. asked line.act) (filter (HasLane l) lines)
 abbrev pub call_asked : Line SeriesCall → SeriesCall
 call_asked line = line.call
 
--- the same of lanes that are built
-abbrev pub all_asked : List (Lane SeriesCall) → ℕ → List SeriesCall
-all_asked [] l = []
-all_asked (x ∷ xs) zero = map call_asked x.lines.items
-all_asked (x ∷ xs) (suc l) = all_asked xs l
+-- what is told of the one with number l, the first of them; nothing where there is none
+abbrev pub numbered : {X A : Type 0} → (X → ℕ) → (X → List A) → List X → ℕ → List A
+numbered number tells [] l = []
+numbered number tells (x ∷ xs) l = if number x == l then tells x else numbered number tells xs l
 
-abbrev pub parts_of : Lane SeriesCall → List ℕ × List (Line SeriesCall)
-parts_of lane = (lane.cells.items, lane.lines.items)
+abbrev pub lane_number : Lane SeriesCall → ℕ
+lane_number lane = lane.number
+
+-- what the lane with number l asks for on the series at an index, and all that it asks for
+abbrev pub numbered_at : ℕ → List (Lane SeriesCall) → ℕ → List SeriesCall
+numbered_at j = numbered lane_number (λ lane. cell_calls j lane.cells.items lane.lines.items)
+
+abbrev pub numbered_asked : List (Lane SeriesCall) → ℕ → List SeriesCall
+numbered_asked = numbered lane_number (λ lane. map call_asked lane.lines.items)
+
+-- a lane's number, cells and lines
+abbrev pub Parts : Type 0
+Parts = ℕ × List ℕ × List (Line SeriesCall)
+
+abbrev pub parts_of : Lane SeriesCall → Parts
+parts_of lane = (lane.number, lane.cells.items, lane.lines.items)
 
 -- a lane while it is gathered
 abbrev pub lane_cells : LaneCalls → List ℕ
@@ -87,8 +100,11 @@ lane_cells gathered = gathered.cells.keys
 abbrev pub lane_lines : LaneCalls → List (Line SeriesCall)
 lane_lines gathered = gathered.lines.items
 
-abbrev pub gathered_parts : LaneCalls → List ℕ × List (Line SeriesCall)
-gathered_parts gathered = (lane_cells gathered, lane_lines gathered)
+abbrev pub gathered_parts : LaneCalls → Parts
+gathered_parts gathered = (gathered.number, lane_cells gathered, lane_lines gathered)
+
+abbrev pub has_lines : LaneCalls → Bool
+has_lines gathered = not (length (lane_lines gathered) == 0)
 
 -- what is told of lane l; nothing of one that is not there
 abbrev pub told_of : {A : Type 0} → (LaneCalls → List A) → List LaneCalls → ℕ → List A
@@ -102,6 +118,11 @@ gathered_at j = told_of (λ gathered. cell_calls j (lane_cells gathered) (lane_l
 
 abbrev pub gathered_asked : List LaneCalls → ℕ → List SeriesCall
 gathered_asked = told_of (λ gathered. map call_asked (lane_lines gathered))
+
+-- the lanes that are gathered have the numbers from k on, each its place
+abbrev pub AreInPlace : ℕ → List LaneCalls → Type 0
+AreInPlace k [] = Unit {0}
+AreInPlace k (x ∷ xs) = (x.number ≡ k) × AreInPlace (suc k) xs
 
 -- each lane that is gathered has a slot for each line that is on a series, and asks for calls of its series' kinds
 abbrev pub AreReady : List SeriesId → List LaneCalls → Type 0

@@ -1,17 +1,17 @@
 //! The lanes of a round: which series each one's calls are on, and the calls.
 
-ghost use Rattle.std.specs.Prelude.{◌≡◌, ◌<◌, ◌≤◌, ◌++◌, ◌∷◌, ◌&&◌, ℕ, List, [], All, IfOk, IfSome, OnOk, filter, length, map, slice_get};
+ghost use Rattle.std.specs.Prelude.{◌≡◌, ◌<◌, ◌≤◌, ◌++◌, ◌∷◌, ◌+◌, ◌&&◌, ℕ, List, [], All, IfOk, IfSome, OnOk, filter, length, map, slice_get};
 ghost use Rattle.cell_lanes.specs.declared.lane.Lane.{Lane};
 ghost use Rattle.metrics_core.specs.declared.calls.SeriesCall.{SeriesCall};
 ghost use Rattle.metrics_core.specs.declared.kinds.SeriesId.{SeriesId};
 ghost use mathlib.Core.Option.{some};
 ghost use lib.ListN.{get_elem?};
-ghost use Rattle.cell_lanes.specs.Lanes.{AllFit, LineFit, all_calls_on, cell_calls};
+ghost use Rattle.cell_lanes.specs.Lanes.{AllFit, LineFit, cell_calls};
 ghost use Rattle.legal_history.specs.History.{Distinct, keep};
 ghost use Rattle.prom_exporter.specs.LanePasses.{ids_of};
 ghost use Rattle.drive_script.specs.Texts.{call_line_of};
 ghost use Rattle.script_runs.specs.Fitting.{FitsHandle};
-ghost use Rattle.script_runs.specs.LaneCalls.{AllAsked, AreReady, AsksKind, HasLane, all_asked, asked, call_asked, calls_at, gathered_asked, gathered_at, gathered_parts, is_at, is_place, lane_asks, lane_cells, lane_lines, parts_of};
+ghost use Rattle.script_runs.specs.LaneCalls.{AllAsked, AreInPlace, AreReady, AsksKind, HasLane, asked, call_asked, calls_at, gathered_asked, gathered_at, gathered_parts, has_lines, is_at, is_place, lane_asks, lane_cells, lane_lines, lane_number, numbered_asked, numbered_at, parts_of};
 
 use cell_lanes::{Lane, Line};
 use drive_script::{Act, CallLine};
@@ -20,8 +20,8 @@ use metrics_core::{Memory, SeriesCall, SeriesId};
 use prom_exporter::PrometheusState;
 use std::alloc::Global;
 
-/// The lanes of a round up to the last one that has a call. A call whose handle names no live series is a line of its lane, on
-/// no series.
+/// The lanes of a round that have calls, each with its number. A call whose handle names no live series is a line of its lane,
+/// on no series.
 pub(crate) fn lanes_of(
     alloc: Global,
     exporter: &PrometheusState,
@@ -31,8 +31,10 @@ pub(crate) fn lanes_of(
     requires fit { All (λ line. FitsHandle handles.now (call_line_of line)) calls.now }
     ensures fit { IfOk result (λ lanes. AllFit (length (ids_of exporter.now)) lanes.items) }
     ensures asked { IfOk result (λ lanes. (l : ℕ) (lane : Lane SeriesCall) → get_elem? lanes.items l ≡ some lane → AllAsked (ids_of exporter.now) lane.cells.items lane.lines.items) }
-    ensures calls { IfOk result (λ lanes. (j l : ℕ) → all_calls_on j lanes.items l ≡ calls_at (ids_of exporter.now) handles.now l j calls.now) }
-    ensures lines { IfOk result (λ lanes. (l : ℕ) → all_asked lanes.items l ≡ lane_asks l calls.now) }
+    ensures numbers { IfOk result (λ lanes. Distinct (map lane_number lanes.items)) }
+    ensures calls { IfOk result (λ lanes. (j l : ℕ) → numbered_at j lanes.items l ≡ calls_at (ids_of exporter.now) handles.now l j calls.now) }
+    ensures lines { IfOk result (λ lanes. (l : ℕ) → numbered_asked lanes.items l ≡ lane_asks l calls.now) }
+    ensures busy { IfOk result (λ lanes. (i : ℕ) (lane : Lane SeriesCall) → get_elem? lanes.items i ≡ some lane → 0 < length lane.lines.items) }
 {
     let mut gathered = Vec::new(alloc);
     for line in calls {
@@ -51,7 +53,9 @@ fn gather(
 ) -> Result<(), Memory>
     requires fit { FitsHandle handles.now (call_line_of line.now) }
     requires ready { AreReady (ids_of exporter.now) gathered.old.items }
+    requires places { AreInPlace 0 gathered.old.items }
     ensures ready { OnOk result (AreReady (ids_of exporter.now) gathered.new.items) }
+    ensures places { OnOk result (AreInPlace 0 gathered.new.items) }
     ensures calls { OnOk result ((j l : ℕ) → gathered_at j gathered.new.items l
         ≡ gathered_at j gathered.old.items l ++ keep (HasLane l line.now && is_at (ids_of exporter.now) handles.now j line.now) (asked line.now.act) []) }
     ensures lines { OnOk result ((l : ℕ) → gathered_asked gathered.new.items l ≡ gathered_asked gathered.old.items l ++ keep (HasLane l line.now) (asked line.now.act) []) }
@@ -76,22 +80,26 @@ fn make_room(alloc: Global, gathered: &mut Vec<LaneCalls>, lane: usize) -> Resul
     requires { lane < 256 }
     ensures room { OnOk result (lane < length gathered.new.items) }
     ensures ready { OnOk result ((ids : List SeriesId) → AreReady ids gathered.old.items → AreReady ids gathered.new.items) }
+    ensures places { OnOk result (AreInPlace 0 gathered.old.items → AreInPlace 0 gathered.new.items) }
     ensures calls { OnOk result ((j l : ℕ) → gathered_at j gathered.new.items l ≡ gathered_at j gathered.old.items l) }
     ensures lines { OnOk result ((l : ℕ) → gathered_asked gathered.new.items l ≡ gathered_asked gathered.old.items l) }
 {
-    for _ in gathered.len()..lane + 1 {
-        gathered.push(LaneCalls::new(alloc))?;
+    for number in gathered.len()..lane + 1 {
+        gathered.push(LaneCalls::new(alloc, number))?;
     }
     Ok(())
 }
 
-/// The lanes, from what was gathered.
+/// The lanes that have calls, from what was gathered.
 fn into_lanes(alloc: Global, gathered: Vec<LaneCalls>) -> Result<Vec<Lane<SeriesCall>>, Memory>
-    ensures parts { IfOk result (λ lanes. map parts_of lanes.items ≡ map gathered_parts gathered.items) }
+    ensures parts { IfOk result (λ lanes. map parts_of lanes.items ≡ map gathered_parts (filter has_lines gathered.items)) }
     ensures once { IfOk result (λ lanes. (l : ℕ) (lane : Lane SeriesCall) → get_elem? lanes.items l ≡ some lane → Distinct lane.cells.items) }
 {
     let mut lanes = Vec::new(alloc);
     for lane in gathered {
+        if lane.lines.is_empty() {
+            continue;
+        }
         lanes.push(lane.into_lane(alloc)?)?;
     }
     Ok(lanes)
@@ -100,17 +108,20 @@ fn into_lanes(alloc: Global, gathered: Vec<LaneCalls>) -> Result<Vec<Lane<Series
 /// A lane while its calls are gathered.
 #[derive(Drop)]
 pub struct LaneCalls {
+    number: usize,
     /// The indices of the series that its calls are on, each once.
     cells: IndexSet<usize>,
     lines: Vec<Line<SeriesCall>>,
 }
 
 impl LaneCalls {
-    /// A lane without calls.
-    fn new(alloc: Global) -> LaneCalls
-        ensures { (lane_cells result ≡ []) × (lane_lines result ≡ []) }
+    /// The lane with this number, without calls.
+    fn new(alloc: Global, number: usize) -> LaneCalls
+        ensures empty { (lane_cells result ≡ []) × (lane_lines result ≡ []) }
+        ensures number { result.number ≡ number }
     {
         LaneCalls {
+            number,
             cells: IndexSet::new(alloc),
             lines: Vec::new(alloc),
         }
@@ -119,6 +130,7 @@ impl LaneCalls {
     /// Puts a call last, on the series with this index or on none.
     fn push(&mut self, place: Option<usize>, call: SeriesCall) -> Result<(), Memory>
         requires { LineFit (length (lane_cells self.old)) (lane_lines self.old) }
+        ensures number { self.new.number ≡ self.old.number }
         ensures fit { OnOk result (LineFit (length (lane_cells self.new)) (lane_lines self.new)) }
         ensures asked { OnOk result ((ids : List SeriesId) → IfSome place (λ index. AsksKind ids index call) → AllAsked ids (lane_cells self.old) (lane_lines self.old) → AllAsked ids (lane_cells self.new) (lane_lines self.new)) }
         ensures calls { OnOk result ((j : ℕ) → cell_calls j (lane_cells self.new) (lane_lines self.new) ≡ cell_calls j (lane_cells self.old) (lane_lines self.old) ++ keep (is_place j place) call []) }
@@ -140,6 +152,7 @@ impl LaneCalls {
         ensures once { IfOk result (λ lane. Distinct lane.cells.items) }
     {
         Ok(Lane {
+            number: self.number,
             cells: Vec::from_slice(alloc, self.cells.as_slice())?,
             lines: self.lines,
         })

@@ -8,7 +8,7 @@ use Rattle.metrics_core.specs.declared.calls.SeriesCall.{SeriesCall}
 use Rattle.metrics_core.specs.declared.kinds.SeriesId.{SeriesId}
 use Rattle.prom_exporter.specs.LanePasses.{ids_of}
 use Rattle.script_runs.specs.LaneCalls.{AllAsked, AsksKind, call_asked, gathered_asked, is_place, lane_cells, lane_lines}
-use Rattle.script_runs.proofs.LaneSteps.{both_true, on_ok_both, set_ready, told_step}
+use Rattle.script_runs.proofs.LaneSteps.{both_true, in_place_set, on_ok_both, on_ok_known, set_ready, told_step}
 use Rattle.script_runs.proofs.lanes.gather.Goals as goal
 
 pub push-requires : goal.push-requires
@@ -29,6 +29,12 @@ returns-clause-ready c =
     (λ (both : LineFit (length (lane_cells y)) (lane_lines y) × ((ids : List SeriesId) → IfSome c.place_of-place.result (λ index. AsksKind ids index c.call_of.result) → AllAsked ids (lane_cells x) (lane_lines x) → AllAsked ids (lane_cells y) (lane_lines y))).
     set_ready ids c.make_room.new.gathered.items c.from-lane.result y (both.0, both.1 ids asks (ready c.from-lane.result x at).1) ready)
     (on_ok_both c.push.result _ _ c.push.ensures.fit c.push.ensures.asked)
+
+pub returns-clause-places : goal.returns-clause-places
+returns-clause-places c =
+    let x = c.index_mut.result.now in
+    let at = at_index c.make_room.new.gathered.items c.from-lane.result x c.in_ok-make_room.ensures.room c.index_mut.ensures.value in
+    on_ok_known c.push.result (in_place_set 0 c.make_room.new.gathered.items c.from-lane.result x c.push.new.self at c.push.ensures.number (c.in_ok-make_room.ensures.places c.requires.places))
 
 pub returns-clause-calls : goal.returns-clause-calls
 returns-clause-calls c =
