@@ -1,10 +1,10 @@
 -- A lane that is gathered call by call, and the lanes of a round.
 use Rattle.std.proofs.Common.{◌≡◌, ◌≢◌, ℕ, zero, suc, ◌+◌, ◌<◌, ◌≤◌, ◌⊎◌, Bool, true, false, cond, List, [], ◌∷◌, ◌++◌, length, map, refl, sym, ap, subst, ◌∙◌, inl, inr, ⊎_elim, append-nil, arith, length-append}
-use Rattle.std.specs.Prelude.{◌==◌, ◌&&◌, Result, Ok, Err, IfOk, OnOk, Option, Some, None, IfSome, All, if◌then◌else◌, not, option_map, unwrap_or, set, slice_get, slice_index, filter}
+use Rattle.std.specs.Prelude.{◌==◌, ◌&&◌, Result, Ok, Err, IfOk, OnOk, Option, Some, None, IfSome, if◌then◌else◌, not, option_map, unwrap_or, set, slice_get, slice_index, filter}
 use Rattle.std.proofs.lemmas.Option.{IfSome_then}
 use Rattle.std.specs.List.{list_any, IsDistinct, AllByRecursion}
 use Rattle.std.proofs.lemmas.Bool.{true≢false, eq-eqb, ne_eqb}
-use Rattle.std.proofs.lemmas.List.Elements.{All-head, All-tail, filter-append}
+use Rattle.std.proofs.lemmas.List.Elements.{filter-append}
 use Rattle.std.proofs.lemmas.List.{map-append}
 use mathlib.Core.Option.{some, some-injective, some-ne-none}
 use mathlib.Core.Logic.{dite}
@@ -15,7 +15,7 @@ use Rattle.legal_history.specs.History.{Distinct, In, keep}
 use Rattle.legal_history.proofs.Steps.{at_snoc_index, one_at, some_below}
 use Rattle.cell_lanes.specs.declared.lane.Line.{Line}
 use Rattle.cell_lanes.specs.declared.lane.Lane.{Lane}
-use Rattle.cell_lanes.specs.Lanes.{HasSlot, LineFit, cell_calls, is_on, all_calls_on}
+use Rattle.cell_lanes.specs.Lanes.{HasSlot, LineFit, cell_calls, is_on}
 use Rattle.indexmap.specs.IndexSet.{insert_key}
 use Rattle.metrics_core.specs.declared.calls.SeriesCall.{SeriesCall}
 use Rattle.metrics_core.specs.declared.kinds.SeriesId.{SeriesId}

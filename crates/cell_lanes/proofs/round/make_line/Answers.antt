@@ -1,5 +1,5 @@
 use Rattle.std.proofs.Common.{◌≡◌, ◌<◌, length, refl}
-use Rattle.std.specs.Prelude.{Option, IfSome, slice_index_or}
+use Rattle.std.specs.Prelude.{slice_index_or}
 use Rattle.std.proofs.lemmas.Result.{on_ok_weaker, on_err_weaker}
 use mathlib.Core.Option.{some}
 use lib.ListN.{get_elem?}

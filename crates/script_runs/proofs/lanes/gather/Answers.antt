@@ -4,7 +4,6 @@ use Rattle.std.proofs.lemmas.Result.{on_ok_weaker}
 use Rattle.atomic_table.proofs.Lists.{at_index}
 use Rattle.cell_lanes.specs.Lanes.{LineFit, cell_calls}
 use Rattle.legal_history.specs.History.{keep}
-use Rattle.metrics_core.specs.declared.calls.SeriesCall.{SeriesCall}
 use Rattle.metrics_core.specs.declared.kinds.SeriesId.{SeriesId}
 use Rattle.prom_exporter.specs.LanePasses.{ids_of}
 use Rattle.script_runs.specs.LaneCalls.{AllAsked, AsksKind, call_asked, gathered_asked, is_place, lane_cells, lane_lines}

@@ -1,5 +1,5 @@
-use Rattle.std.proofs.Common.{◌≡◌, ◌<◌, ◌++◌, ◌+◌, ℕ, [], length, map, take, sym, ap, subst, ◌∙◌}
-use Rattle.std.specs.Prelude.{◌&&◌, IfOk, slice_index_or}
+use Rattle.std.proofs.Common.{◌≡◌, ◌<◌, ◌++◌, ℕ, [], length, map, take, sym, ap, ◌∙◌}
+use Rattle.std.specs.Prelude.{◌&&◌, slice_index_or}
 use Rattle.std.proofs.lemmas.List.{take_more}
 use Rattle.std.proofs.lemmas.Result.{IfOk-weaker}
 use mathlib.Core.Option.{some}
@@ -12,7 +12,7 @@ use Rattle.metrics_core.specs.declared.calls.SeriesCall.{SeriesCall}
 use Rattle.prom_exporter.specs.LanePasses.{ids_of}
 use Rattle.drive_script.specs.declared.script.CallLine.{CallLine}
 use Rattle.drive_script.specs.declared.script.Act.TheVariants as acts
-use Rattle.script_runs.specs.LaneCalls.{AllAsked, HasLane, asked, calls_at, gathered_asked, gathered_at, gathered_parts, is_at, lane_asks, lane_number, numbered_asked, numbered_at, parts_of}
+use Rattle.script_runs.specs.LaneCalls.{AllAsked, HasLane, asked, calls_at, is_at, lane_asks, lane_number, numbered_asked, numbered_at}
 use Rattle.script_runs.proofs.LaneSteps.{built_asked, built_at, built_busy, built_numbers, built_ready, calls_at-last, lane_asks-last, if_ok_both}
 use Rattle.script_runs.proofs.lanes.lanes_of.Goals as goal
 

@@ -1,4 +1,4 @@
-use Rattle.std.proofs.Common.{◌≡◌, ◌++◌, [], ap, sym, ◌∙◌, Some, nat_eq}
+use Rattle.std.proofs.Common.{◌++◌, [], ap, sym, ◌∙◌, Some, nat_eq}
 use Rattle.std.proofs.lemmas.Bool.{eqb-true}
 use Rattle.cell_lanes.specs.Lanes.{cell_calls}
 use Rattle.cell_lanes.proofs.Lists.{in_some}
