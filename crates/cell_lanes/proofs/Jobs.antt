@@ -1,6 +1,6 @@
 -- What a round adds to the history of one thing.
 use Rattle.std.proofs.Common.{◌≡◌, ◌≢◌, ℕ, zero, suc, ◌+◌, ◌<◌, ◌≤◌, ◌==◌, ◌⊎◌, Bool, true, false, List, [], ◌∷◌, ◌++◌, length, take, refl, sym, ap, ◌∙◌, subst, inl, inr, ⊎_elim, arith, eq-eqb, ne_eqb, length-append, lt_of_not-le}
-use Rattle.std.specs.Prelude.{slice_index}
+use Rattle.std.specs.Prelude.{Option, Some, None, IfSome, slice_index}
 use mathlib.Core.Option.{some, some-ne-none, some-injective}
 use mathlib.Core.Logic.{dite}
 use mathlib.Core.List.{IsPrefix}
@@ -20,7 +20,7 @@ use Rattle.cell_lanes.specs.declared.lane.Lane.{Lane}
 use Rattle.cell_lanes.specs.declared.lane.Slot.{Slot}
 use Rattle.cell_lanes.specs.declared.lane.Job.{Job}
 use Rattle.cell_lanes.specs.Calls.{StandAs}
-use Rattle.cell_lanes.specs.Lanes.{Each, AtRest, Home, Same, Grew, AllDone, AllFit, LineFit, Lends, Takes, cells_of, slot_calls, cell_calls, calls_on, all_calls_on, slot_news, given, lent_on, all_given, done_of, JobsRan}
+use Rattle.cell_lanes.specs.Lanes.{Each, AtRest, Home, Same, Grew, AllDone, AllFit, LineFit, Lends, Takes, cells_of, is_through, is_on, slot_calls, cell_calls, calls_on, all_calls_on, slot_news, given, lent_on, all_given, done_of, JobsRan}
 use Rattle.cell_lanes.proofs.Lists.{at_or, or_at, below_some, take_whole}
 use Rattle.cell_lanes.proofs.Running.{take_none}
 
@@ -103,18 +103,23 @@ module _ {K : Type 0} where
   slot_is_cell : (cs : List ℕ) (lines : List (Line K)) (s j : ℕ) → Distinct cs → get_elem? cs s ≡ some j → LineFit (length cs) lines → slot_calls s lines ≡ cell_calls j cs lines
   slot_is_cell cs [] s j d at fit = refl
   slot_is_cell cs (x ∷ xs) s j d at fit =
-      let there = at_or cs x.slot 0 (fit 0 x refl) in
-      let test : (x.slot == s) ≡ (slice_index cs x.slot == j) = dite (ℕ_discrete x.slot s)
-      (λ (q : x.slot ≡ s). eq-eqb x.slot s q ∙ sym (eq-eqb (slice_index cs x.slot) j (or_at cs x.slot 0 j (subst (λ n. get_elem? cs n ≡ some j) (sym q) at))))
-      (λ (ne : ¬ (x.slot ≡ s)). ne_eqb x.slot s ne ∙ sym (ne_eqb (slice_index cs x.slot) j (λ q. ne (distinct_at cs x.slot s j d (there ∙ ap some q) at)))) in
-      ap (λ b. keep b x.call (slot_calls s xs)) test ∙ ap (keep (slice_index cs x.slot == j) x.call) (slot_is_cell cs xs s j d at (λ k y e. fit (suc k) y e))
+      ap (λ b. keep b x.call (slot_calls s xs)) (same x.slot (fit 0 x refl)) ∙ ap (keep (is_on j cs x.slot) x.call) (slot_is_cell cs xs s j d at (λ k y e. fit (suc k) y e))
+    where
+      same : (slot : Option ℕ) → IfSome slot (λ t. t < length cs) → is_through s slot ≡ is_on j cs slot
+      same None h = refl
+      same (Some t) h = dite (ℕ_discrete t s)
+          (λ (q : t ≡ s). eq-eqb t s q ∙ sym (eq-eqb (slice_index cs t) j (or_at cs t 0 j (subst (λ n. get_elem? cs n ≡ some j) (sym q) at))))
+          (λ (ne : ¬ (t ≡ s)). ne_eqb t s ne ∙ sym (ne_eqb (slice_index cs t) j (λ q. ne (distinct_at cs t s j d (at_or cs t 0 h ∙ ap some q) at))))
 
   -- a cell with no slot has no calls
   no_slot : (cs : List ℕ) (lines : List (Line K)) (j : ℕ) → ((s : ℕ) → get_elem? cs s ≡ some j → ⊥) → LineFit (length cs) lines → cell_calls j cs lines ≡ []
   no_slot cs [] j far fit = refl
   no_slot cs (x ∷ xs) j far fit =
-      let there = at_or cs x.slot 0 (fit 0 x refl) in
-      ap (λ b. keep b x.call (cell_calls j cs xs)) (ne_eqb (slice_index cs x.slot) j (λ q. far x.slot (there ∙ ap some q))) ∙ no_slot cs xs j far (λ k y e. fit (suc k) y e)
+      ap (λ b. keep b x.call (cell_calls j cs xs)) (none x.slot (fit 0 x refl)) ∙ no_slot cs xs j far (λ k y e. fit (suc k) y e)
+    where
+      none : (slot : Option ℕ) → IfSome slot (λ t. t < length cs) → is_on j cs slot ≡ false
+      none None h = refl
+      none (Some t) h = ne_eqb (slice_index cs t) j (λ q. far t (at_or cs t 0 h ∙ ap some q))
 
   calls_at : (j : ℕ) (ls : List (Lane K)) (done : ℕ → ℕ) (l : ℕ) (a : Lane K) → get_elem? ls l ≡ some a → calls_on j ls done l ≡ cell_calls j a.cells.items (take (done l) a.lines.items)
   calls_at j [] done l a e = absurd (some-ne-none a (sym e))

@@ -1,11 +1,20 @@
 -- Lists, by index.
 use Rattle.std.proofs.Common.{◌≡◌, ◌≢◌, ℕ, zero, suc, ◌<◌, ◌≤◌, List, [], ◌∷◌, ◌++◌, length, take, set, refl, sym, ap, subst, ⊎_elim, arith}
-use Rattle.std.specs.Prelude.{slice_index_or}
+use Rattle.std.specs.Prelude.{Option, Some, None, IfSome, slice_index_or}
 use mathlib.Core.Option.{some, some-ne-none, some-injective}
 use lib.ListN.{get_elem?}
 use Rattle.atomic_table.proofs.Lists.{at_set}
 use Rattle.legal_history.proofs.Steps.{some_below, one_at}
 use Rattle.cell_lanes.specs.Lanes.{Each}
+
+-- what holds of all holds of the one, if there is one
+pub of_some : {A : Type 0} (o : Option A) (P : A → Type 0) → ((a : A) → P a) → IfSome o P
+of_some None P all = tt
+of_some (Some a) P all = all a
+
+-- what holds of the one, if there is one, where there is this one
+pub in_some : {A : Type 0} (o : Option A) (a : A) (P : A → Type 0) → o ≡ Some a → IfSome o P → P a
+in_some o a P e h = subst (λ x. IfSome x P) e h
 
 module _ {A : Type 0} where
   pub at_or : (l : List A) (i : ℕ) (d : A) → i < length l → get_elem? l i ≡ some (slice_index_or l i d)

@@ -2,7 +2,6 @@
 use Rattle.std.proofs.Common.{◌≡◌, ℕ, ◌+◌, ◌<◌, List, [], ◌∷◌, ◌++◌, length, set, refl, sym, ap, ◌∙◌, subst, arith, eq-eqb, ne_eqb, append_assoc, length-append}
 use Rattle.std.proofs.lemmas.List.{append-nil}
 use mathlib.Core.Option.{some}
-use mathlib.Core.List.{IsPrefix}
 use lib.ListN.{get_elem?}
 use Rattle.atomic_table.proofs.Lists.{at_longer, at_last}
 use Rattle.legal_history.specs.declared.history.Held.{Held}

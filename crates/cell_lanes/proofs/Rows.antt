@@ -1,5 +1,5 @@
 -- Shared things in a list, as a round of lanes sees them.
-use Rattle.std.proofs.Common.{◌≡◌, ℕ, ◌<◌, List, length, map, set, sym, ap, subst, ◌∙◌, arith}
+use Rattle.std.proofs.Common.{◌≡◌, ℕ, ◌<◌, List, length, map, set, sym, ap, subst, ◌∙◌}
 use Rattle.std.proofs.lemmas.List.{length-map, map-set}
 use mathlib.Core.Option.{some}
 use lib.ListN.{get_elem?}

@@ -1,6 +1,8 @@
 -- What the calls of a lane do to its passes.
-use Rattle.std.proofs.Common.{◌≡◌, ◌≢◌, ℕ, zero, suc, ◌+◌, ◌<◌, ◌==◌, List, [], ◌∷◌, ◌++◌, length, take, set, refl, sym, ap, ◌∙◌, subst, inl, inr, ⊎_elim, arith, eq-eqb, ne_eqb, append_assoc}
+use Rattle.std.proofs.Common.{◌≡◌, ◌≢◌, ℕ, zero, suc, ◌+◌, ◌<◌, List, [], ◌∷◌, ◌++◌, length, take, set, refl, sym, ap, ◌∙◌, subst, inl, inr, ⊎_elim, arith, eq-eqb, ne_eqb, append_assoc}
 use Rattle.std.proofs.Math.ListN.{length-set}
+use Rattle.std.specs.Prelude.{Some, None}
+use Rattle.std.proofs.lemmas.Option.{IfSome_then}
 use Rattle.std.proofs.lemmas.List.{append-nil}
 use mathlib.Core.Option.{some, some-ne-none, some-injective}
 use lib.ListN.{get_elem?}
@@ -15,7 +17,7 @@ use Rattle.cell_lanes.specs.declared.lane.Lane.{Lane}
 use Rattle.cell_lanes.specs.declared.lane.Slot.{Slot}
 use Rattle.cell_lanes.specs.declared.lane.Job.{Job}
 use Rattle.cell_lanes.specs.Calls.{Made, StandAs}
-use Rattle.cell_lanes.specs.Lanes.{Owns, SlotsFit, lent_on, slot_calls, cells_of, SlotsKept, Fresh, SlotsMade, Each, Lends, Stays, AllTaken, LaneReady, LaneRan, JobRan, JobsFit, JobsFresh, JobsRan, Fit}
+use Rattle.cell_lanes.specs.Lanes.{Owns, SlotsFit, lent_on, slot_calls, is_through, cells_of, HasSlot, SlotsKept, LineTaken, Fresh, SlotsMade, LineMade, NoneMade, Each, Lends, Stays, AllTaken, LaneReady, LaneRan, JobRan, JobsFit, JobsFresh, JobsRan, Fit}
 use Rattle.cell_lanes.proofs.Lists.{below_some}
 
 pub take_none : {A : Type 0} (xs : List A) → take 0 xs ≡ []
@@ -27,15 +29,19 @@ stand_more : {K M : Type 0} (stands : K → List M → Type 0) (ks : List K) (k 
 stand_more stands [] k cs ds all one = (ds, [], one, refl, ap (λ l. l ++ ds) all ∙ sym (append-nil ds))
 stand_more stands (x ∷ xs) k cs ds all one = (all.0, all.1 ++ ds, all.2, stand_more stands xs k all.1 ds all.3 one, ap (λ l. l ++ ds) all.4 ∙ append_assoc all.0 all.1 ds)
 
-slot_one : {K : Type 0} (s : ℕ) (xs : List (Line K)) (x : Line K) → slot_calls s (xs ++ x ∷ []) ≡ slot_calls s xs ++ keep (x.slot == s) x.call []
+slot_one : {K : Type 0} (s : ℕ) (xs : List (Line K)) (x : Line K) → slot_calls s (xs ++ x ∷ []) ≡ slot_calls s xs ++ keep (is_through s x.slot) x.call []
 slot_one s [] x = refl
-slot_one s (y ∷ ys) x = ap (keep (y.slot == s) y.call) (slot_one s ys x) ∙ keep-append (y.slot == s) y.call (slot_calls s ys) (keep (x.slot == s) x.call [])
+slot_one s (y ∷ ys) x = ap (keep (is_through s y.slot) y.call) (slot_one s ys x) ∙ keep-append (is_through s y.slot) y.call (slot_calls s ys) (keep (is_through s x.slot) x.call [])
 
-slot_same : {K : Type 0} (s : ℕ) (xs : List (Line K)) (x : Line K) → x.slot ≡ s → slot_calls s (xs ++ x ∷ []) ≡ slot_calls s xs ++ x.call ∷ []
-slot_same s xs x e = slot_one s xs x ∙ ap (λ b. slot_calls s xs ++ keep b x.call []) (eq-eqb x.slot s e)
+module _ {K : Type 0} (s : ℕ) (xs : List (Line K)) (x : Line K) where
+  slot_same : (i : ℕ) → x.slot ≡ Some i → i ≡ s → slot_calls s (xs ++ x ∷ []) ≡ slot_calls s xs ++ x.call ∷ []
+  slot_same i at e = slot_one s xs x ∙ ap (λ b. slot_calls s xs ++ keep b x.call []) (ap (is_through s) at ∙ eq-eqb i s e)
 
-slot_other : {K : Type 0} (s : ℕ) (xs : List (Line K)) (x : Line K) → x.slot ≢ s → slot_calls s (xs ++ x ∷ []) ≡ slot_calls s xs
-slot_other s xs x ne = slot_one s xs x ∙ (ap (λ b. slot_calls s xs ++ keep b x.call []) (ne_eqb x.slot s ne) ∙ append-nil (slot_calls s xs))
+  slot_other : (i : ℕ) → x.slot ≡ Some i → i ≢ s → slot_calls s (xs ++ x ∷ []) ≡ slot_calls s xs
+  slot_other i at ne = slot_one s xs x ∙ (ap (λ b. slot_calls s xs ++ keep b x.call []) (ap (is_through s) at ∙ ne_eqb i s ne) ∙ append-nil (slot_calls s xs))
+
+  slot_none : x.slot ≡ None → slot_calls s (xs ++ x ∷ []) ≡ slot_calls s xs
+  slot_none at = slot_one s xs x ∙ (ap (λ b. slot_calls s xs ++ keep b x.call []) (ap (is_through s) at) ∙ append-nil (slot_calls s xs))
 
 pub cells_length : {L : Type 0} (xs : List (Slot L)) → length (cells_of xs) ≡ length xs
 cells_length [] = refl
@@ -56,6 +62,16 @@ module _ {S L : Type 0} (owns : S → L → Type 0) where
         (at_set ys i s z u f),
   )
 
+  pub kept_then : (xs ys zs : List (Slot L)) → SlotsKept owns xs ys → SlotsKept owns ys zs → SlotsKept owns xs zs
+  kept_then xs ys zs a b = (
+    b.0 ∙ a.0,
+    λ s x z e g.
+        let y = below_some ys s (let n = some_below xs s x e in let m = a.0 in omega arith) in
+        let p = a.1 s x y.0 e y.1 in
+        let q = b.1 s y.0 z y.1 g in
+        (q.0 ∙ p.0, λ c h. q.1 c (p.1 c h)),
+  )
+
   -- the cells stay
   pub cells_kept : (xs ys : List (Slot L)) → SlotsKept owns xs ys → cells_of ys ≡ cells_of xs
   cells_kept xs ys kept = go xs ys kept.0 (λ s x y e f. (kept.1 s x y e f).0)
@@ -66,23 +82,34 @@ module _ {S L : Type 0} (owns : S → L → Type 0) where
       go (x ∷ xs) [] len same = absurd (omega arith)
       go (x ∷ xs) (y ∷ ys) len same = λ k. same 0 x y refl refl k ∷ go xs ys (omega arith) (λ s. same (suc s)) k
 
+-- what the slots hold takes the call of a line as before
+pub taken_still : {F L K : Type 0} (owns : F → L → Type 0) (takes : F → K → Type 0) (xs ys : List (Slot L)) (line : Line K) → SlotsKept owns xs ys → LineTaken owns takes xs line → LineTaken owns takes ys line
+taken_still owns takes xs ys line kept taken = IfSome_then line.slot taken (λ s t y e.
+    let x = below_some xs s (let n = some_below ys s y e in let m = kept.0 in omega arith) in
+    let f = t x.0 x.1 in
+    (f.0, (kept.1 s x.0 y x.1 e).1 f.0 f.1, f.2))
+
 module _ {L M K : Type 0} (knows : L → View M) (stands : K → List M → Type 0) where
-  pub made_more : (lines : List (Line K)) (slots : List (Slot L)) (line : Line K) (y z : Slot L) → get_elem? slots line.slot ≡ some y → Made (stands line.call) (knows y.lent) (knows z.lent)
-      → SlotsMade knows stands lines slots → SlotsMade knows stands (lines ++ line ∷ []) (set slots line.slot z)
-  made_more lines slots line y z at made all s x e = ⊎_elim
-      (λ (t : (s ≡ line.slot) × (z ≡ x)).
+  pub made_more : (slots : List (Slot L)) (line : Line K) (i : ℕ) (y z : Slot L) → line.slot ≡ Some i → get_elem? slots i ≡ some y → Made (stands line.call) (knows y.lent) (knows z.lent)
+      → LineMade knows stands line slots (set slots i z)
+  made_more slots line i y z on at made lines all s x e = ⊎_elim
+      (λ (t : (s ≡ i) × (z ≡ x)).
       let old = all s y (subst (λ n. get_elem? slots n ≡ some y) (sym t.0) at) in
       let mine : (knows y.lent).mine ++ made.0 ≡ (knows x.lent).mine = sym (ap (λ (v : View M). v.mine) made.2.2) ∙ ap (λ (k : Slot L). (knows k.lent).mine) t.1 in
       subst (StandAs stands (slot_calls s (lines ++ line ∷ []))) mine
-      (subst (λ ks. StandAs stands ks ((knows y.lent).mine ++ made.0)) (sym (slot_same s lines line (sym t.0)))
+      (subst (λ ks. StandAs stands ks ((knows y.lent).mine ++ made.0)) (sym (slot_same s lines line i on (sym t.0)))
       (stand_more stands (slot_calls s lines) line.call (knows y.lent).mine made.0 old made.1)))
-      (λ (t : (s ≢ line.slot) × (get_elem? slots s ≡ some x)).
-      subst (λ ks. StandAs stands ks (knows x.lent).mine) (sym (slot_other s lines line (λ q. t.0 (sym q)))) (all s x t.1))
-      (at_set slots line.slot s z x e)
+      (λ (t : (s ≢ i) × (get_elem? slots s ≡ some x)).
+      subst (λ ks. StandAs stands ks (knows x.lent).mine) (sym (slot_other s lines line i on (λ q. t.0 (sym q)))) (all s x t.1))
+      (at_set slots i s z x e)
+
+  -- a line on no thing
+  pub made_past : (slots : List (Slot L)) (line : Line K) → line.slot ≡ None → LineMade knows stands line slots slots
+  made_past slots line on lines all s x e = subst (λ ks. StandAs stands ks (knows x.lent).mine) (sym (slot_none s lines line on)) (all s x e)
 
   -- a refused call leaves what was made
-  pub made_same : (lines : List (Line K)) (slots : List (Slot L)) (i : ℕ) (y z : Slot L) → get_elem? slots i ≡ some y → knows z.lent ≡ knows y.lent → SlotsMade knows stands lines slots → SlotsMade knows stands lines (set slots i z)
-  made_same lines slots i y z at same all s x e = ⊎_elim
+  pub made_same : (slots : List (Slot L)) (i : ℕ) (y z : Slot L) → get_elem? slots i ≡ some y → knows z.lent ≡ knows y.lent → NoneMade knows stands slots (set slots i z)
+  made_same slots i y z at same lines all s x e = ⊎_elim
       (λ (t : (s ≡ i) × (z ≡ x)).
       subst (λ (k : Slot L). StandAs stands (slot_calls s lines) (knows k.lent).mine) t.1
       (subst (λ (v : View M). StandAs stands (slot_calls s lines) v.mine) (sym same) (all s y (subst (λ n. get_elem? slots n ≡ some y) (sym t.0) at))))
@@ -136,13 +163,13 @@ pub ready : {S F L M K : Type 0} (root : S → View M) (fixed : S → F) (knows 
     → LaneReady knows owns takes a x
 ready {S} root fixed knows owns takes n cs ds ls l a x at len lends fit taken fresh full slots = (
   fresh,
-  (λ k y e. let b = fit.lines k y e in let m = ap length full in omega (arith, cells_length x.slots.items)),
-  (λ k line y e f.
-      let g = slots line.slot y f in
+  (λ k line e. subst (λ n. HasSlot n line) (sym (ap length full) ∙ cells_length x.slots.items) (fit.lines k line e)),
+  (λ k line e. IfSome_then line.slot (taken l a k line at e) (λ s takes_it y f.
+      let g = slots s y f in
       let d = below_some ds y.cell g.0 in
       let c = below_some cs y.cell (let b = g.0 in omega arith) in
       let same : fixed d.0 ≡ fixed c.0 = (lends y.cell c.0 d.0 c.1 d.1).kept in
-      (fixed c.0, subst (λ h. owns h y.lent) same (g.1 d.0 d.1), taken l a k line y.cell c.0 at e (subst (λ ns. get_elem? ns line.slot ≡ some y.cell) full (cell_here x.slots.items line.slot y f)) c.1)),
+      (fixed c.0, subst (λ h. owns h y.lent) same (g.1 d.0 d.1), takes_it y.cell c.0 (subst (λ ns. get_elem? ns s ≡ some y.cell) full (cell_here x.slots.items s y f)) c.1))),
 )
 
 -- the jobs of lanes that have all run

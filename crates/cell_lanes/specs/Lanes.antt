@@ -1,5 +1,5 @@
 -- What lanes that run side by side do to several shared things.
-use Rattle.std.specs.Prelude.{◌≡◌, ℕ, zero, suc, ◌+◌, ◌-◌, ◌<◌, ◌≤◌, ◌==◌, ◌⊎◌, List, [], ◌∷◌, ◌++◌, take, length, slice_index}
+use Rattle.std.specs.Prelude.{◌≡◌, ℕ, zero, suc, ◌+◌, ◌-◌, ◌<◌, ◌≤◌, ◌==◌, ◌⊎◌, Bool, false, List, [], ◌∷◌, ◌++◌, Option, Some, None, IfSome, take, length, slice_index}
 use mathlib.Core.Option.{some}
 use mathlib.Core.List.{IsPrefix}
 use lib.ListN.{get_elem?}
@@ -15,16 +15,26 @@ use Rattle.cell_lanes.specs.declared.lane.Slot.{Slot}
 use Rattle.cell_lanes.specs.declared.lane.Job.{Job}
 use Rattle.cell_lanes.specs.Calls.{StandAs}
 
+-- a line goes through slot s; a line on no thing goes through none
+abbrev pub is_through : ℕ → Option ℕ → Bool
+is_through s None = false
+is_through s (Some slot) = slot == s
+
+-- a line is on cell j, where the slots stand for the cells cs; a line on no thing is on none
+abbrev pub is_on : ℕ → List ℕ → Option ℕ → Bool
+is_on j cs None = false
+is_on j cs (Some slot) = slice_index cs slot == j
+
 module _ {K : Type 0} where
   -- what these lines ask for through slot s
   abbrev pub slot_calls : ℕ → List (Line K) → List K
   slot_calls s [] = []
-  slot_calls s (x ∷ xs) = keep (x.slot == s) x.call (slot_calls s xs)
+  slot_calls s (x ∷ xs) = keep (is_through s x.slot) x.call (slot_calls s xs)
 
-  -- what they ask for on cell j, where the slots stand for the cells cs
+  -- what they ask for on cell j
   abbrev pub cell_calls : ℕ → List ℕ → List (Line K) → List K
   cell_calls j cs [] = []
-  cell_calls j cs (x ∷ xs) = keep (slice_index cs x.slot == j) x.call (cell_calls j cs xs)
+  cell_calls j cs (x ∷ xs) = keep (is_on j cs x.slot) x.call (cell_calls j cs xs)
 
   -- what lane l asks for on cell j with its first `done l` lines
   abbrev pub calls_on : ℕ → List (Lane K) → (ℕ → ℕ) → ℕ → List K
@@ -50,20 +60,23 @@ module _ {K : Type 0} where
   abbrev pub Unfinished : List (Lane K) → (ℕ → ℕ) → Type 0
   Unfinished lanes done = SomeLeft lanes done ⊎ ((l : ℕ) → done l ≡ 0)
 
-  -- each cell that a lane names is there, and is named once; each line has a slot
+  -- a line's slot, if it is on a thing, is one of these
+  abbrev pub HasSlot : ℕ → Line K → Type 0
+  HasSlot slots line = IfSome line.slot (λ slot. slot < slots)
+
+  abbrev pub LineFit : ℕ → List (Line K) → Type 0
+  LineFit slots lines = (k : ℕ) (x : Line K) → get_elem? lines k ≡ some x → HasSlot slots x
+
+  -- each cell that a lane names is there, and is named once; each line has a slot, or is on no thing
   pub record Fit (count : ℕ) (lane : Lane K) : Type 0 where
     pub cells : (s j : ℕ) → get_elem? lane.cells.items s ≡ some j → j < count
     pub once : Distinct lane.cells.items
-    pub lines : (k : ℕ) (x : Line K) → get_elem? lane.lines.items k ≡ some x → x.slot < length lane.cells.items
-
-  -- each line has one of these slots
-  abbrev pub LineFit : ℕ → List (Line K) → Type 0
-  LineFit slots lines = (k : ℕ) (x : Line K) → get_elem? lines k ≡ some x → x.slot < slots
+    pub lines : LineFit (length lane.cells.items) lane.lines.items
 
   abbrev pub AllFit : ℕ → List (Lane K) → Type 0
   AllFit count lanes = (l : ℕ) (x : Lane K) → get_elem? lanes l ≡ some x → Fit count x
 
-  -- the cells that a lane names ascend and are there; each line has a slot
+  -- the cells that a lane names ascend and are there; each line has a slot, or is on no thing
   pub record InOrder (count : ℕ) (lane : Lane K) : Type 0 where
     pub cells : Ascend 0 count lane.cells.items
     pub lines : LineFit (length lane.cells.items) lane.lines.items
@@ -174,14 +187,19 @@ JobsFit {L = L} owns cs jobs = (l : ℕ) (x : Job L) → get_elem? jobs l ≡ so
 abbrev pub SlotsKept : {S L : Type 0} → (S → L → Type 0) → List (Slot L) → List (Slot L) → Type 0
 SlotsKept {S} {L} owns xs ys = (length ys ≡ length xs) × ((s : ℕ) (x y : Slot L) → get_elem? xs s ≡ some x → get_elem? ys s ≡ some y → (y.cell ≡ x.cell) × ((c : S) → owns c x.lent → owns c y.lent))
 
--- what each line has a pass of takes its call
-abbrev pub LinesTaken : {F L K : Type 0} → (F → L → Type 0) → (F → K → Type 0) → List (Slot L) → List (Line K) → Type 0
-LinesTaken {F} {L} {K} owns takes slots lines = (k : ℕ) (x : Line K) (y : Slot L) → get_elem? lines k ≡ some x → get_elem? slots x.slot ≡ some y → (f : F) × owns f y.lent × takes f x.call
+-- what a line has a pass of, if it is on a thing, takes its call
+abbrev pub LineTaken : {F L K : Type 0} → (F → L → Type 0) → (F → K → Type 0) → List (Slot L) → Line K → Type 0
+LineTaken {F} {L} owns takes slots line =
+    IfSome line.slot (λ slot. (y : Slot L) → get_elem? slots slot ≡ some y → (f : F) × owns f y.lent × takes f line.call)
 
--- each lane's calls are on things that take them
+abbrev pub LinesTaken : {F L K : Type 0} → (F → L → Type 0) → (F → K → Type 0) → List (Slot L) → List (Line K) → Type 0
+LinesTaken {K = K} owns takes slots lines = (k : ℕ) (x : Line K) → get_elem? lines k ≡ some x → LineTaken owns takes slots x
+
+-- each lane's calls are on things that take them, or on none
 abbrev pub AllTaken : {S F K : Type 0} → (S → F) → (F → K → Type 0) → List S → List (Lane K) → Type 0
-AllTaken {S} {F} {K} fixed takes cs lanes = (l : ℕ) (a : Lane K) (k : ℕ) (x : Line K) (j : ℕ) (c : S)
-    → get_elem? lanes l ≡ some a → get_elem? a.lines.items k ≡ some x → get_elem? a.cells.items x.slot ≡ some j → get_elem? cs j ≡ some c → takes (fixed c) x.call
+AllTaken {S} {F} {K} fixed takes cs lanes = (l : ℕ) (a : Lane K) (k : ℕ) (x : Line K)
+    → get_elem? lanes l ≡ some a → get_elem? a.lines.items k ≡ some x
+    → IfSome x.slot (λ slot. (j : ℕ) (c : S) → get_elem? a.cells.items slot ≡ some j → get_elem? cs j ≡ some c → takes (fixed c) x.call)
 
 -- how many passes of cell j are out with these jobs
 abbrev pub lent_on : {L : Type 0} → ℕ → List (Job L) → ℕ
@@ -220,6 +238,13 @@ module _ {L M : Type 0} (knows : L → View M) where
     -- each pass has made what these lines ask for through its slot
     abbrev pub SlotsMade : List (Line K) → List (Slot L) → Type 0
     SlotsMade lines slots = (s : ℕ) (x : Slot L) → get_elem? slots s ≡ some x → StandAs stands (slot_calls s lines) (knows x.lent).mine
+
+    -- the passes made what this line asks for, behind whatever lines they had made; or nothing
+    abbrev pub LineMade : Line K → List (Slot L) → List (Slot L) → Type 0
+    LineMade line slots slots' = (lines : List (Line K)) → SlotsMade lines slots → SlotsMade (lines ++ line ∷ []) slots'
+
+    abbrev pub NoneMade : List (Slot L) → List (Slot L) → Type 0
+    NoneMade slots slots' = (lines : List (Line K)) → SlotsMade lines slots → SlotsMade lines slots'
 
     -- a lane has one pass for each cell that it names, and its passes have made its first lines; or it has some of them, and has made none
     pub record JobRan (lane : Lane K) (job : Job L) : Type 0 where

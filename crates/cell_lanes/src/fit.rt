@@ -4,7 +4,7 @@ ghost use mathlib.Core.Option.{some};
 ghost use lib.ListN.{get_elem?};
 ghost use Rattle.legal_history.specs.History.{Distinct};
 ghost use Rattle.legal_history.specs.Places.{Ascend};
-ghost use Rattle.cell_lanes.specs.Lanes.{Fit, AllFit, LineFit, InOrder, AllInOrder};
+ghost use Rattle.cell_lanes.specs.Lanes.{Fit, AllFit, HasSlot, LineFit, InOrder, AllInOrder};
 
 use crate::lane::{Lane, Line};
 
@@ -23,19 +23,30 @@ fn ascend_below(cells: &[usize], count: usize) -> bool
     true
 }
 
-/// Whether each line's slot is below `count`.
+/// Whether the line's slot is below `count`, or it is on no thing.
+fn has_slot<K>(line: &Line<K>, count: usize) -> bool
+    ensures { IsTrue result ↔ HasSlot count line.now }
+{
+    match line.slot {
+        Some(slot) => slot < count,
+        None => true,
+    }
+}
+
+/// Whether each line has a slot below `count`, or is on no thing.
 fn slots_below<K>(lines: &[Line<K>], count: usize) -> bool
     ensures { IsTrue result ↔ LineFit count lines.now }
 {
     for line in lines {
-        if line.slot >= count {
+        if !has_slot(line, count) {
             return false;
         }
     }
     true
 }
 
-/// Whether the lane names its things in ascending order, all of them below `count`, and has a slot for each line.
+/// Whether the lane names its things in ascending order, all of them below `count`, and has a slot for each line that is on
+/// one.
 pub fn lane_fits<K>(lane: &Lane<K>, count: usize) -> bool
     ensures in_order { IsTrue result ↔ InOrder count lane.now }
     ensures fit { result ≡ true → Fit count lane.now }

@@ -4,10 +4,10 @@ use std::sync::Wait;
 
 /// A hook around the calls of lanes. It may wait, and tells nothing.
 pub trait LaneHook {
-    /// Called before the call with this number, from 0, of a lane.
+    /// Called before the call with this number, from 0, of the lane with this number.
     fn before<R: Wait>(&self, rt: &R, lane: usize, call: usize);
 
-    /// Called after the call with this number, from 0, of a lane.
+    /// Called after the call with this number, from 0, of the lane with this number.
     fn after<R: Wait>(&self, rt: &R, lane: usize, call: usize);
 }
 

@@ -7,7 +7,7 @@ ghost use Rattle.cell_lanes.specs.declared.lane.Line.{Line};
 ghost use Rattle.cell_lanes.specs.declared.lane.Lane.{Lane};
 ghost use Rattle.cell_lanes.specs.declared.lane.Job.{Job};
 ghost use Rattle.cell_lanes.specs.Things.{root_of, fixed_of};
-ghost use Rattle.cell_lanes.specs.Lanes.{Each, Roots, Stays, Owns, Home, AtRest, Lends, Takes, Same, Grew, AllFit, AllDone, SomeLeft, Unfinished, SlotsFit, SlotsKept, Fresh, SlotsMade, LineFit, LinesTaken, AllTaken, LaneReady, LaneRan, cells_of, given, JobsFit, JobsFresh, JobsRan, lent_on, all_given, done_of};
+ghost use Rattle.cell_lanes.specs.Lanes.{Each, Roots, Stays, Owns, Home, AtRest, Lends, Takes, Same, Grew, AllFit, AllDone, SomeLeft, Unfinished, SlotsFit, SlotsKept, Fresh, SlotsMade, LineMade, NoneMade, HasSlot, LineFit, LineTaken, LinesTaken, AllTaken, LaneReady, LaneRan, cells_of, given, JobsFit, JobsFresh, JobsRan, lent_on, all_given, done_of};
 
 use crate::hook::LaneHook;
 use crate::lane::{Job, Lane, Line, Slot};
@@ -76,7 +76,27 @@ fn lend_all<S: Lenders>(
     Ok(())
 }
 
-/// Makes the calls of a lane, until one is refused, and answers how many it has made.
+/// Makes the call of a line with the pass that it goes through. A line on no thing changes nothing.
+fn make_line<R: Wait, S: Lenders>(
+    rt: &R,
+    alloc: Global,
+    slots: &mut [Slot<S::Lent>],
+    line: &Line<S::Call>,
+) -> Result<(), Memory>
+    requires slot { HasSlot (length slots.old) line.now }
+    requires taken { LineTaken S.owns S.takes slots.old line.now }
+    ensures kept { SlotsKept S.owns slots.old slots.new }
+    ensures made { OnOk result (LineMade S.knows S.stands_as line.now slots.old slots.new) }
+    ensures refused { OnErr result (NoneMade S.knows S.stands_as slots.old slots.new) }
+{
+    let Some(index) = line.slot else {
+        return Ok(());
+    };
+    let slot = &mut slots[index];
+    S::make(rt, alloc, &mut slot.lent, &line.call)
+}
+
+/// Makes the calls of a lane, until one is refused, and answers how many of its lines it has done.
 fn run_slots<R: Wait, H: LaneHook, S: Lenders>(
     rt: &R,
     alloc: Global,
@@ -95,9 +115,7 @@ fn run_slots<R: Wait, H: LaneHook, S: Lenders>(
     for call in 0..lines.len() {
         let line = &lines[call];
         hook.before(rt, lane, call);
-        let index = line.slot;
-        let slot = &mut slots[index];
-        let outcome = S::make(rt, alloc, &mut slot.lent, &line.call);
+        let outcome = make_line::<R, S>(rt, alloc, slots, line);
         hook.after(rt, lane, call);
         match outcome {
             Ok(()) => {}
@@ -145,7 +163,10 @@ fn run_all<R: Threads + Wait + Sync, H: LaneHook + Sync, S: Lenders>(
         &|l: usize, job: &mut Job<S::Lent>|
             requires { (l < length lanes.now) × ((a : Lane S.Call) → get_elem? lanes.now l ≡ some a → LaneReady S.knows S.owns S.takes a job.now) }
             ensures { (a : Lane S.Call) → get_elem? lanes.entry.now l ≡ some a → LaneRan S.knows S.stands_as S.owns a job.entry.now job.exit.now }
-        { run_job::<R, H, S>(rt, alloc, hook, l, job, lanes[l].lines.as_slice()) },
+        {
+            let lane = &lanes[l];
+            run_job::<R, H, S>(rt, alloc, hook, lane.number, job, lane.lines.as_slice())
+        },
     );
 }
 

@@ -4,14 +4,19 @@ use cell_lanes::{Lane, Line};
 use std::alloc::Global;
 use std::test::Fail;
 
-/// A lane that makes these calls on the first cell.
-pub fn lane_of<K: Drop>(alloc: Global, calls: Vec<K>) -> Result<Lane<K>, Fail> {
+/// A lane with a number that makes these calls on the first cell.
+pub fn lane_of<K: Drop>(alloc: Global, number: usize, calls: Vec<K>) -> Result<Lane<K>, Fail> {
     let mut lines = Vec::new(alloc);
     for call in calls {
-        lines.push(Line { slot: 0, call })?;
+        let slot = Some(0);
+        lines.push(Line { slot, call })?;
     }
     let cells = vec![in alloc; 0usize]?;
-    Ok(Lane { cells, lines })
+    Ok(Lane {
+        number,
+        cells,
+        lines,
+    })
 }
 
 /// Two lanes, each of which makes its call so often, on the first cell.
@@ -21,8 +26,8 @@ pub fn two_lanes<K: Copy + Drop>(
     times: usize,
 ) -> Result<Vec<Lane<K>>, Fail> {
     let mut lanes = Vec::new(alloc);
-    for call in calls {
-        lanes.push(lane_of(alloc, vec![in alloc; call; times]?)?)?;
+    for (number, call) in [(0, calls[0]), (1, calls[1])] {
+        lanes.push(lane_of(alloc, number, vec![in alloc; call; times]?)?)?;
     }
     Ok(lanes)
 }

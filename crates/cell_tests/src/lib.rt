@@ -6,6 +6,8 @@ mod answers;
 #[cfg(test)]
 mod flushed;
 #[cfg(test)]
+mod hooks;
+#[cfg(test)]
 mod lanes;
 #[cfg(test)]
 mod queues;

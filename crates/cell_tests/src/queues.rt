@@ -138,9 +138,9 @@ fn no_item_is_lost_or_repeated(rt: HostRuntime) -> Result<(), Fail> {
 /// Two lanes, each of which pushes its item twice at once.
 fn pushing_lanes(alloc: Global) -> Result<Vec<Lane<Sample<u8>>>, Fail> {
     let mut lanes = Vec::new(alloc);
-    for item in [5u8, 7] {
+    for (number, item) in [(0, 5u8), (1, 7)] {
         let call = Sample { item, count: 2 };
-        lanes.push(lane_of(alloc, vec![in alloc; call]?)?)?;
+        lanes.push(lane_of(alloc, number, vec![in alloc; call]?)?)?;
     }
     Ok(lanes)
 }

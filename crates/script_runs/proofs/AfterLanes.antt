@@ -5,11 +5,11 @@ use Rattle.std.specs.List.{AllZip}
 use Rattle.std.proofs.lemmas.List.{map-append, length-map}
 use mathlib.Core.Option.{some}
 use lib.ListN.{get_elem?}
-use Rattle.legal_history.specs.History.{calls}
+use Rattle.legal_history.specs.History.{Distinct, calls}
 use Rattle.legal_history.specs.Order.{taken, IsOrder}
 use Rattle.cell_lanes.specs.declared.lane.Lane.{Lane}
 use Rattle.cell_lanes.specs.Things.{Thing, root_of}
-use Rattle.cell_lanes.specs.Lanes.{AllDone, Each, Grew, all_calls_on}
+use Rattle.cell_lanes.specs.Lanes.{AllDone, Each, Grew}
 use Rattle.metrics_core.specs.declared.kinds.MetricKind.{MetricKind}
 use Rattle.metrics_core.specs.declared.kinds.MetricKind.TheVariants as kinds
 use Rattle.metrics_core.specs.declared.kinds.SeriesId.{SeriesId}
@@ -31,12 +31,13 @@ use Rattle.drive_script.specs.Texts.{call_line_of, act_of}
 use Rattle.drive_script.specs.declared.script.CallLine.{CallLine as CallValue}
 use Rattle.drive_script.specs.declared.script.Act.{Act}
 use Rattle.drive_script.specs.declared.script.Act.TheVariants as acts
-use Rattle.script_runs.specs.LaneCalls.{HasLane, asked, calls_at, id_at, is_at, lines_at}
+use Rattle.script_runs.specs.LaneCalls.{HasLane, asked, calls_at, id_at, is_at, lane_number, lines_at, numbered_at}
 use Rattle.script_runs.specs.Play.{PlayState, RoundOrders, AreOrdersOf, IsOrderOf, called, is_call_on, names, of_lane}
 use Rattle.script_runs.specs.Orders.{IsCalled}
 use Rattle.script_runs.specs.Resting.{AllRest}
 use Rattle.script_runs.proofs.LaneOrders.{OwnBy, taken_map, taken_lane}
 use Rattle.script_runs.proofs.LaneSteps.{get_of}
+use Rattle.script_runs.proofs.Numbers.{by_number, number_at}
 use Rattle.script_runs.proofs.RestingSteps.{counter_at, counter_id, gauge_at, gauge_id}
 
 -- ---- the calls on one series
@@ -164,13 +165,15 @@ module _ {F : Type 0} (kind : MetricKind) (ids handles : List SeriesId) (lines :
 
 module _ (e f : Exporter) (handles : List SeriesId) (lines : List CallValue) (lanes : List (Lane SeriesCall)) (done : ℕ → ℕ) where
   -- the history of each thing grew by its calls in an order
-  grew_at : AllDone lanes done → Each (Grew root_of StandsAsItself lanes done) (things_of e) (things_of f) → ((j l : ℕ) → all_calls_on j lanes l ≡ calls_at (ids_of e) handles l j lines)
+  grew_at : AllDone lanes done → Each (Grew root_of StandsAsItself lanes done) (things_of e) (things_of f) → Distinct (map lane_number lanes) → ((j l : ℕ) → numbered_at j lanes l ≡ calls_at (ids_of e) handles l j lines)
       → (j : ℕ) (c d : Thing SeriesCall SeriesCell) → get_elem? (things_of e) j ≡ some c → get_elem? (things_of f) j ≡ some d
       → (order : List ℕ) × IsOrder order (λ l. calls_at (ids_of e) handles l j lines) × (calls d.root.seen ≡ calls c.root.seen ++ taken order (λ l. calls_at (ids_of e) handles l j lines))
-  grew_at all each same j c d at at' =
+  grew_at all each apart same j c d at at' =
       let grew = round_calls root_of lanes done j c d all (each j c d at at') in
-      let lists : (λ l. all_calls_on j lanes l) ≡ (λ l. calls_at (ids_of e) handles l j lines) = λ i l. same j l i in
-      subst (λ (xs : ℕ → List SeriesCall). (order : List ℕ) × IsOrder order xs × (calls d.root.seen ≡ calls c.root.seen ++ taken order xs)) lists grew
+      let own = by_number j lanes apart grew.0 grew.1 in
+      let lists : numbered_at j lanes ≡ (λ l. calls_at (ids_of e) handles l j lines) = λ i l. same j l i in
+      subst (λ (xs : ℕ → List SeriesCall). (order : List ℕ) × IsOrder order xs × (calls d.root.seen ≡ calls c.root.seen ++ taken order xs)) lists
+      (map (number_at lanes) grew.0, own.0, grew.2 ∙ ap (λ t. calls c.root.seen ++ t) (sym own.1))
 
   abbrev before : PlayState
   before = record { prometheus = prometheus_of e; handles = handles }
@@ -179,9 +182,9 @@ module _ (e f : Exporter) (handles : List SeriesId) (lines : List CallValue) (la
   after = record { prometheus = prometheus_of f; handles = handles }
 
   pub round_made : AllRest e → frame_of f ≡ frame_of e → AllDone lanes done → Each (Grew root_of StandsAsItself lanes done) (things_of e) (things_of f)
-      → ((j l : ℕ) → all_calls_on j lanes l ≡ calls_at (ids_of e) handles l j lines) → (round : RoundText) → round.calls ≡ map call_line_of lines → IsCalled before round after
-  round_made rest frame all each same round are =
-      let grew = grew_at all each same in
+      → Distinct (map lane_number lanes) → ((j l : ℕ) → numbered_at j lanes l ≡ calls_at (ids_of e) handles l j lines) → (round : RoundText) → round.calls ≡ map call_line_of lines → IsCalled before round after
+  round_made rest frame all each apart same round are =
+      let grew = grew_at all each apart same in
       let more : length f.series.counters ≡ length e.series.counters = sym (length-map f.series.counters unseen) ∙ ap (λ (x : Exporter). length x.series.counters) frame ∙ length-map e.series.counters unseen in
       let counters = collect kinds.Counter (ids_of e) handles lines round.moment 0 e.series.counters f.series.counters (ap (λ (x : Exporter). x.series.counters) frame)
       (λ i s at. (subst (λ n. get_elem? (ids_of e) n ≡ some s.id) (omega arith) (counter_id e i s at), (rest.counters i s at).kind_is))

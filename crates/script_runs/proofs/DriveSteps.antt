@@ -1,6 +1,7 @@
 -- From the parts of a run to what it says as a whole.
-use Rattle.std.proofs.Common.{◌≡◌, ℕ, ◌≤◌, ◌⊎◌, inl, inr, List, length, refl, subst, arith}
-use Rattle.std.specs.Prelude.{Option, Some, None, IfSome}
+use Rattle.std.proofs.Common.{◌≡◌, ℕ, ◌≤◌, ◌⊎◌, inl, inr, List, length, refl, sym, subst, arith}
+use Rattle.std.specs.Prelude.{Option, Some, None, IfSome, Result, Ok, Err, IfErr, OnErr, IsErrAnd}
+use Rattle.std.proofs.lemmas.Result.{err_from_is_err_and}
 use Rattle.metrics_core.specs.Outside.{Rose, GrewBy, GrewByPrefix}
 use Rattle.drive_script.specs.Script.{ScriptText, lines_of}
 use Rattle.drive_script.specs.Valid.{IsScriptOf}
@@ -10,8 +11,9 @@ use Rattle.drive_script.specs.declared.faults.DriveFault.{DriveFault}
 use Rattle.drive_script.specs.declared.faults.DriveFault.TheVariants as faults
 use Rattle.script_runs.specs.Headline.{IsPlayed, IsPlayedInPart, IsGoodScript, script_limit}
 use Rattle.script_runs.specs.Orders.{ForSomeRun, run_text}
-use Rattle.script_runs.specs.Answers.{IsComplete, IsBadScript, IsTooLong, IsPlayFault, LeavesPrefix, fault_status}
+use Rattle.script_runs.specs.Answers.{IsComplete, IsBadScript, IsTooLong, IsPlayFault, LeavesPrefix, end_status, fault_status}
 use Rattle.script_runs.specs.Reading.{IsReadFault}
+use Rattle.script_runs.specs.declared.report.Report.{Report}
 use Rattle.script_runs.proofs.RunPages.{run_is_pages}
 
 -- bytes that are a valid script have no bad line
@@ -107,6 +109,23 @@ play_faults K faults.TooLong c ok = absurd c
 play_faults K faults.ReadFault c ok = absurd c
 play_faults K faults.WriteFault c ok = absurd (ok c)
 play_faults K faults.Memory c ok = inr refl
+
+-- what ended a play: its last page, or such a fault
+pub play_ends : (K : Type 0) (ended : Result Report DriveFault) → IfErr ended (IsPlayFault K) → ¬ K → (end_status ended ≡ 0) ⊎ (end_status ended ≡ 8)
+play_ends K (Ok report) c ok = inl refl
+play_ends K (Err fault) c ok = play_faults K fault c ok
+
+-- completeness, where a fault was handed on
+pub complete_handed_on : (left : Option (List ℕ)) (S K : Type 0) (ended : Result Report DriveFault) (fault : DriveFault) → IsErrAnd ended (λ f. f ≡ fault)
+    → IfSome left (λ bytes. IsComplete bytes S K (fault_status fault)) → IfSome left (λ bytes. IsComplete bytes S K (end_status ended))
+complete_handed_on left S K ended fault is complete =
+    let refusal = err_from_is_err_and ended is in
+    subst (λ r. IfSome left (λ bytes. IsComplete bytes S K (end_status r))) (sym refusal.1)
+    (subst (λ f. IfSome left (λ bytes. IsComplete bytes S K (fault_status f))) (sym refusal.2) complete)
+
+pub err_with : {T E : Type 0} (r : Result T E) (P : Type 0) (C Q : E → Type 0) → OnErr r P → IfErr r C → ((e : E) → P → C e → Q e) → IfErr r Q
+err_with (Ok v) P C Q p c with_both = tt
+err_with (Err e) P C Q p c with_both = with_both e p c
 
 -- completeness, where the script was refused
 pub refused_answers : (left : Option (List ℕ)) (items : List ℕ) (S K : Type 0) (fault : DriveFault)

@@ -1,4 +1,5 @@
 pub mod ReadingSteps
+pub mod Returned
 pub mod RoundSteps
 pub mod BuiltRounds
 pub mod RunPages
@@ -8,5 +9,6 @@ pub mod WordSteps
 pub mod Fits
 pub mod LaneSteps
 pub mod LaneOrders
+pub mod Numbers
 pub mod AfterLanes
 pub mod RestingSteps

@@ -1,8 +1,9 @@
 -- The exporter between rounds: its series under their indices, and what registration and a round of lanes leave.
-use Rattle.std.proofs.Common.{◌≡◌, ℕ, zero, suc, ◌+◌, ◌⊎◌, List, [], ◌∷◌, ◌++◌, length, map, refl, sym, ap, subst, ◌∙◌, inl, inr, ⊎_elim, arith, length-append}
+use Rattle.std.proofs.Common.{◌≡◌, ℕ, suc, ◌+◌, ◌⊎◌, List, [], ◌∷◌, ◌++◌, length, map, refl, sym, ap, subst, ◌∙◌, inl, inr, ⊎_elim, arith, length-append}
 use Rattle.std.specs.Prelude.{Result, Ok, Err, OnOk}
+use Rattle.std.proofs.lemmas.Option.{IfSome_then}
 use Rattle.std.proofs.lemmas.List.{length-map}
-use mathlib.Core.Option.{some, some-injective, some-ne-none}
+use mathlib.Core.Option.{some, some-ne-none}
 use lib.ListN.{get_elem?}
 use Rattle.atomic_table.proofs.Lists.{at_longer, at_map, at_snoc}
 use Rattle.legal_history.specs.History.{Settled, first}
@@ -27,14 +28,9 @@ use Rattle.prom_exporter.specs.LanePasses.{TakesCall, counter_thing, gauge_thing
 use Rattle.prom_exporter.proofs.LaneThings.{all_home}
 use Rattle.script_runs.specs.LaneCalls.{AllAsked, kind_asked}
 use Rattle.script_runs.specs.Resting.{AllRest, EachRests, IsResting}
-use Rattle.script_runs.proofs.LaneSteps.{counter≢gauge, front_or_behind, its_id}
+use Rattle.script_runs.proofs.LaneSteps.{counter≢gauge, front_or_behind, its_id, map_at}
 
 -- ---- series under their indices
-
-map_at : {A B : Type 0} (f : A → B) (xs : List A) (i : ℕ) (b : B) → get_elem? (map f xs) i ≡ some b → (a : A) × (get_elem? xs i ≡ some a) × (f a ≡ b)
-map_at f [] i b e = absurd (some-ne-none b (sym e))
-map_at f (x ∷ xs) zero b e = (x, refl, some-injective (f x) b e)
-map_at f (x ∷ xs) (suc i) b e = map_at f xs i b e
 
 at_behind : {A : Type 0} (xs ys : List A) (k : ℕ) (a : A) → get_elem? ys k ≡ some a → get_elem? (xs ++ ys) (length xs + k) ≡ some a
 at_behind [] ys k a e = subst (λ n. get_elem? ys n ≡ some a) (omega arith) e
@@ -107,14 +103,14 @@ module _ (e : Exporter) where
   -- each lane's calls are of the kinds of their series
   pub all_taken : (lanes : List (Lane SeriesCall)) → AllRest e → ((l : ℕ) (lane : Lane SeriesCall) → get_elem? lanes l ≡ some lane → AllAsked (ids_of e) lane.cells.items lane.lines.items)
       → AllTaken fixed_of TakesCall (things_of e) lanes
-  all_taken lanes rest asked l a k x j t at_lane at_line at_cell at_thing =
-      let asks = (asked l a at_lane).1 k x j at_line at_cell in
+  all_taken lanes rest asked l a k x at_lane at_line = IfSome_then x.slot ((asked l a at_lane).1 k x at_line) (λ slot asks_at j t at_cell at_thing.
+      let asks = asks_at j at_cell in
       ⊎_elim
       (λ (c : CounterAt j t). let same : c.0.id ≡ asks.0 = one_at (ids_of e) j c.0.id asks.0 (counter_id j c.0 c.1) asks.1 in
       subst (λ (y : Thing SeriesCall SeriesCell). TakesCall y.fixed x.call) c.2 (takes_counter c.0.cell.cell x.call (sym (rest.counters j c.0 c.1).kind_is ∙ ap (λ (id : SeriesId). id.kind) same ∙ asks.2)))
       (λ (g : GaugeAt j t). let same : g.2.0.id ≡ asks.0 = one_at (ids_of e) j g.2.0.id asks.0 (subst (λ n. get_elem? (ids_of e) n ≡ some g.2.0.id) (sym g.1) (gauge_id g.0 g.2.0 g.2.1)) asks.1 in
       subst (λ (y : Thing SeriesCall SeriesCell). TakesCall y.fixed x.call) g.2.2 (takes_gauge g.2.0.cell.cell x.call (sym (rest.gauges g.0 g.2.0 g.2.1).kind_is ∙ ap (λ (id : SeriesId). id.kind) same ∙ asks.2)))
-      (thing_at j t at_thing)
+      (thing_at j t at_thing))
 
 -- as many things as ids
 pub many_things : (e : Exporter) → length (ids_of e) ≡ length (things_of e)

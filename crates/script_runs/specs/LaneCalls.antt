@@ -1,8 +1,10 @@
 -- The calls of a lane, as the exporter's lanes make them.
-use Rattle.std.specs.Prelude.{◌≡◌, ℕ, ◌<◌, ◌==◌, ◌&&◌, Bool, false, List, map, filter, length, option_map, unwrap_or, slice_get}
+use Rattle.std.specs.Prelude.{◌≡◌, ℕ, zero, suc, ◌<◌, ◌==◌, ◌&&◌, Bool, false, if◌then◌else◌, not, List, [], ◌∷◌, Option, Some, None, IfSome, map, filter, length, option_map, unwrap_or, slice_get}
 use mathlib.Core.Option.{some}
 use lib.ListN.{get_elem?}
+use Rattle.cell_lanes.specs.declared.lane.Lane.{Lane}
 use Rattle.cell_lanes.specs.declared.lane.Line.{Line}
+use Rattle.cell_lanes.specs.Lanes.{LineFit, cell_calls}
 use Rattle.metrics_core.specs.declared.calls.SeriesCall.{SeriesCall}
 use Rattle.metrics_core.specs.declared.calls.SeriesCall.TheVariants as calls
 use Rattle.metrics_core.specs.declared.kinds.MetricKind.{MetricKind}
@@ -37,6 +39,11 @@ id_at ids j id = unwrap_or (option_map (λ own. id_eq own id) (slice_get ids j))
 abbrev pub is_at : List SeriesId → List SeriesId → ℕ → CallLine → Bool
 is_at ids handles j line = unwrap_or (option_map (id_at ids j) (slice_get handles line.handle)) false
 
+-- the series at index j has this index, if any
+abbrev pub is_place : ℕ → Option ℕ → Bool
+is_place j None = false
+is_place j (Some index) = index == j
+
 abbrev pub HasLane : ℕ → CallLine → Bool
 HasLane l line = line.lane == l
 
@@ -51,11 +58,40 @@ calls_at ids handles l j lines = map (λ line. asked line.act) (lines_at ids han
 abbrev pub AsksKind : List SeriesId → ℕ → SeriesCall → Type 0
 AsksKind ids j call = (id : SeriesId) × (get_elem? ids j ≡ some id) × (id.kind ≡ kind_asked call)
 
--- the cells of a lane are indices of series, and each line's call is of the kind of its series
+-- the cells of a lane are indices of series, and the call of each line that is on a series is of the kind of the series
 abbrev pub AllAsked : List SeriesId → List ℕ → List (Line SeriesCall) → Type 0
 AllAsked ids cells lines =
     ((s j : ℕ) → get_elem? cells s ≡ some j → j < length ids)
-    × ((k : ℕ) (x : Line SeriesCall) (j : ℕ) → get_elem? lines k ≡ some x → get_elem? cells x.slot ≡ some j → AsksKind ids j x.call)
+    × ((k : ℕ) (x : Line SeriesCall) → get_elem? lines k ≡ some x → IfSome x.slot (λ slot. (j : ℕ) → get_elem? cells slot ≡ some j → AsksKind ids j x.call))
+
+-- what lane l asks for in the script's order, on whatever series or on none
+abbrev pub lane_asks : ℕ → List CallLine → List SeriesCall
+lane_asks l lines = map (λ line. asked line.act) (filter (HasLane l) lines)
+
+abbrev pub call_asked : Line SeriesCall → SeriesCall
+call_asked line = line.call
+
+-- what is told of the one with number l, the first of them; nothing where there is none
+abbrev pub numbered : {X A : Type 0} → (X → ℕ) → (X → List A) → List X → ℕ → List A
+numbered number tells [] l = []
+numbered number tells (x ∷ xs) l = if number x == l then tells x else numbered number tells xs l
+
+abbrev pub lane_number : Lane SeriesCall → ℕ
+lane_number lane = lane.number
+
+-- what the lane with number l asks for on the series at an index, and all that it asks for
+abbrev pub numbered_at : ℕ → List (Lane SeriesCall) → ℕ → List SeriesCall
+numbered_at j = numbered lane_number (λ lane. cell_calls j lane.cells.items lane.lines.items)
+
+abbrev pub numbered_asked : List (Lane SeriesCall) → ℕ → List SeriesCall
+numbered_asked = numbered lane_number (λ lane. map call_asked lane.lines.items)
+
+-- a lane's number, cells and lines
+abbrev pub Parts : Type 0
+Parts = ℕ × List ℕ × List (Line SeriesCall)
+
+abbrev pub parts_of : Lane SeriesCall → Parts
+parts_of lane = (lane.number, lane.cells.items, lane.lines.items)
 
 -- a lane while it is gathered
 abbrev pub lane_cells : LaneCalls → List ℕ
@@ -63,3 +99,31 @@ lane_cells gathered = gathered.cells.keys
 
 abbrev pub lane_lines : LaneCalls → List (Line SeriesCall)
 lane_lines gathered = gathered.lines.items
+
+abbrev pub gathered_parts : LaneCalls → Parts
+gathered_parts gathered = (gathered.number, lane_cells gathered, lane_lines gathered)
+
+abbrev pub has_lines : LaneCalls → Bool
+has_lines gathered = not (length (lane_lines gathered) == 0)
+
+-- what is told of lane l; nothing of one that is not there
+abbrev pub told_of : {A : Type 0} → (LaneCalls → List A) → List LaneCalls → ℕ → List A
+told_of tells [] l = []
+told_of tells (x ∷ xs) zero = tells x
+told_of tells (x ∷ xs) (suc l) = told_of tells xs l
+
+-- what is gathered of lane l: its calls on the series at an index, and all its calls
+abbrev pub gathered_at : ℕ → List LaneCalls → ℕ → List SeriesCall
+gathered_at j = told_of (λ gathered. cell_calls j (lane_cells gathered) (lane_lines gathered))
+
+abbrev pub gathered_asked : List LaneCalls → ℕ → List SeriesCall
+gathered_asked = told_of (λ gathered. map call_asked (lane_lines gathered))
+
+-- the lanes that are gathered have the numbers from k on, each its place
+abbrev pub AreInPlace : ℕ → List LaneCalls → Type 0
+AreInPlace k [] = Unit {0}
+AreInPlace k (x ∷ xs) = (x.number ≡ k) × AreInPlace (suc k) xs
+
+-- each lane that is gathered has a slot for each line that is on a series, and asks for calls of its series' kinds
+abbrev pub AreReady : List SeriesId → List LaneCalls → Type 0
+AreReady ids gathered = (l : ℕ) (x : LaneCalls) → get_elem? gathered l ≡ some x → LineFit (length (lane_cells x)) (lane_lines x) × AllAsked ids (lane_cells x) (lane_lines x)

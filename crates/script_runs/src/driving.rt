@@ -51,16 +51,7 @@ pub fn drive<R: Threads + Wait + Sync, S: Source, K: Sink, G: Gate + Sync>(
     ensures complete { IfSome (S.left source.old) (λ bytes.
         IsComplete bytes (Rose (S.faults source.old) (S.faults source.new)) (Rose (K.faults out.old) (K.faults out.new)) (end_status result)) }
 {
-    let bytes = match read_all(alloc, source) {
-        Ok(bytes) => bytes,
-        Err(fault) => return Err(fault),
-    };
-    let script = match read_script(alloc, &bytes) {
-        Ok(script) => script,
-        Err(fault) => return Err(fault),
-    };
-    match play(rt, alloc, gate, &script, out) {
-        Ok(report) => Ok(report),
-        Err(fault) => Err(fault),
-    }
+    let bytes = read_all(alloc, source)?;
+    let script = read_script(alloc, &bytes)?;
+    play(rt, alloc, gate, &script, out)
 }

@@ -1,17 +1,17 @@
 //! The lanes of a round: which series each one's calls are on, and the calls.
 
-ghost use Rattle.std.specs.Prelude.{◌≡◌, ◌≤◌, ◌==◌, ◌++◌, ℕ, false, List, [], All, length, slice_get, IfOk, OnOk};
+ghost use Rattle.std.specs.Prelude.{◌≡◌, ◌<◌, ◌≤◌, ◌++◌, ◌∷◌, ◌+◌, ◌&&◌, ℕ, List, [], All, IfOk, IfSome, OnOk, filter, length, map, slice_get};
 ghost use Rattle.cell_lanes.specs.declared.lane.Lane.{Lane};
 ghost use Rattle.metrics_core.specs.declared.calls.SeriesCall.{SeriesCall};
 ghost use Rattle.metrics_core.specs.declared.kinds.SeriesId.{SeriesId};
 ghost use mathlib.Core.Option.{some};
 ghost use lib.ListN.{get_elem?};
-ghost use Rattle.cell_lanes.specs.Lanes.{AllFit, Fit, LineFit, all_calls_on, cell_calls};
+ghost use Rattle.cell_lanes.specs.Lanes.{AllFit, LineFit, cell_calls};
 ghost use Rattle.legal_history.specs.History.{Distinct, keep};
 ghost use Rattle.prom_exporter.specs.LanePasses.{ids_of};
 ghost use Rattle.drive_script.specs.Texts.{call_line_of};
 ghost use Rattle.script_runs.specs.Fitting.{FitsHandle};
-ghost use Rattle.script_runs.specs.LaneCalls.{AllAsked, AsksKind, HasLane, asked, calls_at, is_at, lane_cells, lane_lines};
+ghost use Rattle.script_runs.specs.LaneCalls.{AllAsked, AreInPlace, AreReady, AsksKind, HasLane, asked, call_asked, calls_at, gathered_asked, gathered_at, gathered_parts, has_lines, is_at, is_place, lane_asks, lane_cells, lane_lines, lane_number, numbered_asked, numbered_at, parts_of};
 
 use cell_lanes::{Lane, Line};
 use drive_script::{Act, CallLine};
@@ -20,7 +20,8 @@ use metrics_core::{Memory, SeriesCall, SeriesId};
 use prom_exporter::PrometheusState;
 use std::alloc::Global;
 
-/// The lanes of a round up to the last one that has a call. A call whose handle names no live series is in none.
+/// The lanes of a round that have calls, each with its number. A call whose handle names no live series is a line of its lane,
+/// on no series.
 pub(crate) fn lanes_of(
     alloc: Global,
     exporter: &PrometheusState,
@@ -30,109 +31,128 @@ pub(crate) fn lanes_of(
     requires fit { All (λ line. FitsHandle handles.now (call_line_of line)) calls.now }
     ensures fit { IfOk result (λ lanes. AllFit (length (ids_of exporter.now)) lanes.items) }
     ensures asked { IfOk result (λ lanes. (l : ℕ) (lane : Lane SeriesCall) → get_elem? lanes.items l ≡ some lane → AllAsked (ids_of exporter.now) lane.cells.items lane.lines.items) }
-    ensures calls { IfOk result (λ lanes. (j l : ℕ) → all_calls_on j lanes.items l ≡ calls_at (ids_of exporter.now) handles.now l j calls.now) }
+    ensures numbers { IfOk result (λ lanes. Distinct (map lane_number lanes.items)) }
+    ensures calls { IfOk result (λ lanes. (j l : ℕ) → numbered_at j lanes.items l ≡ calls_at (ids_of exporter.now) handles.now l j calls.now) }
+    ensures lines { IfOk result (λ lanes. (l : ℕ) → numbered_asked lanes.items l ≡ lane_asks l calls.now) }
+    ensures busy { IfOk result (λ lanes. (i : ℕ) (lane : Lane SeriesCall) → get_elem? lanes.items i ≡ some lane → 0 < length lane.lines.items) }
 {
-    let mut lanes = Vec::new(alloc);
-    for lane in 0..lane_count(calls) {
-        lanes.push(lane_of(alloc, exporter, handles, calls, lane)?)?;
-    }
-    Ok(lanes)
-}
-
-/// How many lanes there are up to the last one that has a call.
-fn lane_count(calls: &[CallLine]) -> usize
-    ensures { (l : ℕ) → result ≤ l → All (λ line. HasLane l line ≡ false) calls.now }
-{
-    let mut count = 0;
+    let mut gathered = Vec::new(alloc);
     for line in calls {
-        count = count.max(usize::from(line.lane) + 1);
+        gather(alloc, exporter, handles, &mut gathered, line)?;
     }
-    count
+    into_lanes(alloc, gathered)
 }
 
-/// The lane with this number.
-fn lane_of(
+/// Puts a call line last on its lane.
+fn gather(
     alloc: Global,
     exporter: &PrometheusState,
     handles: &[SeriesId],
-    calls: &[CallLine],
-    lane: usize,
-) -> Result<Lane<SeriesCall>, Memory>
-    requires fit { All (λ line. FitsHandle handles.now (call_line_of line)) calls.now }
-    ensures fit { IfOk result (λ built. Fit (length (ids_of exporter.now)) built) }
-    ensures asked { IfOk result (λ built. AllAsked (ids_of exporter.now) built.cells.items built.lines.items) }
-    ensures calls { IfOk result (λ built. (j : ℕ) → cell_calls j built.cells.items built.lines.items ≡ calls_at (ids_of exporter.now) handles.now lane j calls.now) }
+    gathered: &mut Vec<LaneCalls>,
+    line: &CallLine,
+) -> Result<(), Memory>
+    requires fit { FitsHandle handles.now (call_line_of line.now) }
+    requires ready { AreReady (ids_of exporter.now) gathered.old.items }
+    requires places { AreInPlace 0 gathered.old.items }
+    ensures ready { OnOk result (AreReady (ids_of exporter.now) gathered.new.items) }
+    ensures places { OnOk result (AreInPlace 0 gathered.new.items) }
+    ensures calls { OnOk result ((j l : ℕ) → gathered_at j gathered.new.items l
+        ≡ gathered_at j gathered.old.items l ++ keep (HasLane l line.now && is_at (ids_of exporter.now) handles.now j line.now) (asked line.now.act) []) }
+    ensures lines { OnOk result ((l : ℕ) → gathered_asked gathered.new.items l ≡ gathered_asked gathered.old.items l ++ keep (HasLane l line.now) (asked line.now.act) []) }
 {
-    let mut gathered = LaneCalls::new(alloc);
-    for line in calls {
-        if usize::from(line.lane) == lane {
-            gathered.take_line(exporter, handles, line)?;
-        }
+    let place = place_of(exporter, handles, line);
+    let lane = usize::from(line.lane);
+    make_room(alloc, gathered, lane)?;
+    gathered[lane].push(place, call_of(line.act))
+}
+
+/// The index of the series that a call line's handle names, if it is live.
+fn place_of(exporter: &PrometheusState, handles: &[SeriesId], line: &CallLine) -> Option<usize>
+    requires fit { FitsHandle handles.now (call_line_of line.now) }
+    ensures place { (j : ℕ) → is_at (ids_of exporter.now) handles.now j line.now ≡ is_place j result }
+    ensures asks { IfSome result (λ index. AsksKind (ids_of exporter.now) index (asked line.now.act)) }
+{
+    exporter.index_of(id_of(handles, line)?)
+}
+
+/// Adds lanes without calls, until there is one with this number.
+fn make_room(alloc: Global, gathered: &mut Vec<LaneCalls>, lane: usize) -> Result<(), Memory>
+    requires { lane < 256 }
+    ensures room { OnOk result (lane < length gathered.new.items) }
+    ensures ready { OnOk result ((ids : List SeriesId) → AreReady ids gathered.old.items → AreReady ids gathered.new.items) }
+    ensures places { OnOk result (AreInPlace 0 gathered.old.items → AreInPlace 0 gathered.new.items) }
+    ensures calls { OnOk result ((j l : ℕ) → gathered_at j gathered.new.items l ≡ gathered_at j gathered.old.items l) }
+    ensures lines { OnOk result ((l : ℕ) → gathered_asked gathered.new.items l ≡ gathered_asked gathered.old.items l) }
+{
+    for number in gathered.len()..lane + 1 {
+        gathered.push(LaneCalls::new(alloc, number))?;
     }
-    gathered.into_lane(alloc)
+    Ok(())
+}
+
+/// The lanes that have calls, from what was gathered.
+fn into_lanes(alloc: Global, gathered: Vec<LaneCalls>) -> Result<Vec<Lane<SeriesCall>>, Memory>
+    ensures parts { IfOk result (λ lanes. map parts_of lanes.items ≡ map gathered_parts (filter has_lines gathered.items)) }
+    ensures once { IfOk result (λ lanes. (l : ℕ) (lane : Lane SeriesCall) → get_elem? lanes.items l ≡ some lane → Distinct lane.cells.items) }
+{
+    let mut lanes = Vec::new(alloc);
+    for lane in gathered {
+        if lane.lines.is_empty() {
+            continue;
+        }
+        lanes.push(lane.into_lane(alloc)?)?;
+    }
+    Ok(lanes)
 }
 
 /// A lane while its calls are gathered.
 #[derive(Drop)]
 pub struct LaneCalls {
+    number: usize,
     /// The indices of the series that its calls are on, each once.
     cells: IndexSet<usize>,
     lines: Vec<Line<SeriesCall>>,
 }
 
 impl LaneCalls {
-    /// A lane without calls.
-    fn new(alloc: Global) -> LaneCalls
-        ensures { (lane_cells result ≡ []) × (lane_lines result ≡ []) }
+    /// The lane with this number, without calls.
+    fn new(alloc: Global, number: usize) -> LaneCalls
+        ensures empty { (lane_cells result ≡ []) × (lane_lines result ≡ []) }
+        ensures number { result.number ≡ number }
     {
         LaneCalls {
+            number,
             cells: IndexSet::new(alloc),
             lines: Vec::new(alloc),
         }
     }
 
-    /// Takes one more call line. One whose handle names no live series is left out.
-    fn take_line(
-        &mut self,
-        exporter: &PrometheusState,
-        handles: &[SeriesId],
-        line: &CallLine,
-    ) -> Result<(), Memory>
-        requires lines { LineFit (length (lane_cells self.old)) (lane_lines self.old) }
-        requires fit { FitsHandle handles.now (call_line_of line.now) }
-        ensures lines { OnOk result (LineFit (length (lane_cells self.new)) (lane_lines self.new)) }
-        ensures asked { OnOk result (AllAsked (ids_of exporter.now) (lane_cells self.old) (lane_lines self.old) → AllAsked (ids_of exporter.now) (lane_cells self.new) (lane_lines self.new)) }
-        ensures calls { OnOk result ((j : ℕ) → cell_calls j (lane_cells self.new) (lane_lines self.new)
-            ≡ cell_calls j (lane_cells self.old) (lane_lines self.old) ++ keep (is_at (ids_of exporter.now) handles.now j line.now) (asked line.now.act) []) }
-    {
-        let Some(id) = id_of(handles, line) else {
-            return Ok(());
-        };
-        let Some(index) = exporter.index_of(id) else {
-            return Ok(());
-        };
-        self.push(index, call_of(line.act))
-    }
-
-    /// Puts a call on the series with an index last.
-    fn push(&mut self, index: usize, call: SeriesCall) -> Result<(), Memory>
+    /// Puts a call last, on the series with this index or on none.
+    fn push(&mut self, place: Option<usize>, call: SeriesCall) -> Result<(), Memory>
         requires { LineFit (length (lane_cells self.old)) (lane_lines self.old) }
-        ensures lines { OnOk result (LineFit (length (lane_cells self.new)) (lane_lines self.new)) }
-        ensures asked { OnOk result ((ids : List SeriesId) → AsksKind ids index call → AllAsked ids (lane_cells self.old) (lane_lines self.old) → AllAsked ids (lane_cells self.new) (lane_lines self.new)) }
-        ensures calls { OnOk result ((j : ℕ) → cell_calls j (lane_cells self.new) (lane_lines self.new) ≡ cell_calls j (lane_cells self.old) (lane_lines self.old) ++ keep (index == j) call []) }
+        ensures number { self.new.number ≡ self.old.number }
+        ensures fit { OnOk result (LineFit (length (lane_cells self.new)) (lane_lines self.new)) }
+        ensures asked { OnOk result ((ids : List SeriesId) → IfSome place (λ index. AsksKind ids index call) → AllAsked ids (lane_cells self.old) (lane_lines self.old) → AllAsked ids (lane_cells self.new) (lane_lines self.new)) }
+        ensures calls { OnOk result ((j : ℕ) → cell_calls j (lane_cells self.new) (lane_lines self.new) ≡ cell_calls j (lane_cells self.old) (lane_lines self.old) ++ keep (is_place j place) call []) }
+        ensures lines { OnOk result (map call_asked (lane_lines self.new) ≡ map call_asked (lane_lines self.old) ++ call ∷ []) }
     {
+        let Some(index) = place else {
+            self.lines.push(Line { slot: None, call })?;
+            return Ok(());
+        };
         let (slot, _) = self.cells.insert_full(index)?;
+        let slot = Some(slot);
         self.lines.push(Line { slot, call })?;
         Ok(())
     }
 
     /// The lane.
     fn into_lane(self, alloc: Global) -> Result<Lane<SeriesCall>, Memory>
-        ensures cells { IfOk result (λ lane. lane.cells.items ≡ lane_cells self) }
-        ensures lines { IfOk result (λ lane. lane.lines.items ≡ lane_lines self) }
+        ensures parts { IfOk result (λ lane. parts_of lane ≡ gathered_parts self) }
         ensures once { IfOk result (λ lane. Distinct lane.cells.items) }
     {
         Ok(Lane {
+            number: self.number,
             cells: Vec::from_slice(alloc, self.cells.as_slice())?,
             lines: self.lines,
         })

@@ -37,15 +37,9 @@ pub fn play<R: Threads + Wait + Sync, G: Gate + Sync, K: Sink>(
     ensures cause { IfErr result (IsPlayFault (Rose (K.faults out.old) (K.faults out.new))) }
     ensures never_falls { K.faults out.old ≤ K.faults out.new }
 {
-    let mut player = match Player::new(alloc, &script.settings) {
-        Ok(player) => player,
-        Err(Memory) => return Err(DriveFault::Memory),
-    };
+    let mut player = Player::new(alloc, &script.settings)?;
     for round in &script.rounds {
-        match player.play_round(rt, alloc, gate, round, out) {
-            Ok(()) => (),
-            Err(fault) => return Err(fault),
-        }
+        player.play_round(rt, alloc, gate, round, out)?;
     }
     Ok(Report {
         pages: script.rounds.len() as u64,
@@ -118,14 +112,8 @@ impl Player {
         ensures cause { IfErr result (IsPlayFault (Rose (K.faults out.old) (K.faults out.new))) }
         ensures never_falls { K.faults out.old ≤ K.faults out.new }
     {
-        match self.set_up(alloc, &round.setup) {
-            Ok(()) => (),
-            Err(Memory) => return Err(DriveFault::Memory),
-        }
-        match self.make_calls(rt, alloc, gate, &round.calls) {
-            Ok(()) => (),
-            Err(Memory) => return Err(DriveFault::Memory),
-        }
+        self.set_up(alloc, &round.setup)?;
+        self.make_calls(rt, alloc, gate, &round.calls)?;
         self.write_page(alloc, round.moment, out)
     }
 
@@ -137,10 +125,7 @@ impl Player {
         ensures stepped { OnOk result (state_of self.new ≡ fold setup_step (state_of self.old) (map setup_of setup.now)) }
     {
         for line in setup {
-            match self.set_up_line(alloc, line) {
-                Ok(()) => (),
-                Err(refused) => return Err(refused),
-            }
+            self.set_up_line(alloc, line)?;
         }
         Ok(())
     }

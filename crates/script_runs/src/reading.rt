@@ -28,10 +28,7 @@ pub fn read_all<S: Source>(alloc: Global, source: &mut S) -> Result<Vec<u8>, Dri
     let mut bytes = Vec::new(alloc);
     for _ in 0..SCRIPT_LIMIT + 1 {
         let room = CHUNK.min(SCRIPT_LIMIT + 1 - bytes.len());
-        let count = match read_piece(source, &mut chunk[..room], &mut bytes) {
-            Ok(count) => count,
-            Err(fault) => return Err(fault),
-        };
+        let count = read_piece(source, &mut chunk[..room], &mut bytes)?;
         if count == 0 {
             return Ok(bytes);
         }

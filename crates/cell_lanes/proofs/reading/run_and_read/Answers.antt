@@ -5,6 +5,7 @@ use Rattle.cell_lanes.specs.Calls.{StandAs}
 use Rattle.cell_lanes.specs.Things.{root_of, fixed_of}
 use Rattle.cell_lanes.specs.Lanes.{AllFit, AtRest, Roots}
 use Rattle.cell_lanes.proofs.Jobs.{all_calls}
+use Rattle.cell_lanes.proofs.Lists.{of_some}
 use Rattle.cell_lanes.proofs.Played.{found_calls, found_rests, finished_made}
 use Rattle.cell_lanes.proofs.Resting.{rest_with}
 use Rattle.cell_lanes.proofs.Rows.{thing, roots_in, rests_in, roots_out, rests_out, grew_out, same_length}
@@ -19,7 +20,7 @@ pub run_lanes-requires-clause-fit : goal.run_lanes-requires-clause-fit
 run_lanes-requires-clause-fit g c κs within = subst (λ n. AllFit n c.args.lanes.now) (sym (length-map c.args.cells.now.items (thing root_of fixed_of))) c.requires.fit
 
 pub run_lanes-requires-clause-taken : goal.run_lanes-requires-clause-taken
-run_lanes-requires-clause-taken g c κs within = λ l a k x j s e f h i. tt
+run_lanes-requires-clause-taken g c κs within = λ l a k x e f. of_some x.slot _ (λ slot j s h i. tt)
 
 pub returns-in-Ok-clause-roots : goal.returns-in-Ok-clause-roots
 returns-in-Ok-clause-roots g c =

@@ -1,20 +1,16 @@
-use Rattle.std.proofs.Common.{rules, ◌<◌, ◌≡◌, ℕ, [], ◌∷◌, ◌++◌, set, length, refl, sym, ap, ◌∙◌, subst, arith, length-append}
+use Rattle.std.proofs.Common.{◌<◌, [], ◌∷◌, ◌++◌, set, length, refl, sym, ap, ◌∙◌, subst, arith, length-append}
 use Rattle.std.specs.Prelude.{slice_index_or}
-use mathlib.Core.Option.{some}
-use lib.ListN.{get_elem?}
 use Rattle.std.proofs.Math.ListN.{length-set}
 use Rattle.std.proofs.lemmas.List.{take_more}
 use Rattle.atomic_table.proofs.Lists.{set_here}
 use Rattle.legal_history.specs.declared.history.View.{View}
 use Rattle.legal_history.specs.History.{lender}
 use Rattle.legal_history.specs.Order.{times}
-use Rattle.legal_history.proofs.Steps.{one_at}
 use Rattle.cell_lanes.specs.declared.lane.Slot.{Slot}
 use Rattle.cell_lanes.specs.Things.{Thing, root_of, fixed_of}
 use Rattle.cell_lanes.specs.Lanes.{Owns, Stays, Each, Lends, SlotsFit, Fresh, cells_of}
 use Rattle.cell_lanes.proofs.Lists.{at_or, below_some}
 use Rattle.cell_lanes.proofs.Lending.{stays_none, stays_then, owned, cells_one, lends_more, roots_lent, fit_set, fit_one, fresh_one}
-use Rattle.cell_lanes.proofs.round.lend_lane.Given.{Over}
 use Rattle.cell_lanes.proofs.round.lend_lane.Goals as goal
 
 pub lend-requires-clause-here : goal.lend-requires-clause-here

@@ -1,6 +1,6 @@
-use Rattle.std.proofs.Common.{ℕ, List, inr, length, refl, sym, subst, ◌∙◌, ap}
-use Rattle.cell_lanes.specs.Things.{Thing, root_of, fixed_of}
-use Rattle.cell_lanes.specs.Lanes.{Stays, Each, Lends, Takes, Same, Grew, Roots, Home, AtRest, lent_on, all_given, done_of}
+use Rattle.std.proofs.Common.{ℕ, inr, length, refl, sym, subst, ◌∙◌, ap}
+use Rattle.cell_lanes.specs.Things.{root_of, fixed_of}
+use Rattle.cell_lanes.specs.Lanes.{Stays, Each, Lends, Takes, Same, Grew, Roots, AtRest, lent_on, all_given, done_of}
 use Rattle.cell_lanes.proofs.Lists.{each_same, each_then}
 use Rattle.cell_lanes.proofs.Lending.{stays_none, stays_then, roots_lent}
 use Rattle.cell_lanes.proofs.Returning.{roots_taken}

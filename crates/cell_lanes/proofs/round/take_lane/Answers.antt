@@ -1,4 +1,4 @@
-use Rattle.std.proofs.Common.{rules, ◌≡◌, ◌<◌, [], length, refl, sym, ap, ◌∙◌, subst}
+use Rattle.std.proofs.Common.{◌≡◌, [], length, refl, sym, ap, ◌∙◌, subst}
 use Rattle.std.proofs.Math.ListN.{length-set}
 use Rattle.cell_lanes.specs.Lanes.{Stays, Owns, Each, SlotsFit, given}
 use Rattle.cell_lanes.specs.Things.{root_of, fixed_of}

@@ -1,17 +1,12 @@
-use Rattle.std.proofs.Common.{◌≡◌, ℕ, ◌<◌, length}
-use mathlib.Core.Option.{some}
-use lib.ListN.{get_elem?}
-use Rattle.cell_lanes.specs.declared.lane.Lane.{Lane}
-use Rattle.cell_lanes.specs.Lanes.{AllFit, all_calls_on}
-use Rattle.metrics_core.specs.declared.calls.SeriesCall.{SeriesCall}
+use Rattle.std.proofs.Common.{◌≡◌, ℕ, take}
 use Rattle.prom_exporter.specs.LanePasses.{ids_of}
-use Rattle.script_runs.specs.LaneCalls.{AllAsked, calls_at}
+use Rattle.script_runs.specs.LaneCalls.{AreInPlace, AreReady, calls_at, gathered_asked, gathered_at, lane_asks}
 use Rattle.script_runs.proofs.lanes.lanes_of.Given as goal
 
-abbrev pub invariant-loop-lane : goal.invariant-loop-lane
-invariant-loop-lane l = record {
-  many : length l.lanes.items ≡ l.lane;
-  fit : AllFit (length (ids_of l.exporter)) l.lanes.items;
-  asked : (n : ℕ) (lane : Lane SeriesCall) → get_elem? l.lanes.items n ≡ some lane → AllAsked (ids_of l.exporter) lane.cells.items lane.lines.items;
-  calls : (j n : ℕ) → n < l.lane → all_calls_on j l.lanes.items n ≡ calls_at (ids_of l.exporter) l.handles n j l.calls;
+abbrev pub invariant-loop-line : goal.invariant-loop-line
+invariant-loop-line l = record {
+  ready : AreReady (ids_of l.exporter) l.gathered.items;
+  places : AreInPlace 0 l.gathered.items;
+  calls : (j n : ℕ) → gathered_at j l.gathered.items n ≡ calls_at (ids_of l.exporter) l.handles n j (take l.line-index l.calls);
+  lines : (n : ℕ) → gathered_asked l.gathered.items n ≡ lane_asks n (take l.line-index l.calls);
 }

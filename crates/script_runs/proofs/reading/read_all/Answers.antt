@@ -1,4 +1,8 @@
 use Rattle.std.proofs.Common.{rules, arith}
+use Rattle.script_runs.proofs.Returned.{if_handed_on}
+use Rattle.metrics_core.specs.Outside.{Rose}
+use Rattle.drive_script.specs.declared.faults.DriveFault.{DriveFault}
+use Rattle.script_runs.specs.Reading.{IsReadFault}
 use Rattle.script_runs.proofs.ReadingSteps.{nothing_read, read_more, read_whole, read_too_much, piece_fault}
 use Rattle.script_runs.proofs.reading.read_all.Goals as goal
 
@@ -15,20 +19,21 @@ pub loop-preserved : goal.loop-preserved
 loop-preserved g c = record {
   room = c.loop.invariant.room;
   within = omega arith;
-  turns = omega (arith, c.in-Ok-read_piece.ensures.grew);
-  never_falls = omega (arith, c.in-Ok-read_piece.ensures.never_falls);
-  so_far = read_more _ _ _ _ _ _ c.loop.invariant.so_far c.in-Ok-read_piece.ensures.taken;
+  turns = omega (arith, c.in_ok-count.ensures.grew);
+  never_falls = omega (arith, c.in_ok-count.ensures.never_falls);
+  so_far = read_more _ _ _ _ _ _ c.loop.invariant.so_far c.in_ok-count.ensures.taken;
 }
 
-pub returns-in-Err-read_piece-clause-refused : goal.returns-in-Err-read_piece-clause-refused
-returns-in-Err-read_piece-clause-refused g c =
-    piece_fault _ (g.S.Source.faults c.args.source.now) (g.S.Source.faults c.loop.source) (g.S.Source.faults c.read_piece.new.source) _
-    c.loop.invariant.never_falls c.in-Err-read_piece.ensures.refused
+pub returns-in_err-count-clause-refused : goal.returns-in_err-count-clause-refused
+returns-in_err-count-clause-refused g c =
+    let P : DriveFault → Type 0 = IsReadFault (g.S.Source.left c.args.source.now) (Rose (g.S.Source.faults c.args.source.now) (g.S.Source.faults c.read_piece.new.source)) in
+    if_handed_on c.from_residual.result _ P c.from_residual.ensures.1 (piece_fault _ (g.S.Source.faults c.args.source.now) (g.S.Source.faults c.loop.source) (g.S.Source.faults c.read_piece.new.source) _
+    c.loop.invariant.never_falls c.in_err-count.ensures.refused)
 
 pub returns-then-count-eq0-clause-whole : goal.returns-then-count-eq0-clause-whole
 returns-then-count-eq0-clause-whole g c =
-    read_whole _ _ _ _ _ _ c.if-count-eq0.true c.loop.invariant.so_far c.in-Ok-read_piece.ensures.taken
+    read_whole _ _ _ _ _ _ c.if-count-eq0.true c.loop.invariant.so_far c.in_ok-count.ensures.taken
 
 pub returns-then-len-gt-SCRIPT_LIMIT-clause-refused : goal.returns-then-len-gt-SCRIPT_LIMIT-clause-refused
 returns-then-len-gt-SCRIPT_LIMIT-clause-refused g c =
-    read_too_much _ _ _ (omega arith) (read_more _ _ _ _ _ _ c.loop.invariant.so_far c.in-Ok-read_piece.ensures.taken)
+    read_too_much _ _ _ (omega arith) (read_more _ _ _ _ _ _ c.loop.invariant.so_far c.in_ok-count.ensures.taken)

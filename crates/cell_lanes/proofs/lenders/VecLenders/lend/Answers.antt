@@ -1,14 +1,9 @@
-use Rattle.std.proofs.Common.{◌≡◌, ◌<◌, ℕ, List, length, map, set, refl, sym, ap, ◌∙◌, subst, arith, ⊎_elim, ◌≢◌}
-use mathlib.Core.Option.{some}
-use lib.ListN.{get_elem?}
-use Rattle.atomic_table.proofs.Lists.{at_index, at_map, at_set}
+use Rattle.std.proofs.Common.{◌≡◌, set, ap, ◌∙◌}
+use Rattle.atomic_table.proofs.Lists.{at_index, at_map}
 use Rattle.std.proofs.lemmas.Result.{IfOk-weaker, on_ok_weaker, on_err_weaker}
 use Rattle.std.proofs.lemmas.List.{map-set}
-use Rattle.legal_history.specs.declared.history.View.{View}
-use Rattle.legal_history.specs.History.{Settled, lender}
-use Rattle.cell_lanes.specs.Things.{Thing, TookBack}
-use Rattle.cell_lanes.proofs.Rows.{thing, things, below, thing_is, thing_at, set_same}
-use Rattle.cell_lanes.proofs.lenders.VecLenders.lend.Given.{Over}
+use Rattle.legal_history.specs.History.{lender}
+use Rattle.cell_lanes.proofs.Rows.{thing, things, below, thing_is, set_same}
 use Rattle.cell_lanes.proofs.lenders.VecLenders.lend.Goals as goal
 
 pub lend-requires : goal.lend-requires

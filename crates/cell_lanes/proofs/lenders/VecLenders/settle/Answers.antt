@@ -1,13 +1,10 @@
-use Rattle.std.proofs.Common.{◌≡◌, ◌<◌, ℕ, List, length, map, set, refl, sym, ap, ◌∙◌, subst, arith, ⊎_elim, ◌≢◌}
+use Rattle.std.proofs.Common.{◌≡◌, ◌<◌, length, refl, sym, ap, ◌∙◌, subst, arith}
 use mathlib.Core.Option.{some}
 use lib.ListN.{get_elem?}
-use Rattle.atomic_table.proofs.Lists.{at_index, at_map, at_set}
-use Rattle.std.proofs.lemmas.Result.{IfOk-weaker, on_ok_weaker, on_err_weaker}
-use Rattle.std.proofs.lemmas.List.{map-set}
-use Rattle.legal_history.specs.declared.history.View.{View}
-use Rattle.legal_history.specs.History.{Settled, lender}
-use Rattle.cell_lanes.specs.Things.{Thing, TookBack}
-use Rattle.cell_lanes.proofs.Rows.{thing, things, below, thing_is, thing_at, set_same}
+use Rattle.atomic_table.proofs.Lists.{at_index, at_map}
+use Rattle.legal_history.specs.History.{Settled}
+use Rattle.cell_lanes.specs.Things.{Thing}
+use Rattle.cell_lanes.proofs.Rows.{thing, things, thing_is, set_same}
 use Rattle.std.proofs.lemmas.List.{length-map}
 use Rattle.legal_history.proofs.Steps.{some_below}
 use mathlib.Core.Logic.{dite}

@@ -1,11 +1,11 @@
 use Rattle.std.proofs.Common.{◌≡◌, ℕ, List, length, sym, subst}
 use Rattle.cell_lanes.specs.declared.lane.Lane.{Lane}
 use Rattle.cell_lanes.specs.Things.{fixed_of, root_of}
-use Rattle.cell_lanes.specs.Lanes.{AllDone, AllFit, AllTaken, Each, Grew, all_calls_on}
+use Rattle.cell_lanes.specs.Lanes.{AllDone, AllFit, AllTaken, Each, Grew}
 use Rattle.metrics_core.specs.declared.calls.SeriesCall.{SeriesCall}
 use Rattle.metrics_core.specs.declared.kinds.SeriesId.{SeriesId}
 use Rattle.prom_exporter.specs.LanePasses.{StandsAsItself, TakesCall, ids_of, things_of}
-use Rattle.script_runs.specs.LaneCalls.{calls_at}
+use Rattle.script_runs.specs.LaneCalls.{calls_at, numbered_at}
 use Rattle.script_runs.proofs.AfterLanes.{round_made}
 use Rattle.script_runs.proofs.RestingSteps.{all_taken, many_things, rest_after, rest_roots, rest_settled, when_ok}
 use Rattle.script_runs.proofs.play.Player.make_calls.Goals as goal
@@ -34,6 +34,6 @@ returns-clause-called g c =
     let lanes = c.in_ok-lanes.lanes.items in
     let grew = c.run_lanes.ensures.grew in
     let each = subst (λ (ls : List (Lane SeriesCall)). Each (Grew root_of StandsAsItself ls grew.0) (things_of e) (things_of f)) c.deref-2.ensures.value grew.2 in
-    let same = subst (λ (hs : List SeriesId). (j l : ℕ) → all_calls_on j lanes l ≡ calls_at (ids_of e) hs l j c.args.calls.now) c.deref.ensures.value c.in_ok-lanes.ensures.calls in
+    let same = subst (λ (hs : List SeriesId). (j l : ℕ) → numbered_at j lanes l ≡ calls_at (ids_of e) hs l j c.args.calls.now) c.deref.ensures.value c.in_ok-lanes.ensures.calls in
     when_ok c.run_lanes.result grew.1
-    (λ done. round_made e f c.args.self.now.handles.items c.args.calls.now lanes grew.0 c.requires.rest c.run_lanes.ensures.frame (subst (λ (ls : List (Lane SeriesCall)). AllDone ls grew.0) c.deref-2.ensures.value done) each same)
+    (λ done. round_made e f c.args.self.now.handles.items c.args.calls.now lanes grew.0 c.requires.rest c.run_lanes.ensures.frame (subst (λ (ls : List (Lane SeriesCall)). AllDone ls grew.0) c.deref-2.ensures.value done) each c.in_ok-lanes.ensures.numbers same)
