@@ -6,4 +6,5 @@ pub mod Seen
 pub mod Home
 pub mod LaneThings
 pub mod CallKinds
+pub mod KeptRows
 pub mod ValuePages
