@@ -19,12 +19,12 @@ use Rattle.prom_exporter.proofs.LaneThings.{counter_frame, gauge_frame, things_i
 use Rattle.prom_exporter.proofs.state.PrometheusState.take_from_lane.Goals as goal
 
 pub take_from_lane-requires-clause-lent : goal.take_from_lane-requires-clause-lent
-take_from_lane-requires-clause-lent c =
+take_from_lane-requires-clause-lent c κs =
     let at = counter_here c.self.inside.series c.args.index c.counter_at.result.now c.counter_at.ensures.value in
     subst (IsPassOf (cells.Counter c.counter_at.result.now.cell)) c.in-Counter.is (c.requires.lent (of_counter c.counter_at.result.now) (subst (λ e. get_elem? (things_of e) c.args.index ≡ some (of_counter c.counter_at.result.now)) c.self.view_is at))
 
 pub take_from_lane-requires-then-index-counters-2-clause-lent : goal.take_from_lane-requires-then-index-counters-2-clause-lent
-take_from_lane-requires-then-index-counters-2-clause-lent c =
+take_from_lane-requires-then-index-counters-2-clause-lent c κs =
     let series = c.self.inside.series in
     let cell = c.gauge_at.result.now in
     let least : length series.counters ≤ c.args.index = subst (λ n. n ≤ c.args.index) c.counter_count-counters.ensures.count c.if-index-counters-2.true in
