@@ -1,7 +1,7 @@
 -- A list in groups by name, and what one more member changes.
 use Rattle.std.proofs.Common.{◌≡◌, ℕ, Bool, true, false, cond, not, ◌||◌, List, [], ◌∷◌, ◌++◌, map, filter, refl, sym, ap, ◌∙◌, append-nil}
 use Rattle.std.proofs.lemmas.Option.{same_Some}
-use Rattle.std.specs.Prelude.{Some, String, string_bytes, unwrap_or, bytes_eq, if◌then◌else◌}
+use Rattle.std.specs.Prelude.{Option, Some, None, String, string_bytes, unwrap_or, bytes_eq, if◌then◌else◌}
 use Rattle.std.specs.String.{string_eq}
 use Rattle.std.specs.Map.{lookup}
 use Rattle.indexmap.specs.IndexMap.{insert_entry}
@@ -188,6 +188,12 @@ module _ {Y V X : Type 0} (view : V → List X) (name : String Y) (group empty :
       → map shown (insert_entry string_eq es name group) ≡ map shown es
   entries-same [] v found same = cc
   entries-same (e ∷ es) v found same = same_step e es v (bytes_eq (string_bytes name) (string_bytes e.0)) refl found same (λ f. entries-same es v f same)
+
+  -- the same of a name whose group is looked up
+  pub entries-refused : (es : List (String Y × V)) (found : Option V) → lookup (string_eq name) es ≡ found → view group ≡ view (unwrap_or found empty) → (found ≡ None → ⊥)
+      → map shown (insert_entry string_eq es name group) ≡ map shown es
+  entries-refused es None is same new = absurd (new refl)
+  entries-refused es (Some v) is same new = entries-same es v is same
 
 -- the same of entries that are given by an equation
 pub shown_entries : {K V X : Type 0} (view : K × V → X) (es fs : List (K × V)) (xs : List X) → es ≡ fs → map view fs ≡ xs → map view es ≡ xs

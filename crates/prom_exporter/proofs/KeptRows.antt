@@ -10,7 +10,8 @@ use Rattle.metrics_core.specs.declared.kinds.SeriesId.{SeriesId}
 use Rattle.metrics_registry.specs.Live.{LiveSeries, has_id, with_cell}
 use Rattle.metrics_registry.specs.Places.{with_cell_at}
 use Rattle.prom_format.specs.Names.{sanitized_metric_name}
-use Rattle.prom_format.specs.Pages.{row_text, block_text, body_text}
+use Rattle.metrics_core.specs.Characters.{line}
+use Rattle.prom_format.specs.Pages.{row_text, block_text, body_text, type_line_text}
 use Rattle.prom_format.specs.declared.families.FamilyType.{FamilyType}
 use Rattle.prom_exporter.specs.Exporter.{SeriesLooks}
 use Rattle.prom_exporter.specs.Families.{distinct}
@@ -166,11 +167,7 @@ module _ {X : Type 0} where
     blocks-named [] = refl
     blocks-named (n ∷ ns) =
         let rows = rows-named n 0 live (λ j. ap (slice_get live) (zero-add j)) in
-        let block = (λ i. block_of n (rows i)) in
-        (λ j. block j ++ blocks-named ns j)
-      where
-        block_of : List ℕ → List ℕ → List ℕ
-        block_of n rows = Rattle.prom_format.specs.Pages.type_line_text n type ++ rows ++ Rattle.metrics_core.specs.Characters.line []
+        (λ j. (type_line_text n type ++ rows j ++ line []) ++ blocks-named ns j)
 
     -- the blocks are those of the families of the series
     pub blocks-kept : flat_map (kept_block shown type heads live) (rows_of globals (keys_of live)).families ≡ body_text (value_families type shown globals live)

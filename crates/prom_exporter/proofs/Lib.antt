@@ -7,4 +7,5 @@ pub mod Home
 pub mod LaneThings
 pub mod CallKinds
 pub mod KeptRows
+mod Written
 pub mod ValuePages

@@ -53,7 +53,7 @@ module _ {X : Type 0} (shown : X → ℤ) where
   kept_row head cell = line (head ++ codes " " ++ page_number (shown cell))
 
   -- the row of the series at a place, if there is one
-  abbrev row_if : Option (List ℕ) → Option (LiveSeries X) → List ℕ
+  abbrev pub row_if : Option (List ℕ) → Option (LiveSeries X) → List ℕ
   row_if (Some head) (Some series) = kept_row head series.cell
   row_if (Some head) None = []
   row_if None series = []
