@@ -13,7 +13,8 @@ use Rattle.prom_format.specs.Names.{sanitized_metric_name}
 use Rattle.metrics_core.specs.Characters.{line}
 use Rattle.prom_format.specs.Pages.{row_text, block_text, body_text, type_line_text}
 use Rattle.prom_format.specs.declared.families.FamilyType.{FamilyType}
-use Rattle.prom_exporter.specs.Exporter.{SeriesLooks}
+use Rattle.prom_exporter.specs.Exporter.{Cells, SeriesLooks}
+use Rattle.prom_exporter.specs.Kept.{IsKept}
 use Rattle.prom_exporter.specs.Families.{distinct}
 use Rattle.prom_exporter.specs.Shared.{Shared}
 use Rattle.prom_exporter.specs.Rows.{RowsText, head_of, name_at, places_of, rows_of, keys_of, row_at, kept_block}
@@ -71,6 +72,13 @@ keys-looks [] [] looks = refl
 keys-looks [] (t ∷ new) looks = absurd looks
 keys-looks (s ∷ old) [] looks = absurd looks
 keys-looks (s ∷ old) (t ∷ new) looks = (λ j. looks.0.1 j ∷ keys-looks old new looks.1 j)
+
+-- what is kept fits as long as the keys stay
+pub kept_same : (globals : List LabelText) (old new : Cells) (counters gauges : RowsText) → IsKept globals old counters gauges → keys_of new.counters ≡ keys_of old.counters → keys_of new.gauges ≡ keys_of old.gauges → IsKept globals new counters gauges
+kept_same globals old new counters gauges kept same also = record {
+  counters = kept.counters ∙ ap (rows_of globals) (sym same);
+  gauges = kept.gauges ∙ ap (rows_of globals) (sym also);
+}
 
 -- ---- groups of things that stand for others
 
