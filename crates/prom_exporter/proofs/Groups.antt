@@ -10,9 +10,6 @@ use Rattle.std.specs.Cmp.Lexicographic.{nat_list_eq_equiv}
 use Rattle.std.proofs.lemmas.Bool.{true≢false, or_parts}
 use Rattle.std.proofs.lemmas.List.{map-append}
 use Rattle.std.proofs.lemmas.List.Elements.{filter-append}
-use Rattle.std.specs.Borrow.{Bor}
-use Rattle.metrics_core.specs.declared.kinds.SeriesId.{SeriesId}
-use Rattle.metrics_core.specs.Keys.{KeyText}
 use Rattle.prom_exporter.specs.Families.{distinct}
 use Rattle.prom_exporter.specs.Values.{named, grouped, with_member}
 

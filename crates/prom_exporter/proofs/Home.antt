@@ -1,20 +1,16 @@
 -- Cells of which no pass is out: what the exporter sees of them is the whole history.
-use Rattle.std.proofs.Common.{◌≡◌, ℕ, Bool, true, false, cond, List, [], ◌∷◌, ◌++◌, map, Option, None, Some, refl, sym, ap, subst, ◌∙◌, inl, inr, arith}
-use Rattle.std.specs.Prelude.{All, find, option_map}
+use Rattle.std.proofs.Common.{◌≡◌, List, [], ◌∷◌, ◌++◌, refl, sym, ap, subst, ◌∙◌, inl, inr, arith}
+use Rattle.std.specs.Prelude.{All}
 use Rattle.std.specs.List.{AllZip}
-use Rattle.std.proofs.lemmas.List.{map-append}
 use Rattle.std.proofs.lemmas.List.Elements.{All-head, All-tail, All-cons, All-append}
-use Rattle.std.proofs.lemmas.Option.{same_Some}
 use Rattle.legal_history.specs.declared.history.View.{View}
-use Rattle.legal_history.specs.declared.history.Entry.{Entry}
 use mathlib.Core.List.{IsPrefix}
 use Rattle.legal_history.specs.declared.history.Held.{Held}
-use Rattle.legal_history.specs.History.{calls, calls_by, held, longer, looked, after, said, Among, Sees}
+use Rattle.legal_history.specs.History.{calls_by, held, longer, looked, after, Among}
 use Rattle.legal_history.proofs.Prefixes.{prefix_trans}
-use Rattle.legal_history.proofs.Lists.{calls-append}
 use Rattle.metrics_core.specs.Keys.{KeyText}
 use Rattle.metrics_core.specs.declared.kinds.SeriesId.{SeriesId}
-use Rattle.metrics_registry.specs.Live.{LiveSeries, has_id, cell_of, with_cell}
+use Rattle.metrics_registry.specs.Live.{LiveSeries}
 use Rattle.metrics_core.specs.declared.calls.SeriesCall.{SeriesCall}
 use Rattle.prom_exporter.specs.Shared.{Shared, IsHome, unused, Looks, TakesBack}
 use Rattle.metrics_core.specs.declared.kinds.MetricKind.TheVariants.{Counter, Gauge}

@@ -1,6 +1,6 @@
 -- What is kept for rows: one more series, what leaves it as it is, and the text that it makes.
-use Rattle.std.proofs.Common.{◌≡◌, ℕ, zero, suc, ◌+◌, Bool, true, false, cond, List, [], ◌∷◌, ◌++◌, map, length, Option, None, Some, refl, sym, ap, ◌∙◌, arith, add-zero, zero-add}
-use Rattle.std.specs.Prelude.{slice_get, option_map, flat_map, ℤ, bytes_eq, if◌then◌else◌}
+use Rattle.std.proofs.Common.{◌≡◌, ℕ, zero, suc, ◌+◌, Bool, true, false, cond, List, [], ◌∷◌, ◌++◌, map, length, Some, refl, sym, ap, ◌∙◌, arith, add-zero, zero-add}
+use Rattle.std.specs.Prelude.{slice_get, option_map, flat_map, ℤ, bytes_eq}
 use Rattle.std.specs.List.{AllZip, enumerate_from}
 use Rattle.std.proofs.lemmas.List.{map-append}
 use Rattle.std.proofs.lemmas.Option.{slice_get-map}
@@ -11,7 +11,7 @@ use Rattle.metrics_registry.specs.Live.{LiveSeries, has_id, with_cell}
 use Rattle.metrics_registry.specs.Places.{with_cell_at}
 use Rattle.prom_format.specs.Names.{sanitized_metric_name}
 use Rattle.metrics_core.specs.Characters.{line}
-use Rattle.prom_format.specs.Pages.{row_text, block_text, body_text, type_line_text}
+use Rattle.prom_format.specs.Pages.{row_text, body_text, type_line_text}
 use Rattle.prom_format.specs.declared.families.FamilyType.{FamilyType}
 use Rattle.prom_exporter.specs.Exporter.{Cells, SeriesLooks}
 use Rattle.prom_exporter.specs.Kept.{IsKept}

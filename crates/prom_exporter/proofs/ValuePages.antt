@@ -1,30 +1,21 @@
 -- The page of a state of counters and gauges: its families are the groups of its series.
-use Rattle.std.proofs.Common.{◌≡◌, ℕ, Bool, true, false, List, [], ◌∷◌, ◌++◌, map, filter, filter_map, None, refl, sym, ap, ◌∙◌, append-nil, append_assoc}
-use Rattle.std.specs.Prelude.{Option, Some, codes, bytes_eq, decimal, flat_map, ℤ}
-use Rattle.std.specs.Iterator.{Yields}
-use Rattle.std.specs.Map.Iter.{TakesFirst}
+use Rattle.std.proofs.Common.{◌≡◌, ℕ, Bool, true, false, List, [], ◌∷◌, ◌++◌, map, filter, None, refl, ap, ◌∙◌, append-nil}
+use Rattle.std.specs.Prelude.{bytes_eq, flat_map, ℤ}
 use Rattle.std.proofs.lemmas.Grind.{flat_map-append}
-use Rattle.std.proofs.lemmas.List.{map-append}
-use Rattle.std.proofs.lemmas.Map.Iter.{rest_so_far, rest_more}
 use Rattle.std.proofs.lemmas.Slice.Eq.{bytes_eq-Decides}
-use Rattle.metrics_core.specs.Characters.{line}
-use Rattle.metrics_core.specs.Numbers.{page_number}
-use Rattle.metrics_core.specs.declared.kinds.MetricKind.{MetricKind}
-use Rattle.metrics_core.specs.declared.kinds.MetricKind.TheVariants as kinds
-use Rattle.metrics_core.specs.Keys.{KeyText, LabelText, label_set}
+use Rattle.metrics_core.specs.Keys.{LabelText}
 use Rattle.metrics_registry.specs.Live.{LiveSeries, RegistryText}
-use Rattle.prom_format.proofs.PageText.{label_set_braced}
 use Rattle.prom_format.specs.Names.{sanitized_metric_name}
-use Rattle.prom_format.specs.Pages.{Row, Family, label_set_text, row_text, body_text, block_text}
-use Rattle.prom_format.specs.Lines.{shown_label_set, metric_line}
+use Rattle.prom_format.specs.Pages.{Row, body_text, block_text}
+use Rattle.prom_format.specs.Lines.{shown_label_set}
 use Rattle.prom_format.specs.declared.families.FamilyType.{FamilyType}
 use Rattle.prom_format.specs.declared.families.FamilyType.TheVariants as types
-use Rattle.prom_exporter.specs.State.{Series, PrometheusState, live}
+use Rattle.prom_exporter.specs.State.{Series}
 use Rattle.prom_exporter.specs.Families.{distinct, names_of_kind, counter_rows, gauge_rows, family_of}
 use Rattle.prom_exporter.specs.Families as pages
 use Rattle.prom_exporter.specs.Exporter.{settings_with, body_shown}
 use Rattle.prom_exporter.specs.Shared.{Shared}
-use Rattle.prom_exporter.specs.Values.{series_of, seen_series, seen_registry, state_seen, counter_shown, gauge_shown, named, grouped, member_of, metric_name, value_row, value_family, value_families}
+use Rattle.prom_exporter.specs.Values.{series_of, seen_series, seen_registry, state_seen, counter_shown, gauge_shown, named, member_of, metric_name, value_row, value_family, value_families}
 use Rattle.prom_exporter.proofs.States.{page_step-same}
 
 abbrev metric : Series → List ℕ

@@ -1,5 +1,5 @@
 -- What was written so far of rows and of blocks, and what is left.
-use Rattle.std.proofs.Common.{◌≡◌, ℕ, suc, ◌+◌, ◌<◌, List, [], ◌∷◌, ◌++◌, map, take, drop, get_or, length, refl, sym, ap, subst, ◌∙◌, append-nil, append_assoc}
+use Rattle.std.proofs.Common.{◌≡◌, ℕ, ◌+◌, ◌<◌, List, [], ◌∷◌, ◌++◌, map, take, drop, get_or, length, sym, ap, subst, ◌∙◌, append-nil, append_assoc}
 use Rattle.std.specs.Prelude.{Option, Some, flat_map, string_bytes, slice_get, option_map, ℤ, nat_lt}
 use Rattle.std.proofs.Common.{None, true, arith}
 use Rattle.std.specs.Iterator.{Yields}

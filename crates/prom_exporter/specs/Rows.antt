@@ -1,5 +1,5 @@
 -- What is kept of series for the rows of pages: of each the text that its rows begin with, and the places of the series of each family.
-use Rattle.std.specs.Prelude.{◌≡◌, ℕ, List, [], ◌∷◌, ◌++◌, map, flat_map, slice_get, ℤ, Option, Some, None, codes, string_bytes}
+use Rattle.std.specs.Prelude.{ℕ, List, [], ◌++◌, map, flat_map, slice_get, ℤ, Option, Some, None, codes, string_bytes}
 use Rattle.std.specs.List.{enumerate_from}
 use Rattle.std.specs.declared.string.String.{String}
 use Rattle.std.specs.declared.vec.Vec.{Vec}

@@ -28,10 +28,10 @@ pub(crate) fn write_families<C: Shown, K: Sink>(
 ) -> Result<(), BuildError>
     ensures sent { (start : Option (List ℕ)) (bytes : List ℕ) → IsSent start (K.written sink.old) (string_bytes buffer.old) bytes
         → OnOk result (IsSent start (K.written sink.new) (string_bytes buffer.new)
-            (bytes ++ flat_map (kept_block C.shown family_type rows.now.heads series.now) rows.now.families)) }
+        (bytes ++ flat_map (kept_block C.shown family_type rows.now.heads series.now) rows.now.families)) }
     ensures prefix { (start : Option (List ℕ)) (bytes : List ℕ) → IsSent start (K.written sink.old) (string_bytes buffer.old) bytes
         → OnErr result (GrewByPrefix start (K.written sink.new)
-            (bytes ++ flat_map (kept_block C.shown family_type rows.now.heads series.now) rows.now.families)) }
+        (bytes ++ flat_map (kept_block C.shown family_type rows.now.heads series.now) rows.now.families)) }
     ensures cause { result ≡ Err BuildError.WriteFault → Rose (K.faults sink.old) (K.faults sink.new) }
     ensures never_falls { K.faults sink.old ≤ K.faults sink.new }
 {

@@ -304,9 +304,21 @@ impl PrometheusState {
         self.read();
         let mut buffer = String::new(alloc);
         let counters = self.series.counters();
-        write_families(FamilyType::Counter, &self.counter_rows, &counters, &mut buffer, sink)?;
+        write_families(
+            FamilyType::Counter,
+            &self.counter_rows,
+            &counters,
+            &mut buffer,
+            sink,
+        )?;
         let gauges = self.series.gauges();
-        write_families(FamilyType::Gauge, &self.gauge_rows, &gauges, &mut buffer, sink)?;
+        write_families(
+            FamilyType::Gauge,
+            &self.gauge_rows,
+            &gauges,
+            &mut buffer,
+            sink,
+        )?;
         write_whole(sink, buffer.as_bytes())?;
         Ok(())
     }

@@ -3,7 +3,7 @@ use Rattle.std.proofs.Common.{length, get_or}
 use Rattle.std.specs.Prelude.{slice_get, string_bytes, nat_lt}
 use Rattle.std.specs.Char.{encode_utf8}
 use Rattle.metrics_core.specs.Numbers.{page_number}
-use Rattle.prom_exporter.specs.Rows.{RowsText, row_at}
+use Rattle.prom_exporter.specs.Rows.{RowsText}
 use Rattle.prom_exporter.proofs.Written.{head_found, row_at-found, row_pushed}
 use Rattle.prom_exporter.proofs.pages.push_row.Goals as goal
 

@@ -1,4 +1,4 @@
-use Rattle.std.proofs.Common.{◌≡◌, sym, ap, subst, ◌∙◌, append-nil}
+use Rattle.std.proofs.Common.{subst, append-nil}
 use Rattle.std.specs.Prelude.{[]}
 use Rattle.std.proofs.lemmas.Result.{err_from_is_err_and}
 use Rattle.prom_exporter.proofs.Progress.{sent-again, sent_prefix}

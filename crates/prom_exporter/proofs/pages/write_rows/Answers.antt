@@ -1,4 +1,4 @@
-use Rattle.std.proofs.Common.{◌≡◌, ◌+◌, ◌++◌, ℕ, List, take, drop, get_or, sym, ap, subst, ◌∙◌, arith, append-nil}
+use Rattle.std.proofs.Common.{◌+◌, ◌++◌, ℕ, List, take, get_or, arith}
 use Rattle.std.specs.Prelude.{Option, flat_map, string_bytes}
 use Rattle.std.proofs.lemmas.Result.{err_from_is_err_and}
 use Rattle.prom_exporter.specs.Rows.{row_at}

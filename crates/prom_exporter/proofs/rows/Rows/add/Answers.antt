@@ -1,10 +1,9 @@
-use Rattle.std.proofs.Common.{rules, ◌≡◌, List, [], ◌∷◌, ◌++◌, map, length, refl, sym, ap, ◌∙◌, arith}
+use Rattle.std.proofs.Common.{◌≡◌, [], ◌∷◌, ◌++◌, map, length, sym, ap, ◌∙◌}
 use Rattle.std.specs.Prelude.{string_bytes}
-use Rattle.std.specs.List.{enumerate_from}
 use Rattle.std.proofs.lemmas.List.{map-append, length-map}
 use Rattle.prom_format.specs.LabelSets.{labels_of}
 use Rattle.prom_format.specs.Names.{sanitized_metric_name}
-use Rattle.prom_exporter.specs.Rows.{RowsText, head_of, family_kept, rows_of}
+use Rattle.prom_exporter.specs.Rows.{RowsText, head_of}
 use Rattle.prom_exporter.specs.Values.{with_member}
 use Rattle.prom_exporter.proofs.KeptRows.{rows-push}
 use Rattle.prom_exporter.proofs.rows.Rows.add.Goals as goal

@@ -1,4 +1,4 @@
-use Rattle.std.proofs.Common.{◌≡◌, List, ◌+◌, ◌-◌, ◌^◌, ◌<◌, ◌≤◌, [], ◌∷◌, ◌++◌, None, Some, map, refl, sym, ap, subst, ◌∙◌, inl, inr, arith, true, false}
+use Rattle.std.proofs.Common.{refl, sym, ap, ◌∙◌, inr}
 use Rattle.prom_format.specs.LabelSets.{labels_of}
 use Rattle.prom_exporter.specs.Rows.{rows_of}
 use Rattle.prom_exporter.proofs.KeptRows.{keys-with_cell}

@@ -1,9 +1,8 @@
-use Rattle.std.proofs.Common.{◌≡◌, List, ◌+◌, ◌-◌, ◌^◌, ◌<◌, ◌≤◌, [], ◌∷◌, ◌++◌, None, Some, map, refl, sym, ap, subst, ◌∙◌, inl, inr, arith, true, false}
+use Rattle.std.proofs.Common.{Some, refl, sym, ap, ◌∙◌}
 use Rattle.std.proofs.lemmas.Result.{err_from_is_err_and}
-use Rattle.metrics_core.specs.Keys.{LabelText}
 use Rattle.prom_format.specs.LabelSets.{labels_of}
 use Rattle.metrics_registry.specs.Live.{with_cell}
-use Rattle.prom_exporter.specs.Exporter.{Exporter, Cells, settings_with}
+use Rattle.prom_exporter.specs.Exporter.{settings_with}
 use Rattle.prom_exporter.proofs.States.{kept}
 use Rattle.prom_exporter.proofs.Seen.{of_counters}
 use Rattle.prom_exporter.specs.Rows.{rows_of}

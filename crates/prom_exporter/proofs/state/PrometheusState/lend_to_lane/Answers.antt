@@ -1,9 +1,6 @@
-use Rattle.std.proofs.Common.{◌≡◌, ◌+◌, ◌-◌, ◌<◌, ◌≤◌, length, set, refl, sym, ap, subst, ◌∙◌, arith}
+use Rattle.std.proofs.Common.{◌≡◌, ◌-◌, ◌≤◌, length, set, refl, ap, subst, ◌∙◌, arith}
 use Rattle.std.proofs.lemmas.Result.{err_from_is_err_and}
-use Rattle.legal_history.specs.History.{lender}
-use Rattle.cell_lanes.specs.Things.{Thing}
-use Rattle.prom_exporter.specs.Exporter.{Cells}
-use Rattle.prom_exporter.specs.Shared.{Shared, with_one_out}
+use Rattle.prom_exporter.specs.Shared.{Shared}
 use Rattle.series_cells.specs.declared.counter.PromCounter.{PromCounter}
 use Rattle.series_cells.specs.declared.gauge.PromGauge.{PromGauge}
 use Rattle.prom_exporter.specs.contracts.state.PrometheusState.{the_view}

@@ -1,4 +1,4 @@
-use Rattle.std.proofs.Common.{◌≡◌, sym, ap, subst, ◌∙◌, refl, List}
+use Rattle.std.proofs.Common.{sym, ap, subst, ◌∙◌, refl}
 use Rattle.std.specs.List.{AllZip}
 use Rattle.prom_exporter.specs.Exporter.{SeriesLooks, Cells}
 use Rattle.prom_exporter.specs.Rows.{keys_of}

@@ -1,17 +1,15 @@
-use Rattle.std.proofs.Common.{◌≡◌, List, ◌+◌, ◌-◌, ◌^◌, ◌<◌, ◌≤◌, [], ◌∷◌, ◌++◌, None, Some, map, refl, sym, ap, subst, ◌∙◌, inl, inr, arith, true, false}
+use Rattle.std.proofs.Common.{◌≡◌, ◌+◌, [], ◌∷◌, ◌++◌, map, sym, ap, ◌∙◌, inr}
 use Rattle.std.proofs.lemmas.List.{map_push}
-use Rattle.metrics_core.specs.Keys.{LabelText}
 use Rattle.metrics_core.specs.declared.kinds.MetricKind.TheVariants.{Gauge}
 use Rattle.prom_format.specs.LabelSets.{labels_of}
 use Rattle.metrics_registry.specs.Live.{LiveSeries, with_last}
 use Rattle.series_cells.specs.declared.gauge.PromGauge.{PromGauge}
 use Rattle.prom_exporter.specs.Shared.{Shared, unused}
-use Rattle.prom_exporter.specs.Exporter.{Exporter, Cells, settings_with, AddsGauge}
-use Rattle.prom_exporter.specs.contracts.state.PrometheusState.{the_view}
+use Rattle.prom_exporter.specs.Exporter.{Cells, settings_with}
 use Rattle.prom_exporter.proofs.Home.{adds_gauge-home, gauge_added}
-use Rattle.prom_exporter.specs.Values.{series_of, seen_series, seen_registry, state_of, state_seen}
+use Rattle.prom_exporter.specs.Values.{series_of, seen_series, seen_registry, state_seen}
 use Rattle.prom_exporter.proofs.Seen.{id_of_key-seen, is_numbered-seen}
-use Rattle.prom_exporter.proofs.States.{new_series, register-live, id-live, number-new, register-full, register-new}
+use Rattle.prom_exporter.proofs.States.{register-live, id-live, number-new, register-new}
 use Rattle.prom_exporter.proofs.state.PrometheusState.register_gauge.Goals as goal
 
 pub returns-in-Some-clause-registered : goal.returns-in-Some-clause-registered

@@ -2,7 +2,7 @@ use Rattle.std.proofs.Common.{◌≡◌, ℕ, List, [], ◌++◌, refl, sym, ap,
 use Rattle.std.specs.Prelude.{flat_map, Option}
 use Rattle.std.proofs.lemmas.Result.{err_from_is_err_and}
 use Rattle.metrics_core.specs.Keys.{LabelText}
-use Rattle.metrics_core.specs.Outside.{GrewBy, GrewByPrefix}
+use Rattle.metrics_core.specs.Outside.{GrewByPrefix}
 use Rattle.prom_format.specs.LabelSets.{labels_of}
 use Rattle.prom_format.specs.Pages.{body_text}
 use Rattle.metrics_registry.specs.Live.{LiveSeries}
@@ -21,7 +21,6 @@ use Rattle.prom_exporter.proofs.Progress.{sent_none, sent_all, sent_prefix}
 use Rattle.prom_exporter.proofs.States.{page_step-same}
 use Rattle.prom_exporter.proofs.ValuePages.{page_body-values}
 use Rattle.prom_exporter.proofs.Written.{prefix_of_more}
-use Rattle.prom_exporter.proofs.state.PrometheusState.render_to_write.Given.{Over}
 use Rattle.prom_exporter.proofs.state.PrometheusState.render_to_write.Goals as goal
 
 -- no timeout is set, and nothing was described

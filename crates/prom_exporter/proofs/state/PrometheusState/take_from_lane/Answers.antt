@@ -2,15 +2,9 @@ use Rattle.std.proofs.Common.{◌≡◌, ◌-◌, ◌≤◌, ◌<◌, length, re
 use Rattle.std.specs.Prelude.{option_map, slice_get, Some}
 use mathlib.Core.Option.{some}
 use lib.ListN.{get_elem?}
-use Rattle.cell_lanes.specs.Things.{Thing}
 use Rattle.metrics_registry.specs.Live.{LiveSeries}
 use Rattle.metrics_registry.specs.Places.{with_cell_at}
-use Rattle.series_cells.specs.declared.counter.PromCounter.{PromCounter}
 use Rattle.series_cells.specs.declared.gauge.PromGauge.{PromGauge}
-use Rattle.metrics_core.specs.declared.calls.SeriesCall.{SeriesCall}
-use Rattle.prom_exporter.specs.declared.lanes.LanePass.{LanePass}
-use Rattle.prom_exporter.specs.declared.lanes.LanePass.TheVariants as passes
-use Rattle.prom_exporter.specs.declared.lanes.SeriesCell.{SeriesCell}
 use Rattle.prom_exporter.specs.declared.lanes.SeriesCell.TheVariants as cells
 use Rattle.prom_exporter.specs.Shared.{Shared}
 use Rattle.prom_exporter.specs.LanePasses.{IsPassOf, things_of}
