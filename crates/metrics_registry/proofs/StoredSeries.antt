@@ -2,7 +2,9 @@
 use Rattle.std.proofs.Common.{◌≡◌, ℕ, zero, suc, ◌+◌, ◌<◌, ◌≤◌, Bool, true, false, cond, not, List, [], ◌∷◌, ◌++◌, length, get_or, Option, None, Some, refl, sym, ap, subst, ◌∙◌, arith}
 use Rattle.std.specs.Prelude.{find, is_some, slice_get, slice_set, remove, option_map, position, nat_lt, Ok, Err}
 use Rattle.std.specs.List.{list_any, position_or_len, All}
-use Rattle.std.proofs.Common.{length-append}
+use Rattle.std.proofs.Common.{length-append, ◌-◌, take, length-take}
+use Rattle.std.specs.Prelude.{min}
+use Rattle.std.proofs.Math.Seq.{take-append_seam}
 use Rattle.std.proofs.Math.ListN.{length-set}
 use Rattle.std.specs.List.Sorted.{IsBinarySearchResult}
 use Rattle.std.specs.Ordering.{nat_cmp, ordering_index}
@@ -20,7 +22,7 @@ use Rattle.metrics_core.specs.declared.kinds.MetricKind.TheVariants.{Counter, Ga
 use Rattle.metrics_core.specs.Kinds.{kind_eq}
 use Rattle.metrics_core.specs.declared.kinds.SeriesId.{SeriesId}
 use Rattle.metrics_core.specs.Keys.{KeyText, key_eq}
-use Rattle.metrics_registry.specs.Live.{LiveSeries, has_id, has_key, id_eq, id_of_key, is_live, Rises}
+use Rattle.metrics_registry.specs.Live.{LiveSeries, has_id, has_key, id_eq, id_of_key, is_live, IsBelowAll, Rises}
 use Rattle.metrics_registry.specs.Places.{with_cell_at, IsPlace}
 use Rattle.metrics_registry.specs.Stored.{live_of, AreStored}
 use Rattle.metrics_registry.specs.declared.columns.Series.{Series}
@@ -248,3 +250,66 @@ module _ {X : Type 0} where
     beside = omega (arith, stored.beside, length-append ks (k ∷ []), length-append ss (s ∷ []));
     rises = subst Rises (sym (live_of-push ks ss k s stored.beside)) (rises-push (live_of ks ss) (record { id = s.id; key = k; cell = s.cell }) stored.rises above);
   }
+
+  -- ---- the series but the last
+
+  pub live_of-take : (ks : List KeyText) (ss : List (Series X)) (n : ℕ) → live_of (take n ks) (take n ss) ≡ take n (live_of ks ss)
+  live_of-take [] [] zero = refl
+  live_of-take [] [] (suc n) = refl
+  live_of-take [] (s ∷ ss) zero = refl
+  live_of-take [] (s ∷ ss) (suc n) = refl
+  live_of-take (k ∷ ks) [] zero = refl
+  live_of-take (k ∷ ks) [] (suc n) = refl
+  live_of-take (k ∷ ks) (s ∷ ss) zero = refl
+  live_of-take (k ∷ ks) (s ∷ ss) (suc n) = ap (λ r. record { id = s.id; key = k; cell = s.cell } ∷ r) (live_of-take ks ss n)
+
+  below-take : (m : ℕ) (live : List (LiveSeries X)) (n : ℕ) → IsBelowAll m live → IsBelowAll m (take n live)
+  below-take m [] zero below = tt
+  below-take m [] (suc n) below = tt
+  below-take m (s ∷ live) zero below = tt
+  below-take m (s ∷ live) (suc n) below = (below.0, below-take m live n below.1)
+
+  rises-take : (live : List (LiveSeries X)) (n : ℕ) → Rises live → Rises (take n live)
+  rises-take [] zero rises = tt
+  rises-take [] (suc n) rises = tt
+  rises-take (s ∷ live) zero rises = tt
+  rises-take (s ∷ live) (suc n) rises = (below-take s.id.number live n rises.0, rises-take live n rises.1)
+
+  pub stored-take : (ks : List KeyText) (ss : List (Series X)) (n : ℕ) → AreStored ks ss → AreStored (take n ks) (take n ss)
+  stored-take ks ss n stored = record {
+    beside = length-take n ks ∙ ap (min n) stored.beside ∙ sym (length-take n ss);
+    rises = subst Rises (sym (live_of-take ks ss n)) (rises-take (live_of ks ss) n stored.rises);
+  }
+
+  pub live_of-others : (ks : List KeyText) (ss : List (Series X)) (before : List (LiveSeries X)) (last : LiveSeries X) → length ks ≡ length ss → live_of ks ss ≡ before ++ last ∷ []
+      → live_of (take (length ss - 1) ks) (take (length ss - 1) ss) ≡ before
+  live_of-others ks ss before last beside is =
+      let long : length ss - 1 ≡ length before = omega (arith, length-live_of ks ss beside, ap length is, length-append before (last ∷ [])) in
+      live_of-take ks ss (length ss - 1)
+      ∙ (λ j. take (long j) (is j))
+      ∙ take-append_seam before (last ∷ [])
+
+  -- ---- the cell at a place
+
+  pub cell-no_key : (ks : List KeyText) (ss : List (Series X)) (i : ℕ) → slice_get ks i ≡ None → option_map (λ series. series.cell) (slice_get (live_of ks ss) i) ≡ None
+  cell-no_key [] ss zero none = refl
+  cell-no_key [] ss (suc i) none = refl
+  cell-no_key (k ∷ ks) [] zero none = refl
+  cell-no_key (k ∷ ks) [] (suc i) none = refl
+  cell-no_key (k ∷ ks) (s ∷ ss) zero none = cc
+  cell-no_key (k ∷ ks) (s ∷ ss) (suc i) none = cell-no_key ks ss i none
+
+  pub cell-no_series : (ks : List KeyText) (ss : List (Series X)) (i : ℕ) → slice_get ss i ≡ None → option_map (λ series. series.cell) (slice_get (live_of ks ss) i) ≡ None
+  cell-no_series [] ss zero none = refl
+  cell-no_series [] ss (suc i) none = refl
+  cell-no_series (k ∷ ks) [] zero none = refl
+  cell-no_series (k ∷ ks) [] (suc i) none = refl
+  cell-no_series (k ∷ ks) (s ∷ ss) zero none = cc
+  cell-no_series (k ∷ ks) (s ∷ ss) (suc i) none = cell-no_series ks ss i none
+
+  pub cell-both : (ks : List KeyText) (ss : List (Series X)) (i : ℕ) (k : KeyText) (s : Series X) → slice_get ks i ≡ Some k → slice_get ss i ≡ Some s
+      → option_map (λ series. series.cell) (slice_get (live_of ks ss) i) ≡ Some s.cell
+  cell-both [] ss i k s key at = cc
+  cell-both (l ∷ ks) [] i k s key at = cc
+  cell-both (l ∷ ks) (x ∷ ss) zero k s key at = let is : x ≡ s = cc in ap (λ (y : Series X). Some y.cell) is
+  cell-both (l ∷ ks) (x ∷ ss) (suc i) k s key at = cell-both ks ss i k s key at

@@ -1,5 +1,5 @@
 -- The live series of a registry, as its contracts see them (this project's rule).
-use Rattle.std.specs.Prelude.{◌≡◌, ℕ, ◌<◌, Bool, ◌&&◌, ◌==◌, not, List, [], ◌∷◌, ◌++◌, map, filter, find, Option, option_map, if◌then◌else◌}
+use Rattle.std.specs.Prelude.{◌≡◌, ℕ, ◌+◌, ◌<◌, Bool, ◌&&◌, ◌==◌, not, List, [], ◌∷◌, ◌++◌, map, filter, find, Option, option_map, if◌then◌else◌}
 use Rattle.std.specs.List.{list_any}
 use Rattle.metrics_core.specs.declared.kinds.MetricKind.{MetricKind}
 use Rattle.metrics_core.specs.declared.kinds.MetricKind.TheVariants.{Counter, Gauge, Histogram}
@@ -75,3 +75,33 @@ pub record IsNumbered {C G H : Type 0} (registry : RegistryText C G H) : Type 0 
   pub counters : Rises registry.counters × AreOf Counter registry.made registry.counters
   pub gauges : Rises registry.gauges × AreOf Gauge registry.made registry.gauges
   pub histograms : Rises registry.histograms × AreOf Histogram registry.made registry.histograms
+
+module _ {C G H : Type 0} where
+  -- the registry with one more series of a kind, which goes last
+  abbrev pub with_counter : RegistryText C G H → KeyText → C → RegistryText C G H
+  with_counter before key cell = record before {
+    counters = with_last before.counters (record { kind = Counter; number = before.made }) key cell;
+    made = before.made + 1;
+  }
+
+  abbrev pub with_gauge : RegistryText C G H → KeyText → G → RegistryText C G H
+  with_gauge before key cell = record before {
+    gauges = with_last before.gauges (record { kind = Gauge; number = before.made }) key cell;
+    made = before.made + 1;
+  }
+
+  abbrev pub with_histogram : RegistryText C G H → KeyText → H → RegistryText C G H
+  with_histogram before key cell = record before {
+    histograms = with_last before.histograms (record { kind = Histogram; number = before.made }) key cell;
+    made = before.made + 1;
+  }
+
+  -- the last series that was made is of a kind, and the registry was this before it
+  abbrev pub MadeCounterLast : RegistryText C G H → RegistryText C G H → Type 0
+  MadeCounterLast before now = (key : KeyText) × (cell : C) × IsNumbered before × (now ≡ with_counter before key cell)
+
+  abbrev pub MadeGaugeLast : RegistryText C G H → RegistryText C G H → Type 0
+  MadeGaugeLast before now = (key : KeyText) × (cell : G) × IsNumbered before × (now ≡ with_gauge before key cell)
+
+  abbrev pub MadeHistogramLast : RegistryText C G H → RegistryText C G H → Type 0
+  MadeHistogramLast before now = (key : KeyText) × (cell : H) × IsNumbered before × (now ≡ with_histogram before key cell)

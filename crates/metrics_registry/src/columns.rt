@@ -1,10 +1,10 @@
 //! How the series of one kind are stored: their keys in a set, and in the same order their ids and cells in a column.
 
-ghost use Rattle.std.specs.Prelude.{◌≡◌, ◌<◌, List, [], length, slice_get, remove, option_map, Some, None, All, OnOk, IfErr, OnErr};
+ghost use Rattle.std.specs.Prelude.{◌≡◌, ◌<◌, ◌≤◌, List, [], ◌∷◌, ◌++◌, length, slice_get, swap, remove, option_map, Some, None, All, OnOk, IfErr, OnErr};
 ghost use Rattle.std.specs.Option.{option_copied};
 ghost use Rattle.std.specs.Borrow.{sem};
 ghost use Rattle.metrics_core.specs.Keys.{KeyText};
-ghost use Rattle.metrics_registry.specs.Live.{id_of_key, cell_of, is_live, with_last, without};
+ghost use Rattle.metrics_registry.specs.Live.{LiveSeries, id_of_key, cell_of, is_live, with_last, without};
 ghost use Rattle.metrics_registry.specs.Retained.{AskedAt, Retains};
 
 use indexmap::IndexSet;
@@ -158,13 +158,27 @@ impl<T> Column<T> {
         let mut kept = 0;
         for place in 0..self.items.len() {
             if ask(&mut keep, &mut self.items[place]) {
-                self.items.swap(kept, place);
-                keys.swap_indices(kept, place);
+                move_up(keys, &mut self.items, kept, place);
                 kept += 1;
             }
         }
         self.items.truncate(kept);
         keys.truncate(kept);
+    }
+
+    /// Takes the last series away, as if it had never been added.
+    pub(crate) fn take_back(&mut self, keys: &mut IndexSet<Key>)
+    where
+        T: Drop,
+        requires { AreStored keys.old.keys self.old.items.items }
+        ensures rest { (before : List (LiveSeries T)) (last : LiveSeries T)
+            → live_of keys.old.keys self.old.items.items ≡ before ++ last ∷ []
+            → live_of keys.new.keys self.new.items.items ≡ before }
+        ensures stored { AreStored keys.new.keys self.new.items.items }
+    {
+        let others = self.items.len().saturating_sub(1);
+        self.items.truncate(others);
+        keys.truncate(others);
     }
 
     /// The series in order.
@@ -186,6 +200,20 @@ fn ask<T, F: FnMut(SeriesId, &mut T) -> bool>(keep: &mut F, series: &mut Series<
     ensures callable { F.IsAlwaysCallable keep.new }
 {
     keep(series.id, &mut series.cell)
+}
+
+/// Exchanges the series at a place with one that stands before it; at the same place nothing moves.
+fn move_up<T>(keys: &mut IndexSet<Key>, items: &mut Vec<Series<T>>, to: usize, from: usize)
+    requires before { to ≤ from }
+    requires keys { from < length keys.old.keys }
+    requires items { from < length items.old.items }
+    ensures keys { keys.new.keys ≡ swap keys.old.keys to from }
+    ensures items { items.new.items ≡ swap items.old.items to from }
+{
+    if to < from {
+        items.swap(to, from);
+        keys.swap_indices(to, from);
+    }
 }
 
 /// Removes the key at a place. The others keep their order.
@@ -212,6 +240,19 @@ impl<'a, T> Model for SeriesIter<'a, T> {
     ghost use Rattle.metrics_registry.specs.Stored.{live_of};
 
     ghost view = { λ it. live_of it.keys.now it.series.now };
+}
+
+impl<'a, T> SeriesIter<'a, T> {
+    ghost use Rattle.std.specs.Prelude.{◌≡◌, slice_get, option_map};
+    ghost use Rattle.std.specs.Option.{option_copied};
+
+    /// The cell of the series at a place, from 0, if there is one.
+    pub fn cell(&self, place: usize) -> Option<&'a T>
+        ensures { option_copied result ≡ option_map (λ series. series.cell) (slice_get self.now place) }
+    {
+        let _key = self.keys.get(place)?;
+        Some(&self.series.get(place)?.cell)
+    }
 }
 
 impl<'a, T> Iterator for SeriesIter<'a, T> {

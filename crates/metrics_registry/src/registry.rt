@@ -4,7 +4,7 @@ ghost use Rattle.std.specs.Prelude.{◌≡◌, ◌+◌, ◌-◌, ◌^◌, ◌<�
 ghost use Rattle.std.specs.Option.{option_copied, option_copied_mut};
 ghost use Rattle.std.specs.Borrow.{sem};
 ghost use Rattle.metrics_core.specs.declared.kinds.MetricKind.TheVariants.{Counter, Gauge, Histogram};
-ghost use Rattle.metrics_registry.specs.Live.{IsNumbered, id_of_key, cell_of, is_live, with_last, without};
+ghost use Rattle.metrics_registry.specs.Live.{RegistryText, IsNumbered, MadeCounterLast, MadeGaugeLast, MadeHistogramLast, id_of_key, cell_of, is_live, with_last, without};
 ghost use Rattle.metrics_registry.specs.Places.{IsPlace};
 ghost use Rattle.metrics_registry.specs.Retained.{Retains};
 
@@ -102,6 +102,15 @@ impl<C: Drop, G: Drop, H: Drop> Registry<C, G, H> {
             }
             Err(parts) => Err(parts),
         }
+    }
+
+    /// Takes the counter back that was made last, as if it had never been made.
+    pub fn take_back_counter(&mut self)
+        requires { (before : RegistryText C G H) × MadeCounterLast before self.old }
+        ensures { (before : RegistryText C G H) → MadeCounterLast before self.old → self.new ≡ before }
+    {
+        self.counters.take_back(&mut self.counter_keys);
+        self.made -= 1;
     }
 
     /// The cell of a live counter. It is `None` exactly where no counter with the id is live.
@@ -207,6 +216,15 @@ impl<C: Drop, G: Drop, H: Drop> Registry<C, G, H> {
         }
     }
 
+    /// Takes the gauge back that was made last, as if it had never been made.
+    pub fn take_back_gauge(&mut self)
+        requires { (before : RegistryText C G H) × MadeGaugeLast before self.old }
+        ensures { (before : RegistryText C G H) → MadeGaugeLast before self.old → self.new ≡ before }
+    {
+        self.gauges.take_back(&mut self.gauge_keys);
+        self.made -= 1;
+    }
+
     /// The cell of a live gauge. It is `None` exactly where no gauge with the id is live.
     pub fn get_gauge(&self, id: SeriesId) -> Option<&G>
         ensures { option_copied result ≡ cell_of id self.now.gauges }
@@ -298,6 +316,15 @@ impl<C: Drop, G: Drop, H: Drop> Registry<C, G, H> {
             }
             Err(parts) => Err(parts),
         }
+    }
+
+    /// Takes the histogram back that was made last, as if it had never been made.
+    pub fn take_back_histogram(&mut self)
+        requires { (before : RegistryText C G H) × MadeHistogramLast before self.old }
+        ensures { (before : RegistryText C G H) → MadeHistogramLast before self.old → self.new ≡ before }
+    {
+        self.histograms.take_back(&mut self.histogram_keys);
+        self.made -= 1;
     }
 
     /// The cell of a live histogram. It is `None` exactly where no histogram with the id is live.

@@ -1,5 +1,5 @@
 -- A call of the kind of the cell that it is on stands in the history as itself.
-use Rattle.std.proofs.Common.{◌≡◌, List, [], ◌∷◌, refl, ap, ◌∙◌}
+use Rattle.std.proofs.Common.{◌≡◌, [], ◌∷◌, refl, ap, ◌∙◌}
 use Rattle.legal_history.specs.declared.history.View.{View}
 use Rattle.legal_history.specs.History.{after}
 use Rattle.cell_lanes.specs.Calls.{Made}

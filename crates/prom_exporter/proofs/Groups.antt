@@ -1,6 +1,7 @@
 -- A list in groups by name, and what one more member changes.
 use Rattle.std.proofs.Common.{◌≡◌, ℕ, Bool, true, false, cond, not, ◌||◌, List, [], ◌∷◌, ◌++◌, map, filter, refl, sym, ap, ◌∙◌, append-nil}
-use Rattle.std.specs.Prelude.{String, string_bytes, unwrap_or, bytes_eq, if◌then◌else◌}
+use Rattle.std.proofs.lemmas.Option.{same_Some}
+use Rattle.std.specs.Prelude.{Option, Some, None, String, string_bytes, unwrap_or, bytes_eq, if◌then◌else◌}
 use Rattle.std.specs.String.{string_eq}
 use Rattle.std.specs.Map.{lookup}
 use Rattle.indexmap.specs.IndexMap.{insert_entry}
@@ -9,11 +10,8 @@ use Rattle.std.specs.Cmp.Lexicographic.{nat_list_eq_equiv}
 use Rattle.std.proofs.lemmas.Bool.{true≢false, or_parts}
 use Rattle.std.proofs.lemmas.List.{map-append}
 use Rattle.std.proofs.lemmas.List.Elements.{filter-append}
-use Rattle.std.specs.Borrow.{Bor}
-use Rattle.metrics_core.specs.declared.kinds.SeriesId.{SeriesId}
-use Rattle.metrics_core.specs.Keys.{KeyText}
 use Rattle.prom_exporter.specs.Families.{distinct}
-use Rattle.prom_exporter.specs.Values.{named, grouped}
+use Rattle.prom_exporter.specs.Values.{named, grouped, with_member}
 
 symm : (a b : List ℕ) → bytes_eq a b ≡ bytes_eq b a
 symm = nat_list_eq_equiv.symm
@@ -112,11 +110,6 @@ distinct-apart (m ∷ ns) = (none_others m (distinct ns), apart_filtered (λ y. 
 
 -- ---- groups
 
--- the groups, with one more member last in the group of its name, or in a group of its own
-abbrev pub with_member : {X : Type 0} → List (List ℕ × List X) → List ℕ → X → List (List ℕ × List X)
-with_member [] n x = (n, x ∷ []) ∷ []
-with_member (g ∷ gs) n x = if bytes_eq n g.0 then (g.0, g.1 ++ x ∷ []) ∷ gs else g ∷ with_member gs n x
-
 module _ {X : Type 0} (name_of : X → List ℕ) where
   abbrev gathered : List X → List (List ℕ) → List (List ℕ × List X)
   gathered xs ns = map (λ n. (n, named name_of xs n)) ns
@@ -180,12 +173,25 @@ module _ {Y V X : Type 0} (view : V → List X) (name : String Y) (group empty :
   entries-insert_entry [] more = ap (λ l. (string_bytes name, l) ∷ []) (more ∙ ap (λ l. l ++ x ∷ []) none)
   entries-insert_entry (e ∷ es) more = entries_step e es (bytes_eq (string_bytes name) (string_bytes e.0)) refl more (entries-insert_entry es)
 
+  -- the group of a name that is there, put anew with the same members
+  same_step : (e : String Y × V) (es : List (String Y × V)) (v : V) (b : Bool) → bytes_eq (string_bytes name) (string_bytes e.0) ≡ b
+      → lookup (string_eq name) (e ∷ es) ≡ Some v → view group ≡ view v
+      → (lookup (string_eq name) es ≡ Some v → map shown (insert_entry string_eq es name group) ≡ map shown es)
+      → map shown (insert_entry string_eq (e ∷ es) name group) ≡ map shown (e ∷ es)
+  same_step e es v true is found same rest = rw is (ap (λ l. (string_bytes e.0, l) ∷ map shown es) (same ∙ ap view (sym (same_Some e.1 v (rw is at found)))))
+  same_step e es v false is found same rest = rw is (ap (λ l. shown e ∷ l) (rest (rw is at found)))
+
+  pub entries-same : (es : List (String Y × V)) (v : V) → lookup (string_eq name) es ≡ Some v → view group ≡ view v
+      → map shown (insert_entry string_eq es name group) ≡ map shown es
+  entries-same [] v found same = cc
+  entries-same (e ∷ es) v found same = same_step e es v (bytes_eq (string_bytes name) (string_bytes e.0)) refl found same (λ f. entries-same es v f same)
+
+  -- the same of a name whose group is looked up
+  pub entries-refused : (es : List (String Y × V)) (found : Option V) → lookup (string_eq name) es ≡ found → view group ≡ view (unwrap_or found empty) → (found ≡ None → ⊥)
+      → map shown (insert_entry string_eq es name group) ≡ map shown es
+  entries-refused es None is same new = absurd (new refl)
+  entries-refused es (Some v) is same new = entries-same es v is same
+
 -- the same of entries that are given by an equation
 pub shown_entries : {K V X : Type 0} (view : K × V → X) (es fs : List (K × V)) (xs : List X) → es ≡ fs → map view fs ≡ xs → map view es ≡ xs
 shown_entries view es fs xs same is = ap (map view) same ∙ is
-
--- ---- series as they are iterated
-
--- the key and the cell of what an iterator over series gives
-abbrev pub seen : {X : Type 0} → SeriesId × Bor KeyText × Bor X → KeyText × X
-seen item = (item.1.now, item.2.now)

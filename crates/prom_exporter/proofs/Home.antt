@@ -1,23 +1,24 @@
 -- Cells of which no pass is out: what the exporter sees of them is the whole history.
-use Rattle.std.proofs.Common.{◌≡◌, ℕ, Bool, true, false, cond, List, [], ◌∷◌, ◌++◌, map, Option, None, Some, refl, sym, ap, subst, ◌∙◌, inl, inr, arith}
-use Rattle.std.specs.Prelude.{All, find, option_map}
+use Rattle.std.proofs.Common.{◌≡◌, List, [], ◌∷◌, ◌++◌, refl, sym, ap, subst, ◌∙◌, inl, inr, arith}
+use Rattle.std.specs.Prelude.{All}
 use Rattle.std.specs.List.{AllZip}
-use Rattle.std.proofs.lemmas.List.{map-append}
 use Rattle.std.proofs.lemmas.List.Elements.{All-head, All-tail, All-cons, All-append}
-use Rattle.std.proofs.lemmas.Option.{same_Some}
 use Rattle.legal_history.specs.declared.history.View.{View}
-use Rattle.legal_history.specs.declared.history.Entry.{Entry}
 use mathlib.Core.List.{IsPrefix}
 use Rattle.legal_history.specs.declared.history.Held.{Held}
-use Rattle.legal_history.specs.History.{calls, calls_by, held, longer, looked, after, said, Among, Sees}
+use Rattle.legal_history.specs.History.{calls_by, held, longer, looked, after, Among}
 use Rattle.legal_history.proofs.Prefixes.{prefix_trans}
-use Rattle.legal_history.proofs.Lists.{calls-append}
 use Rattle.metrics_core.specs.Keys.{KeyText}
 use Rattle.metrics_core.specs.declared.kinds.SeriesId.{SeriesId}
-use Rattle.metrics_registry.specs.Live.{LiveSeries, has_id, cell_of, with_cell}
+use Rattle.metrics_registry.specs.Live.{LiveSeries}
 use Rattle.metrics_core.specs.declared.calls.SeriesCall.{SeriesCall}
 use Rattle.prom_exporter.specs.Shared.{Shared, IsHome, unused, Looks, TakesBack}
-use Rattle.prom_exporter.specs.Exporter.{Exporter, SeriesLooks, LooksOn, AllHome, AddsCounter, AddsGauge}
+use Rattle.metrics_core.specs.declared.kinds.MetricKind.TheVariants.{Counter, Gauge}
+use Rattle.metrics_core.specs.Keys.{LabelText}
+use Rattle.series_cells.specs.declared.counter.PromCounter.{PromCounter}
+use Rattle.series_cells.specs.declared.gauge.PromGauge.{PromGauge}
+use Rattle.std.proofs.Common.{◌+◌}
+use Rattle.prom_exporter.specs.Exporter.{Cells, settings_with, Exporter, SeriesLooks, LooksOn, AllHome, AddsCounter, AddsGauge}
 
 among_last : (h : Held SeriesCall) (hs : List (Held SeriesCall)) → Among h (hs ++ h ∷ [])
 among_last h [] = inl refl
@@ -74,3 +75,29 @@ adds_counter-home key old new adds home = rw adds.1 (unused-home old.series.coun
 
 pub adds_gauge-home : (key : KeyText) (old new : Exporter) → AddsGauge key old new → AllHome old → AllHome new
 adds_gauge-home key old new adds home = rw adds.1 (home.0, unused-home old.series.gauges _ adds.0 refl home.1)
+
+-- a counter that was made went last
+pub counter_added : (exporter : Exporter) (globals : List LabelText) (series after : Cells) (key copied : KeyText) (id : SeriesId) (cell : Shared PromCounter)
+    → record { settings = settings_with globals; series = series } ≡ exporter
+    → after ≡ record series { counters = series.counters ++ record { id = id; key = copied; cell = cell } ∷ []; made = series.made + 1 }
+    → id ≡ record { kind = Counter; number = series.made } → copied ≡ key → cell ≡ unused cell.cell
+    → AddsCounter key exporter (record { settings = settings_with globals; series = after })
+counter_added exporter globals series after key copied id cell is added numbered same fresh =
+    rw (← is) (
+      cell.cell,
+      ap (λ (cells : Cells). record { settings = settings_with globals; series = cells })
+          (added ∙ (λ j. record series { counters = series.counters ++ record { id = numbered j; key = same j; cell = fresh j } ∷ []; made = series.made + 1 })),
+    )
+
+-- a gauge that was made went last
+pub gauge_added : (exporter : Exporter) (globals : List LabelText) (series after : Cells) (key copied : KeyText) (id : SeriesId) (cell : Shared PromGauge)
+    → record { settings = settings_with globals; series = series } ≡ exporter
+    → after ≡ record series { gauges = series.gauges ++ record { id = id; key = copied; cell = cell } ∷ []; made = series.made + 1 }
+    → id ≡ record { kind = Gauge; number = series.made } → copied ≡ key → cell ≡ unused cell.cell
+    → AddsGauge key exporter (record { settings = settings_with globals; series = after })
+gauge_added exporter globals series after key copied id cell is added numbered same fresh =
+    rw (← is) (
+      cell.cell,
+      ap (λ (cells : Cells). record { settings = settings_with globals; series = cells })
+          (added ∙ (λ j. record series { gauges = series.gauges ++ record { id = numbered j; key = same j; cell = fresh j } ∷ []; made = series.made + 1 })),
+    )

@@ -6,4 +6,6 @@ pub mod Seen
 pub mod Home
 pub mod LaneThings
 pub mod CallKinds
+pub mod KeptRows
+mod Written
 pub mod ValuePages

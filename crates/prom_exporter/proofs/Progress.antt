@@ -1,14 +1,9 @@
 -- Bytes that go to a sink in pieces: what was sent, and what waits.
-use Rattle.std.proofs.Common.{◌≡◌, ℕ, List, [], ◌++◌, refl, sym, ap, subst, ◌∙◌, append-nil, append_assoc}
+use Rattle.std.proofs.Common.{ℕ, List, [], ◌++◌, refl, sym, ap, subst, ◌∙◌, append-nil, append_assoc}
 use Rattle.std.specs.Prelude.{Option, Some, None, Result, Ok, Err, OnOk, OnErr}
 use Rattle.metrics_core.specs.Outside.{GrewBy, GrewByPrefix}
+use Rattle.prom_exporter.specs.Sending.{IsSent}
 use Rattle.metrics_core.proofs.Grown.{grew_none, grew-append, grew_prefix-append, grew_prefix-longer}
-
--- of some bytes a prefix was sent, and the others wait
-pub record IsSent (before now : Option (List ℕ)) (waiting bytes : List ℕ) : Type 0 where
-  pub sent : List ℕ
-  pub grew : GrewBy before now sent
-  pub spelled : bytes ≡ sent ++ waiting
 
 grew_nothing : (told : Option (List ℕ)) → GrewBy told told []
 grew_nothing None = tt

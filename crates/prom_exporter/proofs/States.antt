@@ -1,10 +1,8 @@
 -- The state that a registry of counters and gauges makes: what registering, calling and a page do to it.
-use Rattle.std.proofs.Common.{◌≡◌, ◌≢◌, ℕ, suc, ◌+◌, ◌-◌, ◌^◌, ◌<◌, ◌≤◌, Bool, true, false, cond, ◌&&◌, ◌||◌, List, [], ◌∷◌, ◌++◌, map, filter_map, length, Option, None, Some, refl, sym, ap, subst, ◌∙◌, arith}
+use Rattle.std.proofs.Common.{◌≡◌, ◌≢◌, ℕ, ◌+◌, ◌-◌, ◌^◌, ◌<◌, ◌≤◌, Bool, true, false, cond, ◌&&◌, ◌||◌, List, [], ◌∷◌, ◌++◌, map, filter_map, length, Option, None, Some, refl, sym, ap, subst, ◌∙◌, arith}
 use Rattle.std.specs.Prelude.{◌==◌, All, find, unwrap_or, option_map, is_some}
 use Rattle.std.specs.List.{list_any}
 use Rattle.std.proofs.lemmas.Bool.{ne_eqb, eq-eqb, eqb-true}
-use Rattle.std.proofs.lemmas.Bool.Decides.{nat_tests}
-use Rattle.std.proofs.lemmas.List.{map-append}
 use Rattle.std.proofs.lemmas.List.Elements.{All-head, All-tail}
 use Rattle.std.proofs.lemmas.Option.{same_Some}
 use Rattle.metrics_core.specs.declared.kinds.MetricKind.{MetricKind}
@@ -14,7 +12,7 @@ use Rattle.metrics_core.specs.Kinds.{kind_eq}
 use Rattle.metrics_core.proofs.KindTests.{kind_eq-refl}
 use Rattle.metrics_core.specs.Keys.{KeyText, key_eq}
 use Rattle.metrics_core.specs.Calls.{Call}
-use Rattle.metrics_registry.specs.Live.{LiveSeries, RegistryText, id_eq, has_id, has_key, id_of_key, cell_of, set_cell, with_cell, IsBelowAll, Rises, AreOf, IsNumbered}
+use Rattle.metrics_registry.specs.Live.{LiveSeries, RegistryText, has_id, has_key, id_of_key, cell_of, with_cell, IsBelowAll, Rises, AreOf, IsNumbered}
 use Rattle.prom_exporter.specs.State.{Series, PrometheusState, live, with_live, no_series, live_series, number_given, register, with_call, call_on, is_live, kept_at, page_step}
 use Rattle.prom_exporter.specs.Values.{series_of, state_of}
 

@@ -1,30 +1,21 @@
 -- The page of a state of counters and gauges: its families are the groups of its series.
-use Rattle.std.proofs.Common.{◌≡◌, ℕ, Bool, true, false, List, [], ◌∷◌, ◌++◌, map, filter, filter_map, None, refl, sym, ap, ◌∙◌, append-nil, append_assoc}
-use Rattle.std.specs.Prelude.{Option, Some, codes, bytes_eq, decimal, flat_map, ℤ}
-use Rattle.std.specs.Iterator.{Yields}
-use Rattle.std.specs.Map.Iter.{TakesFirst}
+use Rattle.std.proofs.Common.{◌≡◌, ℕ, Bool, true, false, List, [], ◌∷◌, ◌++◌, map, filter, None, refl, ap, ◌∙◌, append-nil}
+use Rattle.std.specs.Prelude.{bytes_eq, flat_map, ℤ}
 use Rattle.std.proofs.lemmas.Grind.{flat_map-append}
-use Rattle.std.proofs.lemmas.List.{map-append}
-use Rattle.std.proofs.lemmas.Map.Iter.{rest_so_far, rest_more}
 use Rattle.std.proofs.lemmas.Slice.Eq.{bytes_eq-Decides}
-use Rattle.metrics_core.specs.Characters.{line}
-use Rattle.metrics_core.specs.Numbers.{page_number}
-use Rattle.metrics_core.specs.declared.kinds.MetricKind.{MetricKind}
-use Rattle.metrics_core.specs.declared.kinds.MetricKind.TheVariants as kinds
-use Rattle.metrics_core.specs.Keys.{KeyText, LabelText, label_set}
+use Rattle.metrics_core.specs.Keys.{LabelText}
 use Rattle.metrics_registry.specs.Live.{LiveSeries, RegistryText}
-use Rattle.prom_format.proofs.PageText.{label_set_braced}
 use Rattle.prom_format.specs.Names.{sanitized_metric_name}
-use Rattle.prom_format.specs.Pages.{Row, Family, label_set_text, row_text, body_text, block_text}
-use Rattle.prom_format.specs.Lines.{shown_label_set, metric_line}
+use Rattle.prom_format.specs.Pages.{Row, body_text, block_text}
+use Rattle.prom_format.specs.Lines.{shown_label_set}
 use Rattle.prom_format.specs.declared.families.FamilyType.{FamilyType}
 use Rattle.prom_format.specs.declared.families.FamilyType.TheVariants as types
-use Rattle.prom_exporter.specs.State.{Series, PrometheusState, live}
+use Rattle.prom_exporter.specs.State.{Series}
 use Rattle.prom_exporter.specs.Families.{distinct, names_of_kind, counter_rows, gauge_rows, family_of}
 use Rattle.prom_exporter.specs.Families as pages
 use Rattle.prom_exporter.specs.Exporter.{settings_with, body_shown}
 use Rattle.prom_exporter.specs.Shared.{Shared}
-use Rattle.prom_exporter.specs.Values.{series_of, seen_series, seen_registry, state_seen, counter_shown, gauge_shown, named, grouped, member_of, metric_name, value_row, value_family, value_families}
+use Rattle.prom_exporter.specs.Values.{series_of, seen_series, seen_registry, state_seen, counter_shown, gauge_shown, named, member_of, metric_name, value_row, value_family, value_families}
 use Rattle.prom_exporter.proofs.States.{page_step-same}
 
 abbrev metric : Series → List ℕ
@@ -90,52 +81,3 @@ module _ {C G H : Type 0} (globals : List LabelText) (t : ℕ) (registry : Regis
       ap (λ s. body_text (pages.families_at (settings_with globals) t s)) (page_step-same t (seen_registry registry))
       ∙ ap body_text families_are
       ∙ flat_map-append block_text (value_families types.Counter counter_shown globals registry.counters) (value_families types.Gauge gauge_shown globals registry.gauges)
-
--- ---- lines
-
--- a row is the line with its value in its page spelling
-pub row_text-value : {X : Type 0} (shown : X → ℤ) (globals : List LabelText) (name : List ℕ) (member : KeyText × X)
-    → row_text (value_row shown globals name member) ≡ metric_line name None (label_set globals member.0.labels) None (page_number (shown member.1)) None
-row_text-value shown globals name member = (λ j. line (name ++ label_set_braced (label_set globals member.0.labels) j ++ codes " " ++ page_number (shown member.1)))
-
--- ---- a body, family by family
-
-module _ {E X : Type 0} (shown : X → Family) (seen : E → X) where
-  abbrev body : List E → List ℕ
-  body es = body_text (map shown (map seen es))
-
-  pub body-append : (es fs : List E) → body (es ++ fs) ≡ body es ++ body fs
-  body-append es fs =
-      ap (λ l. body_text (map shown l)) (map-append seen es fs)
-      ∙ ap body_text (map-append shown (map seen es) (map seen fs))
-      ∙ flat_map-append block_text (map shown (map seen es)) (map shown (map seen fs))
-
-  pub body-push : (es : List E) (e : E) → body (es ++ e ∷ []) ≡ body es ++ block_text (shown (seen e))
-  body-push es e = body-append es (e ∷ []) ∙ ap (λ l. body es ++ l) (append-nil (block_text (shown (seen e))))
-
-  -- a loop over all has gone over some, and others are left
-  module _ {A : Type 0} (deref : A → E) (some : List A) where
-    pub body-yielded : (all start left : List E) → start ≡ all → Yields (TakesFirst deref) start some left → body all ≡ body (map deref some) ++ body left
-    body-yielded all start left from yielded = ap body (sym from ∙ rest_so_far deref some start left yielded) ∙ body-append (map deref some) left
-
-    -- one more
-    pub body-yielded_push : (x : A) → body (map deref (some ++ x ∷ [])) ≡ body (map deref some) ++ block_text (shown (seen (deref x)))
-    body-yielded_push x = ap body (map-append deref some (x ∷ [])) ∙ body-push (map deref some) (deref x)
-
-    pub body-yielded_more : (all start left after : List E) (x : A) (r : Option A) → start ≡ all → Yields (TakesFirst deref) start some left → r ≡ Some x → TakesFirst deref left r after
-        → body all ≡ body (map deref (some ++ x ∷ [])) ++ body after
-    body-yielded_more all start left after x r from yielded is step =
-        body-yielded all start left from yielded
-        ∙ ap (λ l. body (map deref some) ++ body l) (rest_more deref left after r x is step)
-        ∙ sym (append_assoc (body (map deref some)) (block_text (shown (seen (deref x)))) (body after))
-        ∙ ap (λ l. l ++ body after) (sym (body-yielded_push x))
-
--- ---- a page in two parts
-
--- the body of a page is what the counters and then the gauges make
-pub page_written : {C G H : Type 0} (t : ℕ) (globals : List LabelText) (registry : RegistryText (Shared C) (Shared G) H) (counters : List (List ℕ × List (KeyText × Shared C))) (gauges : List (List ℕ × List (KeyText × Shared G)))
-    → counters ≡ grouped metric_name (map member_of registry.counters) → gauges ≡ grouped metric_name (map member_of registry.gauges)
-    → body_shown (settings_with globals) t (state_seen registry) ≡ body_text (map (value_family types.Counter counter_shown globals) counters) ++ body_text (map (value_family types.Gauge gauge_shown globals) gauges)
-page_written t globals registry counters gauges counted gauged =
-    page_body-values globals t registry
-    ∙ sym (λ j. body_text (map (value_family types.Counter counter_shown globals) (counted j)) ++ body_text (map (value_family types.Gauge gauge_shown globals) (gauged j)))

@@ -1,8 +1,6 @@
 -- Which passes an exporter lends and takes back.
 use Rattle.std.specs.Prelude.{◌≡◌, Option, Some, None}
 use Rattle.metrics_core.specs.declared.kinds.SeriesId.{SeriesId}
-use Rattle.metrics_facade.specs.declared.handles.Counter.{Counter}
-use Rattle.metrics_facade.specs.declared.handles.Gauge.{Gauge}
 use Rattle.metrics_registry.specs.Live.{cell_of}
 use Rattle.legal_history.specs.History.{child}
 use Rattle.series_cells.specs.declared.counter.PromCounter.{PromCounter}

@@ -2,6 +2,9 @@ pub mod State
 pub mod Families
 pub mod Shared
 pub mod Values
+pub mod Rows
+pub mod Kept
+pub mod Sending
 pub mod Exporter
 pub mod Lending
 pub mod LanePasses

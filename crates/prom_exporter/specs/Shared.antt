@@ -1,5 +1,5 @@
 -- A counter or a gauge as the exporter keeps it: the cell, and what the exporter's own pass of it knows.
-use Rattle.std.specs.Prelude.{◌≡◌, ℕ, List}
+use Rattle.std.specs.Prelude.{◌≡◌, List}
 use Rattle.legal_history.specs.declared.history.Entry.{Entry}
 use Rattle.legal_history.specs.declared.history.View.{View}
 use Rattle.legal_history.specs.History.{calls, looked, first, lender, taker, Sees}

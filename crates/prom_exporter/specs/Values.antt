@@ -1,10 +1,5 @@
 -- Counters and gauges as the exporter keeps them, and the state and the families that they make.
-use Rattle.std.specs.Prelude.{string_bytes, ℕ, List, [], ◌∷◌, map, filter, ℤ, None, bytes_eq}
-use Rattle.std.specs.Borrow.{Bor}
-use Rattle.std.specs.Map.Iter.{deref_pair}
-use Rattle.std.specs.declared.string.String.{String}
-use Rattle.std.specs.declared.vec.Vec.{Vec}
-use Rattle.std.specs.declared.alloc.Global.{Global}
+use Rattle.std.specs.Prelude.{ℕ, List, [], ◌∷◌, ◌++◌, map, filter, ℤ, None, bytes_eq, if◌then◌else◌}
 use Rattle.metrics_core.specs.Numbers.{whole}
 use Rattle.metrics_core.specs.Keys.{KeyText, LabelText}
 use Rattle.metrics_core.specs.Calls.{Call, counter_value, gauge_value}
@@ -67,16 +62,17 @@ named name_of xs name = filter (λ x. bytes_eq (name_of x) name) xs
 abbrev pub grouped : {X : Type 0} → (X → List ℕ) → List X → List (List ℕ × List X)
 grouped name_of xs = map (λ name. (name, named name_of xs name)) (distinct (map name_of xs))
 
+-- the groups, with one more member last in the group of its name, or in a group of its own
+abbrev pub with_member : {X : Type 0} → List (List ℕ × List X) → List ℕ → X → List (List ℕ × List X)
+with_member [] n x = (n, x ∷ []) ∷ []
+with_member (g ∷ gs) n x = if bytes_eq n g.0 then (g.0, g.1 ++ x ∷ []) ∷ gs else g ∷ with_member gs n x
+
 -- a series as a member of a family: its key and its cell
 abbrev pub member_of : {X : Type 0} → LiveSeries X → KeyText × X
 member_of series = (series.key, series.cell)
 
 abbrev pub metric_name : {X : Type 0} → KeyText × X → List ℕ
 metric_name member = sanitized_metric_name member.0.name
-
--- a group as the program has it: the text of its name, and references to its members
-abbrev pub group_of : {X : Type 0} → String Global × Vec (Bor KeyText × Bor X) Global → List ℕ × List (KeyText × X)
-group_of group = (string_bytes group.0, map deref_pair group.1.items)
 
 -- the row of a series under a metric name, where a page shows so much of its cell
 abbrev pub value_row : {X : Type 0} → (X → ℤ) → List LabelText → List ℕ → KeyText × X → Row

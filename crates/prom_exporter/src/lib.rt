@@ -10,11 +10,11 @@
 mod builder;
 mod cells;
 mod errors;
-mod families;
 mod lanes;
 mod laws;
 mod lent;
 mod pages;
+mod rows;
 mod state;
 
 pub use builder::PrometheusBuilder;

@@ -1,107 +1,112 @@
 //! The body of a page, written to a sink (Prometheus text exposition format, version 0.0.4).
 
-ghost use Rattle.std.specs.Prelude.{◌≡◌, ◌≤◌, ◌++◌, None, map, OnOk, OnErr, string_bytes};
-ghost use Rattle.std.specs.Map.Iter.{deref_pair};
-ghost use Rattle.metrics_core.specs.Numbers.{page_number};
-ghost use Rattle.metrics_core.specs.Outside.{Rose, GrewBy, GrewByPrefix};
-ghost use Rattle.prom_format.specs.LabelSets.{labels_of};
-ghost use Rattle.prom_format.specs.Lines.{metric_line};
-ghost use Rattle.prom_format.specs.Pages.{row_text, block_text, body_text};
-ghost use Rattle.prom_exporter.specs.Values.{group_of, value_row, value_family};
+ghost use Rattle.std.specs.Prelude.{◌≡◌, ◌≤◌, ◌++◌, ◌∷◌, [], ℕ, List, Option, flat_map, OnOk, OnErr, string_bytes};
+ghost use Rattle.metrics_core.specs.Characters.{line};
+ghost use Rattle.metrics_core.specs.Outside.{Rose, GrewByPrefix};
+ghost use Rattle.prom_format.specs.Pages.{type_line_text};
+ghost use Rattle.prom_exporter.specs.Rows.{kept_block, row_at};
+ghost use Rattle.prom_exporter.specs.Sending.{IsSent};
 
 use crate::BuildError;
 use crate::cells::Shown;
-use crate::families::Members;
-use indexmap::IndexMap;
-use metrics_core::{Key, Memory, Sink, write_whole};
-use prom_format::{FamilyType, LabelSet, write_metric_line, write_type_line};
-use std::alloc::Global;
+use crate::rows::Rows;
+use metrics_core::{Memory, Sink, write_whole};
+use metrics_registry::SeriesIter;
+use prom_format::{FamilyType, write_type_line};
 
 /// Where so many bytes of a page are in memory they go to the sink.
 const PIECE: usize = 64 * 1024;
 
-/// Writes the blocks of families of one type. Where the sink or the memory fails a prefix of them was written.
+/// Appends the blocks of families of one type, of which this is kept. What fills a piece goes to the sink. Where the sink or
+/// the memory fails a prefix of them was written.
 pub(crate) fn write_families<C: Shown, K: Sink>(
-    alloc: Global,
     family_type: FamilyType,
-    families: &IndexMap<String, Members<'_, C>>,
-    globals: &IndexMap<String, String>,
+    rows: &Rows,
+    series: &SeriesIter<'_, C>,
+    buffer: &mut String,
     sink: &mut K,
 ) -> Result<(), BuildError>
-    ensures body { OnOk result (GrewBy (K.written sink.old) (K.written sink.new)
-        (body_text (map (value_family family_type C.shown (labels_of globals.now.entries)) (map group_of families.now.entries)))) }
-    ensures prefix { OnErr result (GrewByPrefix (K.written sink.old) (K.written sink.new)
-        (body_text (map (value_family family_type C.shown (labels_of globals.now.entries)) (map group_of families.now.entries)))) }
+    ensures sent { (start : Option (List ℕ)) (bytes : List ℕ) → IsSent start (K.written sink.old) (string_bytes buffer.old) bytes
+        → OnOk result (IsSent start (K.written sink.new) (string_bytes buffer.new)
+        (bytes ++ flat_map (kept_block C.shown family_type rows.now.heads series.now) rows.now.families)) }
+    ensures prefix { (start : Option (List ℕ)) (bytes : List ℕ) → IsSent start (K.written sink.old) (string_bytes buffer.old) bytes
+        → OnErr result (GrewByPrefix start (K.written sink.new)
+        (bytes ++ flat_map (kept_block C.shown family_type rows.now.heads series.now) rows.now.families)) }
     ensures cause { result ≡ Err BuildError.WriteFault → Rose (K.faults sink.old) (K.faults sink.new) }
     ensures never_falls { K.faults sink.old ≤ K.faults sink.new }
 {
-    let mut buffer = String::new(alloc);
-    for (name, members) in families.iter() {
-        push_family(
-            alloc,
-            &mut buffer,
-            family_type,
-            name.as_str(),
-            members.as_slice(),
-            globals,
-        )?;
-        if buffer.len() >= PIECE {
-            write_whole(sink, buffer.as_bytes())?;
-            buffer.clear();
-        }
+    for (name, places) in rows.families.iter() {
+        write_type_line(buffer, name.as_str(), None, None, family_type.as_str())?;
+        write_rows(rows, series, places.as_slice(), buffer, sink)?;
+        end_block(buffer)?;
     }
-    write_whole(sink, buffer.as_bytes())?;
     Ok(())
 }
 
-/// Appends the block of a family.
-fn push_family<C: Shown>(
-    alloc: Global,
-    buffer: &mut String,
-    family_type: FamilyType,
-    name: &str,
-    members: &[(&Key, &C)],
-    globals: &IndexMap<String, String>,
-) -> Result<(), Memory>
-    ensures { OnOk result (string_bytes buffer.new ≡ string_bytes buffer.old
-        ++ block_text (value_family family_type C.shown (labels_of globals.now.entries) (name.now, map deref_pair members.now))) }
+/// Appends the empty line behind a block.
+fn end_block(buffer: &mut String) -> Result<(), Memory>
+    ensures { OnOk result (string_bytes buffer.new ≡ string_bytes buffer.old ++ line []) }
 {
-    write_type_line(buffer, name, None, None, family_type.as_str())?;
-    for member in members {
-        push_row(alloc, buffer, name, member.0, member.1, globals)?;
-    }
     buffer.push('\n')?;
     Ok(())
 }
 
-/// Appends the row of a series.
-fn push_row<C: Shown>(
-    alloc: Global,
+/// Appends the rows of the series at these places. What fills a piece goes to the sink.
+fn write_rows<C: Shown, K: Sink>(
+    rows: &Rows,
+    series: &SeriesIter<'_, C>,
+    places: &[usize],
     buffer: &mut String,
-    name: &str,
-    key: &Key,
-    cell: &C,
-    globals: &IndexMap<String, String>,
-) -> Result<(), Memory>
-    ensures { OnOk result (string_bytes buffer.new ≡ string_bytes buffer.old
-        ++ row_text (value_row C.shown (labels_of globals.now.entries) name.now (key.now, cell.now))) }
+    sink: &mut K,
+) -> Result<(), BuildError>
+    ensures sent { (start : Option (List ℕ)) (bytes : List ℕ) → IsSent start (K.written sink.old) (string_bytes buffer.old) bytes
+        → OnOk result (IsSent start (K.written sink.new) (string_bytes buffer.new) (bytes ++ flat_map (row_at C.shown rows.now.heads series.now) places.now)) }
+    ensures prefix { (start : Option (List ℕ)) (bytes : List ℕ) → IsSent start (K.written sink.old) (string_bytes buffer.old) bytes
+        → OnErr result (GrewByPrefix start (K.written sink.new) (bytes ++ flat_map (row_at C.shown rows.now.heads series.now) places.now)) }
+    ensures cause { result ≡ Err BuildError.WriteFault → Rose (K.faults sink.old) (K.faults sink.new) }
+    ensures never_falls { K.faults sink.old ≤ K.faults sink.new }
 {
-    let labels = LabelSet::from_key_and_global(alloc, key, globals)?;
-    push_labelled_row(alloc, buffer, name, &labels, cell)
+    for place in places {
+        push_row(rows, series, *place, buffer)?;
+        send_full(buffer, sink)?;
+    }
+    Ok(())
 }
 
-/// Appends the row of a series with these labels.
-fn push_labelled_row<C: Shown>(
-    alloc: Global,
+/// Appends the row of the series at a place, if there is one. A refused call may leave a part of it.
+fn push_row<C: Shown>(
+    rows: &Rows,
+    series: &SeriesIter<'_, C>,
+    place: usize,
     buffer: &mut String,
-    name: &str,
-    labels: &LabelSet,
-    cell: &C,
 ) -> Result<(), Memory>
-    ensures { OnOk result (string_bytes buffer.new ≡ string_bytes buffer.old
-        ++ metric_line name.now None labels.now None (page_number (C.shown cell.now)) None) }
+    ensures { OnOk result (string_bytes buffer.new ≡ string_bytes buffer.old ++ row_at C.shown rows.now.heads series.now place) }
 {
-    let mut value = String::new(alloc);
-    cell.push_value(&mut value)?;
-    write_metric_line(buffer, name, None, labels, None, value.as_str(), None)
+    let Some(head) = rows.heads.get(place) else {
+        return Ok(());
+    };
+    let Some(cell) = series.cell(place) else {
+        return Ok(());
+    };
+    buffer.push_str(head.as_str())?;
+    buffer.push(' ')?;
+    cell.push_value(buffer)?;
+    buffer.push('\n')?;
+    Ok(())
+}
+
+/// Sends what waits, where it fills a piece.
+fn send_full<K: Sink>(buffer: &mut String, sink: &mut K) -> Result<(), BuildError>
+    ensures sent { (start : Option (List ℕ)) (bytes : List ℕ) → IsSent start (K.written sink.old) (string_bytes buffer.old) bytes
+        → OnOk result (IsSent start (K.written sink.new) (string_bytes buffer.new) bytes) }
+    ensures prefix { (start : Option (List ℕ)) (bytes : List ℕ) → IsSent start (K.written sink.old) (string_bytes buffer.old) bytes
+        → OnErr result (GrewByPrefix start (K.written sink.new) bytes) }
+    ensures cause { result ≡ Err BuildError.WriteFault → Rose (K.faults sink.old) (K.faults sink.new) }
+    ensures never_falls { K.faults sink.old ≤ K.faults sink.new }
+{
+    if buffer.len() >= PIECE {
+        write_whole(sink, buffer.as_bytes())?;
+        buffer.clear();
+    }
+    Ok(())
 }

@@ -20,12 +20,12 @@ ghost use Rattle.prom_exporter.specs.Lending.{LendsCounter, LendsGauge, LentCoun
 
 use crate::BuildError;
 use crate::cells::{CounterCell, GaugeCell, new_counter, new_gauge};
-use crate::families::families;
 use crate::lanes::LanePass;
 use crate::lent::Lent;
 use crate::pages::write_families;
+use crate::rows::Rows;
 use indexmap::IndexMap;
-use metrics_core::{Key, Memory, MetricKind, SeriesId, Sink};
+use metrics_core::{Key, Memory, MetricKind, SeriesId, Sink, write_whole};
 use metrics_facade as facade;
 use metrics_registry::Registry;
 use prom_format::FamilyType;
@@ -39,6 +39,8 @@ use std::marker::Model;
 pub struct PrometheusState {
     globals: IndexMap<String, String>,
     series: Registry<CounterCell, GaugeCell, ()>,
+    counter_rows: Rows,
+    gauge_rows: Rows,
 }
 
 impl Model for PrometheusState {
@@ -48,6 +50,10 @@ impl Model for PrometheusState {
     ghost Value = { Exporter };
 
     ghost view = { λ s. record { settings = settings_with (labels_of s.globals.entries); series = s.series } };
+
+    ghost use Rattle.prom_exporter.specs.Kept.{IsKept};
+
+    ghost invariant = { λ s. IsKept (labels_of s.globals.entries) s.series s.counter_rows s.gauge_rows };
 }
 
 impl PrometheusState {
@@ -62,6 +68,8 @@ impl PrometheusState {
         Ok(PrometheusState {
             globals,
             series: Registry::new(alloc)?,
+            counter_rows: Rows::new(alloc),
+            gauge_rows: Rows::new(alloc),
         })
     }
 
@@ -86,10 +94,13 @@ impl PrometheusState {
             });
         }
         let cell = new_counter(alloc)?;
-        let key = key.clone(alloc)?;
-        let Ok(id) = self.series.add_counter(key, cell) else {
+        let Ok(id) = self.series.add_counter(key.clone(alloc)?, cell) else {
             return Err(Memory);
         };
+        if let Err(refused) = self.counter_rows.add(alloc, key, &self.globals) {
+            self.series.take_back_counter();
+            return Err(refused);
+        }
         Ok(id)
     }
 
@@ -113,10 +124,13 @@ impl PrometheusState {
             });
         }
         let cell = new_gauge(alloc)?;
-        let key = key.clone(alloc)?;
-        let Ok(id) = self.series.add_gauge(key, cell) else {
+        let Ok(id) = self.series.add_gauge(key.clone(alloc)?, cell) else {
             return Err(Memory);
         };
+        if let Err(refused) = self.gauge_rows.add(alloc, key, &self.globals) {
+            self.series.take_back_gauge();
+            return Err(refused);
+        }
         Ok(id)
     }
 
@@ -288,9 +302,24 @@ impl PrometheusState {
         ensures never_falls { K.faults sink.old ≤ K.faults sink.new }
     {
         self.read();
-        let counters = families(alloc, self.series.counters())?;
-        let gauges = families(alloc, self.series.gauges())?;
-        write_families(alloc, FamilyType::Counter, &counters, &self.globals, sink)?;
-        write_families(alloc, FamilyType::Gauge, &gauges, &self.globals, sink)
+        let mut buffer = String::new(alloc);
+        let counters = self.series.counters();
+        write_families(
+            FamilyType::Counter,
+            &self.counter_rows,
+            &counters,
+            &mut buffer,
+            sink,
+        )?;
+        let gauges = self.series.gauges();
+        write_families(
+            FamilyType::Gauge,
+            &self.gauge_rows,
+            &gauges,
+            &mut buffer,
+            sink,
+        )?;
+        write_whole(sink, buffer.as_bytes())?;
+        Ok(())
     }
 }

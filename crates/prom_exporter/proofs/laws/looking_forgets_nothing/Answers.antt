@@ -1,5 +1,3 @@
-use Rattle.std.proofs.Common.{ap, sym, subst}
-use mathlib.Core.List.{IsPrefix}
 use Rattle.prom_exporter.proofs.Home.{look_begins}
 use Rattle.prom_exporter.proofs.laws.looking_forgets_nothing.Goals as goal
 

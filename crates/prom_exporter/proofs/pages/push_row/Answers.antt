@@ -1,15 +1,26 @@
-use Rattle.std.proofs.Common.{◌≡◌, ◌++◌, string_bytes, None, sym, ap, ◌∙◌}
-use Rattle.std.proofs.lemmas.Result.{on_ok_weaker}
+use Rattle.std.proofs.Common.{◌≡◌, ◌∷◌, [], ◌++◌, Some, sym, ap, ◌∙◌}
+use Rattle.std.proofs.Common.{length, get_or}
+use Rattle.std.specs.Prelude.{slice_get, string_bytes, nat_lt}
+use Rattle.std.specs.Char.{encode_utf8}
 use Rattle.metrics_core.specs.Numbers.{page_number}
-use Rattle.prom_format.specs.LabelSets.{labels_of}
-use Rattle.prom_format.specs.Lines.{metric_line}
-use Rattle.prom_exporter.proofs.ValuePages.{row_text-value}
+use Rattle.prom_exporter.specs.Rows.{RowsText}
+use Rattle.prom_exporter.proofs.Written.{head_found, row_at-found, row_pushed}
 use Rattle.prom_exporter.proofs.pages.push_row.Goals as goal
 
 pub returns : goal.returns
+unfolding encode_utf8
 returns g c =
     let shown = g.C.Shown.shown in
-    let value = page_number (shown c.args.cell.now) in
-    on_ok_weaker c.push_labelled_row.result (λ grown. grown ∙ ap (λ row. string_bytes c.args.buffer.now ++ row)
-    ((λ j. metric_line c.args.name.now None (c.in_ok-labels.ensures.labels j) None value None)
-    ∙ sym (row_text-value shown (labels_of c.args.globals.now.entries) c.args.name.now (c.args.key.now, c.args.cell.now)))) c.push_labelled_row.ensures
+    let buffer = string_bytes c.args.buffer.now in
+    let head = string_bytes c.in-Some.head.now in
+    let number = page_number (shown c.in-Some-cell.cell.now) in
+    let live = c.args.series.now in
+    let found = head_found c.rows.inside.heads.items c.args.place c.in-Some.head.now (c.in-Some.ensures.lookup.0 ∙ ap (λ l. nat_lt c.args.place (length l)) c.deref.ensures.value) (c.in-Some.ensures.lookup.1 ∙ ap (λ l. get_or l c.args.place c.in-Some.head.now) c.deref.ensures.value) in
+    let at : slice_get c.args.rows.now.heads c.args.place ≡ Some head = ap (λ (r : RowsText). slice_get r.heads c.args.place) (sym c.rows.view_is) ∙ found in
+    let text : string_bytes c.push-2.new.self ≡ (((buffer ++ head) ++ 32 ∷ []) ++ number) ++ 10 ∷ [] =
+    c.in_ok-push-2.ensures.bytes
+    ∙ ap (λ l. l ++ 10 ∷ [])
+    (c.in_ok-push_value.ensures
+    ∙ ap (λ l. l ++ number) (c.in_ok-push.ensures.bytes ∙ ap (λ l. l ++ 32 ∷ []) (c.in_ok-push_str.ensures.bytes ∙ ap (λ h. buffer ++ h) c.as_str.ensures.value))) in
+    text ∙ row_pushed buffer head (32 ∷ []) number (10 ∷ [])
+    ∙ ap (λ l. buffer ++ l) (sym (row_at-found shown c.args.rows.now.heads live c.args.place head c.in-Some-cell.cell.now at c.in-Some-cell.ensures))

@@ -1,61 +1,84 @@
-use Rattle.std.proofs.Common.{◌≡◌, ◌++◌, map, string_bytes, [], ◌∷◌, ◌∙◌, arith}
+use Rattle.std.proofs.Common.{◌≡◌, ◌++◌, [], ℕ, List, map, None, sym, ap, subst, ◌∙◌, arith}
+use Rattle.std.specs.Prelude.{Option, flat_map, string_bytes}
 use Rattle.std.specs.Map.Iter.{deref_pair}
-use Rattle.std.proofs.lemmas.Map.Iter.{iter_end}
 use Rattle.std.proofs.lemmas.Result.{err_from_is_err_and}
-use Rattle.prom_format.specs.LabelSets.{labels_of}
-use Rattle.prom_format.specs.Pages.{block_text, body_text}
-use Rattle.prom_exporter.specs.Values.{group_of, value_family}
-use Rattle.prom_exporter.proofs.Progress.{IsSent, sent_nothing, sent_prefix, sent-append, sent-again, sent_all}
-use Rattle.prom_exporter.proofs.ValuePages.{body-yielded, body-yielded_push, body-yielded_more}
+use Rattle.metrics_core.specs.Characters.{line}
+use Rattle.metrics_core.specs.Outside.{GrewByPrefix}
+use Rattle.prom_format.specs.Lines.{type_line}
+use Rattle.prom_format.specs.Pages.{type_line_text}
+use Rattle.prom_exporter.specs.Rows.{RowsText, family_kept, kept_block, row_at}
+use Rattle.prom_exporter.specs.Sending.{IsSent}
+use Rattle.prom_exporter.proofs.Progress.{sent-append, sent_nothing}
+use Rattle.prom_exporter.proofs.Written.{prefix_of_more, blocks, blocks-yielded_push, blocks-yielded_more, before_block, before_end, whole_block}
 use Rattle.prom_exporter.proofs.pages.write_families.Given.{Over}
 use Rattle.prom_exporter.proofs.pages.write_families.Goals as goal
-use Rattle.prom_exporter.proofs.pages.write_families.Goals.{In_ok-push_family}
+use Rattle.prom_exporter.proofs.pages.write_families.Goals.{In-Some, In_ok-write_type_line, In_ok-write_rows}
 
--- the block of one more family waits
-pushed : (g : Over) (c : In_ok-push_family g) → IsSent (g.K.Sink.written c.args.sink.now) (g.K.Sink.written c.loop-name.sink) (string_bytes c.push_family.new.buffer)
-    (body_text (map (value_family c.args.family_type g.C.Shown.shown (labels_of c.args.globals.now.entries)) (map group_of (map deref_pair (c.loop-name.yielded ++ (c.in-Some.name, c.in-Some.members) ∷ [])))))
-pushed g c =
-    let shown = value_family c.args.family_type g.C.Shown.shown (labels_of c.args.globals.now.entries) in
-    let block = block_text (shown (group_of (deref_pair (c.in-Some.name, c.in-Some.members)))) in
-    let grown : string_bytes c.push_family.new.buffer ≡ string_bytes c.loop-name.buffer ++ block =
-    c.in_ok-push_family.ensures ∙ (λ j. string_bytes c.loop-name.buffer ++ block_text (shown (c.as_str.ensures.value j, map deref_pair (c.as_slice.ensures.value j)))) in
-    rw (grown, body-yielded_push shown group_of deref_pair c.loop-name.yielded (c.in-Some.name, c.in-Some.members)) (sent-append _ _ _ _ c.loop-name.invariant.sent block)
+-- all blocks: those so far, the type line, the rows and the end of one more, and those behind it
+whole : (g : Over) (c : In-Some g) (bytes : List ℕ) → (let block = kept_block g.C.Shown.shown c.args.family_type c.args.rows.now.heads c.args.series.now in
+    bytes ++ flat_map block c.args.rows.now.families
+    ≡ bytes ++ ((blocks block family_kept (map deref_pair c.loop-name.yielded)
+    ++ ((type_line_text (string_bytes c.in-Some.name.now) c.args.family_type ++ flat_map (row_at g.C.Shown.shown c.args.rows.now.heads c.args.series.now) c.in-Some.places.now.items) ++ line []))
+    ++ blocks block family_kept c.next.new.self))
+whole g c bytes =
+    let block = kept_block g.C.Shown.shown c.args.family_type c.args.rows.now.heads c.args.series.now in
+    ap (λ (r : RowsText). bytes ++ flat_map block r.families) (sym c.rows.view_is)
+    ∙ ap (λ l. bytes ++ l)
+    (blocks-yielded_more block family_kept deref_pair c.loop-name.yielded c.rows.inside.families.entries c.into_iter-name-iterator.result c.loop-name.name-iterator c.next.new.self (c.in-Some.name, c.in-Some.places) c.next.result
+    (c.into_iter-name-iterator.ensures.into_iter_gives ∙ c.iter-name-items.ensures.rest) c.loop-name.yielded_by c.in-Some.is c.next.ensures.steps)
 
-pub returns-in_err-push_family-clause-prefix : goal.returns-in_err-push_family-clause-prefix
-returns-in_err-push_family-clause-prefix g c =
+-- the type line waits
+typed : (g : Over) (c : In_ok-write_type_line g) (start : Option (List ℕ)) (bytes : List ℕ) → IsSent start (g.K.Sink.written c.args.sink.now) (string_bytes c.args.buffer.now) bytes
+    → IsSent start (g.K.Sink.written c.loop-name.sink) (string_bytes c.write_type_line.new.buffer)
+    ((bytes ++ blocks (kept_block g.C.Shown.shown c.args.family_type c.args.rows.now.heads c.args.series.now) family_kept (map deref_pair c.loop-name.yielded)) ++ type_line_text (string_bytes c.in-Some.name.now) c.args.family_type)
+typed g c start bytes waits =
+    let text = type_line_text (string_bytes c.in-Some.name.now) c.args.family_type in
+    let grown : string_bytes c.write_type_line.new.buffer ≡ string_bytes c.loop-name.buffer ++ text =
+    c.in_ok-write_type_line.ensures.ok ∙ (λ j. string_bytes c.loop-name.buffer ++ type_line (c.as_str.ensures.value j) None None (c.as_str-in-loop-name.ensures.text j)) in
+    rw grown (sent-append _ _ _ _ (c.loop-name.invariant.sent start bytes waits) text)
+
+-- the rows were sent or wait
+rowed : (g : Over) (c : In_ok-write_rows g) (start : Option (List ℕ)) (before : List ℕ) → IsSent start (g.K.Sink.written c.loop-name.sink) (string_bytes c.write_type_line.new.buffer) before
+    → IsSent start (g.K.Sink.written c.write_rows.new.sink) (string_bytes c.write_rows.new.buffer) (before ++ flat_map (row_at g.C.Shown.shown c.args.rows.now.heads c.args.series.now) c.in-Some.places.now.items)
+rowed g c start before waits =
+    let P : List ℕ → Type 0 = λ places. IsSent start (g.K.Sink.written c.write_rows.new.sink) (string_bytes c.write_rows.new.buffer) (before ++ flat_map (row_at g.C.Shown.shown c.args.rows.now.heads c.args.series.now) places) in
+    subst P c.as_slice.ensures.value (c.in_ok-write_rows.ensures.sent start before waits)
+
+pub returns-in_err-write_type_line-clause-prefix : goal.returns-in_err-write_type_line-clause-prefix
+returns-in_err-write_type_line-clause-prefix g c start bytes waits =
     let refusal = err_from_is_err_and c.from_residual.result c.from_residual.ensures.1 in
-    let cut = body-yielded (value_family c.args.family_type g.C.Shown.shown (labels_of c.args.globals.now.entries)) group_of deref_pair c.loop-name.yielded c.args.families.now.entries c.into_iter-name-iterator.result c.loop-name.name-iterator
-    (c.into_iter-name-iterator.ensures.into_iter_gives ∙ c.iter-name-items.ensures.rest) c.loop-name.yielded_by in
-    rw (refusal.1, cut) (sent_nothing _ _ _ _ c.loop-name.invariant.sent _)
+    rw (refusal.1, whole g (goal.at.returns-in_err-write_type_line-clause-prefix g c).In-Some bytes, before_block) (sent_nothing _ _ _ _ (c.loop-name.invariant.sent start bytes waits) _)
 
-pub returns-in_err-write_whole-clause-prefix : goal.returns-in_err-write_whole-clause-prefix
-returns-in_err-write_whole-clause-prefix g c =
-    let refusal = err_from_is_err_and c.from_residual-in_err-write_whole.result c.from_residual-in_err-write_whole.ensures.1 in
-    let cut = body-yielded_more (value_family c.args.family_type g.C.Shown.shown (labels_of c.args.globals.now.entries)) group_of deref_pair c.loop-name.yielded c.args.families.now.entries c.into_iter-name-iterator.result c.loop-name.name-iterator c.next.new.self
-    (c.in-Some.name, c.in-Some.members) c.next.result (c.into_iter-name-iterator.ensures.into_iter_gives ∙ c.iter-name-items.ensures.rest) c.loop-name.yielded_by c.in-Some.is c.next.ensures.steps in
-    rw (refusal.1, cut) (sent_prefix _ _ _ _ (pushed g (goal.at.returns-in_err-write_whole-clause-prefix g c).In_ok-push_family) _ (rw (← c.as_bytes.ensures.value) c.in_err-write_whole.ensures.prefix) _)
-
-pub loop-name-preserved-then-len-ge-PIECE : goal.loop-name-preserved-then-len-ge-PIECE
-loop-name-preserved-then-len-ge-PIECE g c = record {
-  sent = rw c.clear.ensures.bytes (sent-again _ _ _ _ (pushed g (goal.at.loop-name-preserved-then-len-ge-PIECE g c).In_ok-push_family) _ (rw (← c.as_bytes.ensures.value) c.in_ok-write_whole.ensures.whole));
-  never_falls = omega arith;
-}
+pub returns-in_err-write_rows-clause-prefix : goal.returns-in_err-write_rows-clause-prefix
+returns-in_err-write_rows-clause-prefix g c start bytes waits =
+    let refusal = err_from_is_err_and c.from_residual-in_err-write_rows.result c.from_residual-in_err-write_rows.ensures.1 in
+    let at = goal.at.returns-in_err-write_rows-clause-prefix g c in
+    let block = kept_block g.C.Shown.shown c.args.family_type c.args.rows.now.heads c.args.series.now in
+    let before = (bytes ++ blocks block family_kept (map deref_pair c.loop-name.yielded)) ++ type_line_text (string_bytes c.in-Some.name.now) c.args.family_type in
+    let row = row_at g.C.Shown.shown c.args.rows.now.heads c.args.series.now in
+    let P : List ℕ → Type 0 = λ places. GrewByPrefix start (g.K.Sink.written c.write_rows.new.sink) (before ++ flat_map row places) in
+    let cut = whole g at.In-Some bytes
+    ∙ before_end bytes (blocks block family_kept (map deref_pair c.loop-name.yielded)) (type_line_text (string_bytes c.in-Some.name.now) c.args.family_type) (flat_map row c.in-Some.places.now.items) (line []) (blocks block family_kept c.next.new.self) in
+    rw refusal.1 (prefix_of_more start (g.K.Sink.written c.write_rows.new.sink) _ _ _ cut
+    (subst P c.as_slice.ensures.value (c.in_err-write_rows.ensures.prefix start before (typed g at.In_ok-write_type_line start bytes waits))))
 
 pub loop-name-preserved : goal.loop-name-preserved
 loop-name-preserved g c = record {
-  sent = pushed g (goal.at.loop-name-preserved g c).In_ok-push_family;
-  never_falls = c.loop-name.invariant.never_falls;
+  sent = λ start bytes waits.
+      (let at = goal.at.loop-name-preserved g c in
+      let block = kept_block g.C.Shown.shown c.args.family_type c.args.rows.now.heads c.args.series.now in
+      let row = row_at g.C.Shown.shown c.args.rows.now.heads c.args.series.now in
+      let text = type_line_text (string_bytes c.in-Some.name.now) c.args.family_type in
+      let rows = rowed g at.In_ok-write_rows start _ (typed g at.In_ok-write_type_line start bytes waits) in
+      let is = whole_block bytes (blocks block family_kept (map deref_pair c.loop-name.yielded)) text (flat_map row c.in-Some.places.now.items) (line [])
+      ∙ ap (λ l. bytes ++ l) (sym (blocks-yielded_push block family_kept deref_pair c.loop-name.yielded (c.in-Some.name, c.in-Some.places))) in
+      rw (c.in_ok-end_block.ensures, ← is) (sent-append _ _ _ _ rows (line [])));
+  never_falls = omega arith;
 }
 
-pub returns-in_err-write_whole-2-clause-prefix : goal.returns-in_err-write_whole-2-clause-prefix
-returns-in_err-write_whole-2-clause-prefix g c =
-    let refusal = err_from_is_err_and c.from_residual-in_err-write_whole-2.result c.from_residual-in_err-write_whole-2.ensures.1 in
-    let cut = body-yielded (value_family c.args.family_type g.C.Shown.shown (labels_of c.args.globals.now.entries)) group_of deref_pair c.loop-name.yielded c.args.families.now.entries c.into_iter-name-iterator.result c.loop-name.name-iterator
-    (c.into_iter-name-iterator.ensures.into_iter_gives ∙ c.iter-name-items.ensures.rest) c.loop-name.yielded_by in
-    rw (refusal.1, cut) (sent_prefix _ _ _ _ c.loop-name.invariant.sent _ (rw (← c.as_bytes-2.ensures.value) c.in_err-write_whole-2.ensures.prefix) _)
-
-pub returns-clause-body : goal.returns-clause-body
-returns-clause-body g c =
-    let all = iter_end deref_pair c.args.families.now.entries c.loop-name.yielded c.into_iter-name-iterator.result c.loop-name.name-iterator c.next.new.self c.next.result
-    (c.into_iter-name-iterator.ensures.into_iter_gives ∙ c.iter-name-items.ensures.rest) c.loop-name.yielded_by c.in-None.is c.next.ensures.steps in
-    rw (← all.0) (sent_all _ _ _ _ c.loop-name.invariant.sent _ (rw (← c.as_bytes-2.ensures.value) c.in_ok-write_whole-2.ensures.whole))
+pub returns-in_err-end_block-clause-prefix : goal.returns-in_err-end_block-clause-prefix
+returns-in_err-end_block-clause-prefix g c start bytes waits =
+    let refusal = err_from_is_err_and c.from_residual-in_err-end_block.result c.from_residual-in_err-end_block.ensures.1 in
+    let at = goal.at.returns-in_err-end_block-clause-prefix g c in
+    let rows = rowed g at.In_ok-write_rows start _ (typed g at.In_ok-write_type_line start bytes waits) in
+    rw (refusal.1, whole g at.In-Some bytes, before_end) (sent_nothing _ _ _ _ rows _)

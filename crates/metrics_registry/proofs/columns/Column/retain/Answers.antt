@@ -26,7 +26,7 @@ loop-place-preserved g c =
       | then-ask w ↦ (
         c.ask.ensures.callable,
         kept-same g.F.FnMut c.args.keep ks0 ss0 (swap ks k i) c.if-ask.keys.keys (swap (set ss i t) k i) c.if-ask.self.items.items (suc k) c.if-ask.kept (suc i) (i + 1) c.ask.new.keep
-            (ap (λ l. l.keys) w.keys-is ∙ w.swap_indices.ensures.keys) (ap (λ l. l.items.items) w.self-is ∙ w.swap.ensures.items) (w.kept-is ∙ add-one k) (add-one i)
+            (ap (λ l. l.keys) w.keys-is ∙ w.move_up.ensures.keys) (ap (λ l. l.items.items) w.self-is ∙ w.move_up.ensures.items) (w.kept-is ∙ add-one k) (add-one i)
             (kept-true g.F.FnMut c.args.keep ks0 ss0 ks ss k i c.loop-place.keep c.requires.stored.beside so_far (get_or ks i none) s t key_at at c.ask.ensures.id c.ask.new.keep
             (subst (λ b. AskedAt g.F.FnMut c.loop-place.keep s.id s.cell b t.cell c.ask.new.keep) w.if-ask.true c.ask.ensures.asked)),
       )

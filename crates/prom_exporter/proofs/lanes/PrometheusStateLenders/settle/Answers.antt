@@ -1,4 +1,4 @@
-use Rattle.std.proofs.Common.{◌≡◌, ap, sym, subst}
+use Rattle.std.proofs.Common.{ap}
 use Rattle.prom_exporter.specs.LanePasses.{things_of, frame_of}
 use Rattle.prom_exporter.proofs.Home.{looks_on-home}
 use Rattle.prom_exporter.proofs.LaneThings.{all_home, all_settled}

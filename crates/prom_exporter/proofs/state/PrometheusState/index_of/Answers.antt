@@ -1,4 +1,4 @@
-use Rattle.std.proofs.Common.{◌+◌, ◌<◌, length, arith}
+use Rattle.std.proofs.Common.{arith}
 use Rattle.prom_exporter.specs.contracts.state.PrometheusState.{the_view}
 use Rattle.prom_exporter.proofs.LaneThings.{index_front, index_behind, no_index, id_within}
 use Rattle.prom_exporter.proofs.state.PrometheusState.index_of.Goals as goal

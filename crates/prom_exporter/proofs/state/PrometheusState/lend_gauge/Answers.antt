@@ -1,11 +1,12 @@
-use Rattle.std.proofs.Common.{◌≡◌, List, ◌+◌, ◌-◌, ◌^◌, ◌<◌, ◌≤◌, [], ◌∷◌, ◌++◌, None, Some, map, refl, sym, ap, subst, ◌∙◌, inl, inr, arith, true, false}
+use Rattle.std.proofs.Common.{Some, refl, sym, ap, ◌∙◌}
 use Rattle.std.proofs.lemmas.Result.{err_from_is_err_and}
-use Rattle.metrics_core.specs.Keys.{LabelText}
 use Rattle.prom_format.specs.LabelSets.{labels_of}
 use Rattle.metrics_registry.specs.Live.{with_cell}
-use Rattle.prom_exporter.specs.Exporter.{Exporter, Cells, settings_with}
+use Rattle.prom_exporter.specs.Exporter.{settings_with}
 use Rattle.prom_exporter.proofs.States.{kept}
 use Rattle.prom_exporter.proofs.Seen.{of_gauges}
+use Rattle.prom_exporter.specs.Rows.{rows_of}
+use Rattle.prom_exporter.proofs.KeptRows.{keys-with_cell}
 use Rattle.prom_exporter.proofs.state.PrometheusState.lend_gauge.Goals as goal
 
 pub returns-in_err-cell-clause-refused : goal.returns-in_err-cell-clause-refused
@@ -28,3 +29,15 @@ returns-clause-lent c =
       (record { id_is = refl; handle = c.from_arc.ensures ∙ ap Some c.in_ok-cell.ensures.lent.0; pass = c.in_ok-cell.ensures.lent.1; knows = c.in_ok-cell.ensures.lent.2 }, c.in_ok-cell.ensures.out),
       refl,
     )
+
+pub invariant_of-self-in_err-cell : goal.invariant_of-self-in_err-cell
+invariant_of-self-in_err-cell c = record {
+  gauges = c.self.invariant.gauges ∙ ap (rows_of (labels_of c.self.inside.globals.entries)) (sym (keys-with_cell c.args.id c.self.inside.series.gauges _));
+  counters = c.self.invariant.counters;
+}
+
+pub invariant_of-self-2 : goal.invariant_of-self-2
+invariant_of-self-2 c = record {
+  gauges = c.self.invariant.gauges ∙ ap (rows_of (labels_of c.self.inside.globals.entries)) (sym (keys-with_cell c.args.id c.self.inside.series.gauges _));
+  counters = c.self.invariant.counters;
+}

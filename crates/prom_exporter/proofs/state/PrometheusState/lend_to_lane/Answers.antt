@@ -1,9 +1,6 @@
-use Rattle.std.proofs.Common.{◌≡◌, ◌+◌, ◌-◌, ◌<◌, ◌≤◌, length, set, refl, sym, ap, subst, ◌∙◌, arith}
+use Rattle.std.proofs.Common.{◌≡◌, ◌-◌, ◌≤◌, length, set, refl, ap, subst, ◌∙◌, arith}
 use Rattle.std.proofs.lemmas.Result.{err_from_is_err_and}
-use Rattle.legal_history.specs.History.{lender}
-use Rattle.cell_lanes.specs.Things.{Thing}
-use Rattle.prom_exporter.specs.Exporter.{Cells}
-use Rattle.prom_exporter.specs.Shared.{Shared, with_one_out}
+use Rattle.prom_exporter.specs.Shared.{Shared}
 use Rattle.series_cells.specs.declared.counter.PromCounter.{PromCounter}
 use Rattle.series_cells.specs.declared.gauge.PromGauge.{PromGauge}
 use Rattle.prom_exporter.specs.contracts.state.PrometheusState.{the_view}
@@ -11,6 +8,7 @@ use Rattle.prom_exporter.proofs.LaneThings.{counter_frame, gauge_frame, things_i
 use Rattle.std.specs.Prelude.{option_map, slice_get, Some}
 use Rattle.metrics_registry.specs.Live.{LiveSeries}
 use Rattle.metrics_registry.specs.Places.{with_cell_at}
+use Rattle.prom_exporter.proofs.KeptRows.{keys-with_cell_at, kept_same}
 use Rattle.prom_exporter.proofs.state.PrometheusState.lend_to_lane.Goals as goal
 
 pub returns-in_err-counter-clause-refused : goal.returns-in_err-counter-clause-refused
@@ -65,3 +63,15 @@ returns-in_ok-counter-clause-frame c = rw (← c.self.view_is) (counter_frame (t
 
 pub returns-in_ok-gauge-clause-frame : goal.returns-in_ok-gauge-clause-frame
 returns-in_ok-gauge-clause-frame c = rw (← c.self.view_is) (gauge_frame (the_view c.self.inside) (c.args.index - c.counter_count-counters.result) c.gauge_at.result.now c.lend_to_lane-else-index-counters.new.self c.gauge_at.ensures.value (ap (λ (x : Shared PromGauge). x.cell) c.in_ok-gauge.ensures.out))
+
+pub invariant_of-self : goal.invariant_of-self
+invariant_of-self c = kept_same _ c.self.inside.series _ _ _ c.self.invariant (keys-with_cell_at c.self.inside.series.counters c.args.index c.lend_to_lane.new.self) refl
+
+pub invariant_of-self-then-index-counters : goal.invariant_of-self-then-index-counters
+invariant_of-self-then-index-counters c = kept_same _ c.self.inside.series _ _ _ c.self.invariant (keys-with_cell_at c.self.inside.series.counters c.args.index c.lend_to_lane.new.self) refl
+
+pub invariant_of-self-in_err-gauge : goal.invariant_of-self-in_err-gauge
+invariant_of-self-in_err-gauge c = kept_same _ c.self.inside.series _ _ _ c.self.invariant refl (keys-with_cell_at c.self.inside.series.gauges (c.args.index - c.counter_count-counters.result) c.lend_to_lane-else-index-counters.new.self)
+
+pub invariant_of-self-else-index-counters : goal.invariant_of-self-else-index-counters
+invariant_of-self-else-index-counters c = kept_same _ c.self.inside.series _ _ _ c.self.invariant refl (keys-with_cell_at c.self.inside.series.gauges (c.args.index - c.counter_count-counters.result) c.lend_to_lane-else-index-counters.new.self)

@@ -1,17 +1,15 @@
-use Rattle.std.proofs.Common.{◌≡◌, List, ◌+◌, ◌-◌, ◌^◌, ◌<◌, ◌≤◌, [], ◌∷◌, ◌++◌, None, Some, map, refl, sym, ap, subst, ◌∙◌, inl, inr, arith, true, false}
+use Rattle.std.proofs.Common.{◌≡◌, ◌+◌, [], ◌∷◌, ◌++◌, map, sym, ap, ◌∙◌, inr}
 use Rattle.std.proofs.lemmas.List.{map_push}
-use Rattle.metrics_core.specs.Keys.{LabelText}
 use Rattle.metrics_core.specs.declared.kinds.MetricKind.TheVariants.{Counter}
 use Rattle.prom_format.specs.LabelSets.{labels_of}
-use Rattle.metrics_registry.specs.Live.{LiveSeries}
+use Rattle.metrics_registry.specs.Live.{LiveSeries, with_last}
 use Rattle.series_cells.specs.declared.counter.PromCounter.{PromCounter}
 use Rattle.prom_exporter.specs.Shared.{Shared, unused}
-use Rattle.prom_exporter.specs.Exporter.{Exporter, Cells, settings_with, AddsCounter}
-use Rattle.prom_exporter.specs.contracts.state.PrometheusState.{the_view}
-use Rattle.prom_exporter.proofs.Home.{adds_counter-home}
-use Rattle.prom_exporter.specs.Values.{series_of, seen_series, seen_registry, state_of, state_seen}
+use Rattle.prom_exporter.specs.Exporter.{Cells, settings_with}
+use Rattle.prom_exporter.proofs.Home.{adds_counter-home, counter_added}
+use Rattle.prom_exporter.specs.Values.{series_of, seen_series, seen_registry, state_seen}
 use Rattle.prom_exporter.proofs.Seen.{id_of_key-seen, is_numbered-seen}
-use Rattle.prom_exporter.proofs.States.{new_series, register-live, id-live, number-new, register-full, register-new}
+use Rattle.prom_exporter.proofs.States.{register-live, id-live, number-new, register-new}
 use Rattle.prom_exporter.proofs.state.PrometheusState.register_counter.Goals as goal
 
 pub returns-in-Some-clause-registered : goal.returns-in-Some-clause-registered
@@ -39,19 +37,10 @@ returns-clause-registered c =
     let none = id_of_key-seen key series.counters ∙ sym c.in_default.ensures in
     let new : LiveSeries (Shared PromCounter) = record { id = record { kind = Counter; number = series.made }; key = key; cell = unused c.in_ok-cell.cell.cell } in
     let grown : state_seen c.add_counter.new.self ≡ state_seen (record series { counters = series.counters ++ new ∷ []; made = series.made + 1 }) =
-    ap state_seen (c.in-Ok.ensures.added ∙ (λ j. record series { counters = series.counters ++ record { id = c.in-Ok.ensures.id j; key = c.in_ok-key.ensures.same j; cell = c.in_ok-cell.ensures j } ∷ []; made = series.made + 1 })) in
+    ap state_seen (c.in-Ok.ensures.added ∙ (λ j. record series { counters = series.counters ++ record { id = c.in-Ok.ensures.id j; key = c.in_ok-clone.ensures.same j; cell = c.in_ok-cell.ensures j } ∷ []; made = series.made + 1 })) in
     let pushed = ap (λ l. record (state_seen series) { counters = l; made = series.made + 1 }) (ap (map series_of) (map_push seen_series series.counters new) ∙ map_push series_of (map seen_series series.counters) (seen_series new)) in
     let room = register-new Counter key (seen_registry series) none (λ full. c.if-number.false (c.made-number.ensures.made ∙ full)) in
     rw (← c.self.view_is) (grown ∙ pushed ∙ sym room)
-
-adds : (c : goal.In-Ok) → AddsCounter c.args.key.now c.args.self.now (the_view (record { globals = c.self.inside.globals; series = c.add_counter.new.self }))
-adds c =
-    let series = c.self.inside.series in
-    rw (← c.self.view_is) (
-      c.in_ok-cell.cell.cell,
-      ap (λ cells. record { settings = settings_with (labels_of c.self.inside.globals.entries); series = cells })
-          (c.in-Ok.ensures.added ∙ (λ j. record series { counters = series.counters ++ record { id = c.in-Ok.ensures.id j; key = c.in_ok-key.ensures.same j; cell = c.in_ok-cell.ensures j } ∷ []; made = series.made + 1 })),
-    )
 
 pub returns-clause-id : goal.returns-clause-id
 returns-clause-id c =
@@ -60,10 +49,22 @@ returns-clause-id c =
     rw (← c.self.view_is) (c.in-Ok.ensures.id ∙ ap (λ n. record { kind = Counter; number = n }) (sym (number-new Counter c.args.key.now (seen_registry series) none)))
 
 pub returns-clause-cells : goal.returns-clause-cells
-returns-clause-cells c = inr (adds c)
+returns-clause-cells c = inr (counter_added c.args.self.now (labels_of c.self.inside.globals.entries) c.self.inside.series c.add_counter.new.self c.args.key.now c.in_ok-clone.field-0 c.in-Ok.id c.in_ok-cell.cell c.self.view_is c.in-Ok.ensures.added c.in-Ok.ensures.id c.in_ok-clone.ensures.same c.in_ok-cell.ensures)
 
 pub returns-clause-home : goal.returns-clause-home
-returns-clause-home c = adds_counter-home c.args.key.now c.args.self.now _ (adds c)
+returns-clause-home c = adds_counter-home c.args.key.now c.args.self.now _ (counter_added c.args.self.now (labels_of c.self.inside.globals.entries) c.self.inside.series c.add_counter.new.self c.args.key.now c.in_ok-clone.field-0 c.in-Ok.id c.in_ok-cell.cell c.self.view_is c.in-Ok.ensures.added c.in-Ok.ensures.id c.in_ok-clone.ensures.same c.in_ok-cell.ensures)
 
 pub returns-in_default-add_counter-clause-home : goal.returns-in_default-add_counter-clause-home
 returns-in_default-add_counter-clause-home c = rw (c.in_default-add_counter.ensures.refused, ← c.self.view_is) (λ home. home)
+
+pub take_back_counter-requires : goal.take_back_counter-requires
+take_back_counter-requires c = (c.self.inside.series, (c.in_ok-clone.field-0, c.in_ok-cell.cell, c.made-number.ensures.numbered, c.in-Ok.ensures.added ∙ (λ j. record c.self.inside.series { counters = with_last c.self.inside.series.counters (c.in-Ok.ensures.id j) c.in_ok-clone.field-0 c.in_ok-cell.cell; made = c.self.inside.series.made + 1 })))
+
+pub invariant_of-self-in-Err : goal.invariant_of-self-in-Err
+invariant_of-self-in-Err c = rw (c.in-Err.ensures.refused, (c.take_back_counter.ensures c.self.inside.series (c.in_ok-clone.field-0, c.in_ok-cell.cell, c.made-number.ensures.numbered, c.in-Ok.ensures.added ∙ (λ j. record c.self.inside.series { counters = with_last c.self.inside.series.counters (c.in-Ok.ensures.id j) c.in_ok-clone.field-0 c.in_ok-cell.cell; made = c.self.inside.series.made + 1 })))) c.self.invariant
+
+pub returns-in-Err-clause-refused : goal.returns-in-Err-clause-refused
+returns-in-Err-clause-refused c = ap (λ (cells : Cells). record { settings = settings_with (labels_of c.self.inside.globals.entries); series = cells }) (c.take_back_counter.ensures c.self.inside.series (c.in_ok-clone.field-0, c.in_ok-cell.cell, c.made-number.ensures.numbered, c.in-Ok.ensures.added ∙ (λ j. record c.self.inside.series { counters = with_last c.self.inside.series.counters (c.in-Ok.ensures.id j) c.in_ok-clone.field-0 c.in_ok-cell.cell; made = c.self.inside.series.made + 1 }))) ∙ c.self.view_is
+
+pub returns-in-Err-clause-home : goal.returns-in-Err-clause-home
+returns-in-Err-clause-home c = rw ((c.take_back_counter.ensures c.self.inside.series (c.in_ok-clone.field-0, c.in_ok-cell.cell, c.made-number.ensures.numbered, c.in-Ok.ensures.added ∙ (λ j. record c.self.inside.series { counters = with_last c.self.inside.series.counters (c.in-Ok.ensures.id j) c.in_ok-clone.field-0 c.in_ok-cell.cell; made = c.self.inside.series.made + 1 }))), ← c.self.view_is) (λ home. home)

@@ -2,20 +2,15 @@ use Rattle.std.proofs.Common.{◌≡◌, ◌-◌, ◌≤◌, ◌<◌, length, re
 use Rattle.std.specs.Prelude.{option_map, slice_get, Some}
 use mathlib.Core.Option.{some}
 use lib.ListN.{get_elem?}
-use Rattle.cell_lanes.specs.Things.{Thing}
 use Rattle.metrics_registry.specs.Live.{LiveSeries}
 use Rattle.metrics_registry.specs.Places.{with_cell_at}
-use Rattle.series_cells.specs.declared.counter.PromCounter.{PromCounter}
 use Rattle.series_cells.specs.declared.gauge.PromGauge.{PromGauge}
-use Rattle.metrics_core.specs.declared.calls.SeriesCall.{SeriesCall}
-use Rattle.prom_exporter.specs.declared.lanes.LanePass.{LanePass}
-use Rattle.prom_exporter.specs.declared.lanes.LanePass.TheVariants as passes
-use Rattle.prom_exporter.specs.declared.lanes.SeriesCell.{SeriesCell}
 use Rattle.prom_exporter.specs.declared.lanes.SeriesCell.TheVariants as cells
 use Rattle.prom_exporter.specs.Shared.{Shared}
 use Rattle.prom_exporter.specs.LanePasses.{IsPassOf, things_of}
 use Rattle.prom_exporter.specs.contracts.state.PrometheusState.{the_view}
 use Rattle.prom_exporter.proofs.LaneThings.{counter_frame, gauge_frame, things_in, of_counter, of_gauge, counter_here, counter_put, counter_found, gauge_here, gauge_put, gauge_found, is_one, took_back}
+use Rattle.prom_exporter.proofs.KeptRows.{keys-with_cell_at, kept_same}
 use Rattle.prom_exporter.proofs.state.PrometheusState.take_from_lane.Goals as goal
 
 pub take_from_lane-requires-clause-lent : goal.take_from_lane-requires-clause-lent
@@ -80,3 +75,10 @@ returns-else-index-counters-2 c =
     let found = counter_found series c.args.index below in
     let lent = c.requires.lent (of_counter found.0) (subst (λ e. get_elem? (things_of e) c.args.index ≡ some (of_counter found.0)) c.self.view_is found.1) in
     absurd (subst (IsPassOf (cells.Counter found.0.cell)) c.in-Gauge.is lent)
+
+pub invariant_of-self : goal.invariant_of-self
+invariant_of-self c = kept_same _ c.self.inside.series _ _ _ c.self.invariant (keys-with_cell_at c.self.inside.series.counters c.args.index c.take_from_lane.new.self) refl
+
+pub invariant_of-self-then-index-counters-2 : goal.invariant_of-self-then-index-counters-2
+invariant_of-self-then-index-counters-2 c =
+    kept_same _ c.self.inside.series _ _ _ c.self.invariant refl (keys-with_cell_at c.self.inside.series.gauges (c.args.index - c.counter_count-counters.result) c.take_from_lane-then-index-counters-2.new.self)

@@ -1,0 +1,187 @@
+-- What is kept for rows: one more series, what leaves it as it is, and the text that it makes.
+use Rattle.std.proofs.Common.{◌≡◌, ℕ, zero, suc, ◌+◌, Bool, true, false, cond, List, [], ◌∷◌, ◌++◌, map, length, Some, refl, sym, ap, ◌∙◌, arith, add-zero, zero-add}
+use Rattle.std.specs.Prelude.{slice_get, option_map, flat_map, ℤ, bytes_eq}
+use Rattle.std.specs.List.{AllZip, enumerate_from}
+use Rattle.std.proofs.lemmas.List.{map-append}
+use Rattle.std.proofs.lemmas.Option.{slice_get-map}
+use Rattle.std.proofs.lemmas.Slice.Eq.{bytes_eq-Decides}
+use Rattle.metrics_core.specs.Keys.{KeyText, LabelText}
+use Rattle.metrics_core.specs.declared.kinds.SeriesId.{SeriesId}
+use Rattle.metrics_registry.specs.Live.{LiveSeries, has_id, with_cell}
+use Rattle.metrics_registry.specs.Places.{with_cell_at}
+use Rattle.prom_format.specs.Names.{sanitized_metric_name}
+use Rattle.metrics_core.specs.Characters.{line}
+use Rattle.prom_format.specs.Pages.{row_text, body_text, type_line_text}
+use Rattle.prom_format.specs.declared.families.FamilyType.{FamilyType}
+use Rattle.prom_exporter.specs.Exporter.{Cells, SeriesLooks}
+use Rattle.prom_exporter.specs.Kept.{IsKept}
+use Rattle.prom_exporter.specs.Families.{distinct}
+use Rattle.prom_exporter.specs.Shared.{Shared}
+use Rattle.prom_exporter.specs.Rows.{RowsText, head_of, name_at, places_of, rows_of, keys_of, row_at, kept_block}
+use Rattle.prom_exporter.specs.Values.{named, grouped, with_member, member_of, metric_name, value_row, value_family, value_families}
+use Rattle.prom_exporter.proofs.Groups.{grouped-push}
+
+-- ---- one more series
+
+enumerate-push : {X : Type 0} (n : ℕ) (xs : List X) (x : X) → enumerate_from n (xs ++ x ∷ []) ≡ enumerate_from n xs ++ (n + length xs, x) ∷ []
+enumerate-push n [] x = ap (λ m. (m, x) ∷ []) (sym (add-zero n))
+enumerate-push n (y ∷ xs) x =
+    let later : n + 1 + length xs ≡ n + length (y ∷ xs) = omega arith in
+    ap (λ l. (n, y) ∷ l) (enumerate-push (n + 1) xs x ∙ ap (λ m. enumerate_from (n + 1) xs ++ (m, x) ∷ []) later)
+
+module _ {X : Type 0} where
+  places_step : (g : List ℕ × List (ℕ × X)) (gs : List (List ℕ × List (ℕ × X))) (n : List ℕ) (p : ℕ × X) (b : Bool) → bytes_eq n g.0 ≡ b
+      → map places_of (with_member gs n p) ≡ with_member (map places_of gs) n p.0 → map places_of (with_member (g ∷ gs) n p) ≡ with_member (map places_of (g ∷ gs)) n p.0
+  places_step g gs n p true is rest = rw is (ap (λ l. (g.0, l) ∷ map places_of gs) (map-append (λ placed. placed.0) g.1 (p ∷ [])))
+  places_step g gs n p false is rest = rw is (ap (λ l. places_of g ∷ l) rest)
+
+  places-with_member : (gs : List (List ℕ × List (ℕ × X))) (n : List ℕ) (p : ℕ × X) → map places_of (with_member gs n p) ≡ with_member (map places_of gs) n p.0
+  places-with_member [] n p = refl
+  places-with_member (g ∷ gs) n p = places_step g gs n p (bytes_eq n g.0) refl (places-with_member gs n p)
+
+pub rows-push : (globals : List LabelText) (keys : List KeyText) (key : KeyText) → rows_of globals (keys ++ key ∷ []) ≡ record {
+  heads = map (head_of globals) keys ++ head_of globals key ∷ [];
+  families = with_member (map places_of (grouped name_at (enumerate_from 0 keys))) (sanitized_metric_name key.name) (length keys);
+}
+rows-push globals keys key =
+    let groups = grouped name_at (enumerate_from 0 keys) in
+    let grown = ap (λ l. map places_of (grouped name_at l)) (enumerate-push 0 keys key)
+    ∙ ap (map places_of) (grouped-push name_at (enumerate_from 0 keys) (0 + length keys, key))
+    ∙ places-with_member groups (sanitized_metric_name key.name) (0 + length keys, key)
+    ∙ ap (λ n. with_member (map places_of groups) (sanitized_metric_name key.name) n) (zero-add (length keys)) in
+    (λ j. record { heads = map-append (head_of globals) keys (key ∷ []) j; families = grown j })
+
+-- ---- what leaves the keys as they are
+
+module _ {X : Type 0} where
+  pub keys-with_cell : (id : SeriesId) (live : List (LiveSeries X)) (cell : X) → keys_of (with_cell id live cell) ≡ keys_of live
+  keys-with_cell id [] cell = refl
+  keys-with_cell id (s ∷ live) cell =
+      elim (has_id id s) as (λ b. (cond b (record s { cell = cell }) s).key ∷ keys_of (with_cell id live cell) ≡ s.key ∷ keys_of live) [
+        | true ↦ ap (λ l. s.key ∷ l) (keys-with_cell id live cell)
+        | false ↦ ap (λ l. s.key ∷ l) (keys-with_cell id live cell)
+      ]
+
+  pub keys-with_cell_at : (live : List (LiveSeries X)) (place : ℕ) (cell : X) → keys_of (with_cell_at live place cell) ≡ keys_of live
+  keys-with_cell_at [] place cell = refl
+  keys-with_cell_at (s ∷ live) zero cell = refl
+  keys-with_cell_at (s ∷ live) (suc place) cell = ap (λ l. s.key ∷ l) (keys-with_cell_at live place cell)
+
+pub keys-looks : {F : Type 0} (old new : List (LiveSeries (Shared F))) → AllZip SeriesLooks old new → keys_of new ≡ keys_of old
+keys-looks [] [] looks = refl
+keys-looks [] (t ∷ new) looks = absurd looks
+keys-looks (s ∷ old) [] looks = absurd looks
+keys-looks (s ∷ old) (t ∷ new) looks = (λ j. looks.0.1 j ∷ keys-looks old new looks.1 j)
+
+-- what is kept fits as long as the keys stay
+pub kept_same : (globals : List LabelText) (old new : Cells) (counters gauges : RowsText) → IsKept globals old counters gauges → keys_of new.counters ≡ keys_of old.counters → keys_of new.gauges ≡ keys_of old.gauges → IsKept globals new counters gauges
+kept_same globals old new counters gauges kept same also = record {
+  counters = kept.counters ∙ ap (rows_of globals) (sym same);
+  gauges = kept.gauges ∙ ap (rows_of globals) (sym also);
+}
+
+-- ---- groups of things that stand for others
+
+module _ {X Y : Type 0} (name_of : Y → List ℕ) (g : X → Y) where
+  abbrev stood : List ℕ × List X → List ℕ × List Y
+  stood group = (group.0, map g group.1)
+
+  named_step : (x : X) (xs : List X) (n : List ℕ) (b : Bool) → bytes_eq (name_of (g x)) n ≡ b → named name_of (map g xs) n ≡ map g (named (λ y. name_of (g y)) xs n)
+      → named name_of (map g (x ∷ xs)) n ≡ map g (named (λ y. name_of (g y)) (x ∷ xs) n)
+  named_step x xs n true is rest = rw is (ap (λ l. g x ∷ l) rest)
+  named_step x xs n false is rest = rw is rest
+
+  named-map : (xs : List X) (n : List ℕ) → named name_of (map g xs) n ≡ map g (named (λ x. name_of (g x)) xs n)
+  named-map [] n = refl
+  named-map (x ∷ xs) n = named_step x xs n (bytes_eq (name_of (g x)) n) refl (named-map xs n)
+
+  names-map : (xs : List X) → map name_of (map g xs) ≡ map (λ x. name_of (g x)) xs
+  names-map [] = refl
+  names-map (x ∷ xs) = ap (λ l. name_of (g x) ∷ l) (names-map xs)
+
+  gathered-map : (xs : List X) (ns : List (List ℕ)) → map (λ n. (n, named name_of (map g xs) n)) ns ≡ map stood (map (λ n. (n, named (λ x. name_of (g x)) xs n)) ns)
+  gathered-map xs [] = refl
+  gathered-map xs (n ∷ ns) = (λ j. (n, named-map xs n j) ∷ gathered-map xs ns j)
+
+  pub grouped-map : (xs : List X) → grouped name_of (map g xs) ≡ map stood (grouped (λ x. name_of (g x)) xs)
+  grouped-map xs = ap (λ ns. map (λ n. (n, named name_of (map g xs) n)) (distinct ns)) (names-map xs) ∙ gathered-map xs (distinct (map (λ x. name_of (g x)) xs))
+
+-- ---- the text that is made of what is kept
+
+module _ {X : Type 0} where
+  -- a series with its place, as its key and as a member of a family
+  abbrev placed_key : ℕ × LiveSeries X → ℕ × KeyText
+  placed_key p = (p.0, p.1.key)
+
+  abbrev placed_member : ℕ × LiveSeries X → KeyText × X
+  placed_member p = member_of p.1
+
+  abbrev placed_name : ℕ × LiveSeries X → List ℕ
+  placed_name p = sanitized_metric_name p.1.key.name
+
+  keys-placed : (n : ℕ) (live : List (LiveSeries X)) → enumerate_from n (keys_of live) ≡ map placed_key (enumerate_from n live)
+  keys-placed n [] = refl
+  keys-placed n (s ∷ live) = ap (λ l. (n, s.key) ∷ l) (keys-placed (n + 1) live)
+
+  members-placed : (n : ℕ) (live : List (LiveSeries X)) → map member_of live ≡ map placed_member (enumerate_from n live)
+  members-placed n [] = refl
+  members-placed n (s ∷ live) = ap (λ l. member_of s ∷ l) (members-placed (n + 1) live)
+
+  first-placed : (ms : List (ℕ × LiveSeries X)) → map (λ placed. placed.0) (map placed_key ms) ≡ map (λ placed. placed.0) ms
+  first-placed [] = refl
+  first-placed (m ∷ ms) = ap (λ l. m.0 ∷ l) (first-placed ms)
+
+  places-placed : (gs : List (List ℕ × List (ℕ × LiveSeries X))) → map places_of (map (stood name_at placed_key) gs) ≡ map places_of gs
+  places-placed [] = refl
+  places-placed (g ∷ gs) = (λ j. (g.0, first-placed g.1 j) ∷ places-placed gs j)
+
+  module _ (shown : X → ℤ) (globals : List LabelText) (type : FamilyType) (live : List (LiveSeries X)) where
+    abbrev heads : List (List ℕ)
+    heads = map (head_of globals) (keys_of live)
+
+    abbrev all_placed : List (ℕ × LiveSeries X)
+    all_placed = enumerate_from 0 live
+
+    row-here : (k : ℕ) (s : LiveSeries X) → slice_get live k ≡ Some s → row_at shown heads live k ≡ row_text (value_row shown globals (sanitized_metric_name s.key.name) (member_of s))
+    row-here k s at =
+        let head : slice_get heads k ≡ Some (head_of globals s.key) =
+        slice_get-map (head_of globals) (keys_of live) k ∙ ap (option_map (head_of globals)) (slice_get-map (λ (series : LiveSeries X). series.key) live k ∙ ap (option_map (λ (series : LiveSeries X). series.key)) at) in
+        rw (head, at) refl
+
+    -- these series stand behind the first k
+    abbrev StandBehind : ℕ → List (LiveSeries X) → Type 0
+    StandBehind k xs = (j : ℕ) → slice_get live (k + j) ≡ slice_get xs j
+
+    rows_step : (n : List ℕ) (k : ℕ) (x : LiveSeries X) (xs : List (LiveSeries X)) (b : Bool) → bytes_eq (sanitized_metric_name x.key.name) n ≡ b → slice_get live k ≡ Some x
+        → flat_map (row_at shown heads live) (map (λ placed. placed.0) (named placed_name (enumerate_from (k + 1) xs) n)) ≡ flat_map row_text (map (value_row shown globals n) (map placed_member (named placed_name (enumerate_from (k + 1) xs) n)))
+        → flat_map (row_at shown heads live) (map (λ placed. placed.0) (named placed_name (enumerate_from k (x ∷ xs)) n)) ≡ flat_map row_text (map (value_row shown globals n) (map placed_member (named placed_name (enumerate_from k (x ∷ xs)) n)))
+    rows_step n k x xs true is at rest =
+        let same : sanitized_metric_name x.key.name ≡ n = (bytes_eq-Decides (sanitized_metric_name x.key.name) n).0 is in
+        let row = row-here k x at ∙ ap (λ m. row_text (value_row shown globals m (member_of x))) same in
+        rw is (λ j. row j ++ rest j)
+    rows_step n k x xs false is at rest = rw is rest
+
+    rows-named : (n : List ℕ) (k : ℕ) (xs : List (LiveSeries X)) → StandBehind k xs
+        → flat_map (row_at shown heads live) (map (λ placed. placed.0) (named placed_name (enumerate_from k xs) n)) ≡ flat_map row_text (map (value_row shown globals n) (map placed_member (named placed_name (enumerate_from k xs) n)))
+    rows-named n k [] behind = refl
+    rows-named n k (x ∷ xs) behind =
+        let here : slice_get live k ≡ Some x = ap (slice_get live) (sym (add-zero k)) ∙ behind 0 in
+        let later : StandBehind (k + 1) xs = λ j. ap (slice_get live) (let e : k + 1 + j ≡ k + suc j = omega arith in e) ∙ behind (suc j) in
+        rows_step n k x xs (bytes_eq (sanitized_metric_name x.key.name) n) refl here (rows-named n (k + 1) xs later)
+
+    blocks-named : (ns : List (List ℕ))
+        → flat_map (kept_block shown type heads live) (map places_of (map (λ n. (n, named placed_name all_placed n)) ns))
+        ≡ body_text (map (value_family type shown globals) (map (stood metric_name placed_member) (map (λ n. (n, named placed_name all_placed n)) ns)))
+    blocks-named [] = refl
+    blocks-named (n ∷ ns) =
+        let rows = rows-named n 0 live (λ j. ap (slice_get live) (zero-add j)) in
+        (λ j. (type_line_text n type ++ rows j ++ line []) ++ blocks-named ns j)
+
+    -- the blocks are those of the families of the series
+    pub blocks-kept : flat_map (kept_block shown type heads live) (rows_of globals (keys_of live)).families ≡ body_text (value_families type shown globals live)
+    blocks-kept =
+        ap (λ l. flat_map (kept_block shown type heads live) (map places_of (grouped name_at l))) (keys-placed 0 live)
+        ∙ ap (λ gs. flat_map (kept_block shown type heads live) (map places_of gs)) (grouped-map name_at placed_key all_placed)
+        ∙ ap (flat_map (kept_block shown type heads live)) (places-placed (grouped placed_name all_placed))
+        ∙ blocks-named (distinct (map placed_name all_placed))
+        ∙ sym (ap (λ gs. body_text (map (value_family type shown globals) gs)) (ap (grouped metric_name) (members-placed 0 live) ∙ grouped-map metric_name placed_member all_placed))
