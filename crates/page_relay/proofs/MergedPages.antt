@@ -1,6 +1,6 @@
 -- Which lists of families merge, and that what they become can stand on a page.
-use Rattle.std.proofs.Common.{◌≡◌, ℕ, zero, suc, ◌+◌, ◌<◌, Bool, true, false, List, [], ◌∷◌, ◌++◌, length, get_or, map, refl, sym, ap, subst, ◌∙◌, append_assoc, append-nil, arith, length-append}
-use Rattle.std.specs.Prelude.{ℤ, pos, Option, Some, None, IfSome, filter, flat_map, bytes_eq, codes, decimal, All, AllPairs, IsUtf8}
+use Rattle.std.proofs.Common.{◌≡◌, ℕ, zero, suc, ◌+◌, ◌<◌, Bool, true, false, List, [], ◌∷◌, ◌++◌, length, drop, get_or, refl, sym, ap, subst, ◌∙◌, append_assoc, append-nil, arith, length-append}
+use Rattle.std.specs.Prelude.{Option, Some, None, IfSome, filter, flat_map, bytes_eq, codes, decimal, All, AllPairs, IsUtf8}
 use Rattle.std.specs.List.{list_any}
 use Rattle.std.specs.Int.{w128}
 use Rattle.std.specs.Int.RustNames.{FitsSigned}
@@ -9,7 +9,7 @@ use Rattle.std.proofs.lemmas.List.{get_or_append_left, length-map}
 use Rattle.std.proofs.lemmas.List.Elements.{All-head, All-tail, All-cons, All-nil, All-append, All-map, filter-append}
 use Rattle.prom_format.specs.Pages.{Row, Family}
 use Rattle.prom_format.specs.declared.families.FamilyType.{FamilyType}
-use Rattle.page_relay.specs.Merge.{Numbered, NumberedRow, numbered, first_help, first_of, has_name, is_kept, is_same, numbered_from, on_page, merged, merged_family, merged_row, merged_rows_behind, rows_named, rows_of, same_row, sum_of, with_page, SumFits, SumsFit, SumsFitBehind, SameType, Merges, IsMerged, IsConflict}
+use Rattle.page_relay.specs.Merge.{Numbered, NumberedRow, numbered, first_help, first_of, has_name, is_kept, is_same, numbered_from, on_page, merged, merged_family, merged_row, merged_rows_behind, rows_named, rows_of, same_row, sum_of, with_page, SumsFit, SumsFitBehind, SameType, Merges, IsMerged, IsConflict}
 use Rattle.page_relay.specs.Gathering.{firsts}
 use Rattle.prom_format.specs.Pages.{page_text}
 use Rattle.page_relay.specs.Reading.{IsReadableLabel}
@@ -49,6 +49,39 @@ pub conflict_refuses : (pages : List (List Family)) (page : ℕ) (name : List �
 conflict_refuses pages page name families conflict merged =
     let whole = conflict.split ∙ sym (append_assoc conflict.before (record { page = page; family = conflict.family } ∷ []) conflict.behind) in
     conflict.refused (merges_before (conflict.before ++ record { page = page; family = conflict.family } ∷ []) conflict.behind (subst Merges whole merged.merges))
+
+-- two elements of a list, each with what stands before it: they are the same one, or one stands before the other
+data Splits (a : List Numbered) (x : Numbered) (b : List Numbered) (y : Numbered) : Type 0 where
+  equal : a ≡ b → x ≡ y → Splits a x b y
+  former : (rest : List Numbered) → b ≡ a ++ x ∷ rest → Splits a x b y
+  latter : (rest : List Numbered) → a ≡ b ++ y ∷ rest → Splits a x b y
+
+splits : (a b : List Numbered) (x y : Numbered) (c d : List Numbered) → a ++ x ∷ c ≡ b ++ y ∷ d → Splits a x b y
+splits [] [] x y c d e = let first : x ≡ y = cc in equal refl first
+splits [] (z ∷ b) x y c d e = let first : x ≡ z = cc in former b (ap (λ w. w ∷ b) (sym first))
+splits (z ∷ a) [] x y c d e = let first : z ≡ y = cc in latter a (ap (λ w. w ∷ a) first)
+splits (z ∷ a) (w ∷ b) x y c d e =
+    let first : z ≡ w = cc in
+    further z a w b x y first (splits a b x y c d (ap (drop 1) e))
+  where
+    further : (z : Numbered) (a : List Numbered) (w : Numbered) (b : List Numbered) (x y : Numbered) → z ≡ w → Splits a x b y → Splits (z ∷ a) x (w ∷ b) y
+    further z a w b x y first (equal before here) = equal (λ j. first j ∷ before j) here
+    further z a w b x y first (former rest is) = former rest (λ j. sym first j ∷ is j)
+    further z a w b x y first (latter rest is) = latter rest (λ j. first j ∷ is j)
+
+-- a list that begins with one that doesn't merge doesn't merge
+no_longer : (a : List Numbered) (x : Numbered) (rest b : List Numbered) → ¬ Merges (a ++ x ∷ []) → Merges b → b ≡ a ++ x ∷ rest → ⊥
+no_longer a x rest b refused merges is = refused (merges_before (a ++ x ∷ []) rest (subst Merges (is ∙ sym (append_assoc a (x ∷ []) rest)) merges))
+
+-- pages have one conflict at most
+pub one_conflict : (pages : List (List Family)) (p q : ℕ) (n m : List ℕ) → IsConflict pages p n → IsConflict pages q m → (p ≡ q) × (n ≡ m)
+one_conflict pages p q n m h k =
+    by (splits h.before k.before (record { page = p; family = h.family }) (record { page = q; family = k.family }) h.behind k.behind (sym h.split ∙ k.split))
+  where
+    by : Splits h.before (record { page = p; family = h.family }) k.before (record { page = q; family = k.family }) → (p ≡ q) × (n ≡ m)
+    by (equal before here) = (ap (λ (x : Numbered). x.page) here, h.named ∙ ap (λ (x : Numbered). x.family.name) here ∙ sym k.named)
+    by (former rest is) = absurd (no_longer h.before (record { page = p; family = h.family }) rest k.before h.refused k.merges_before is)
+    by (latter rest is) = absurd (no_longer k.before (record { page = q; family = k.family }) rest h.before k.refused h.merges_before is)
 
 -- ---- rows of a page that pages become
 

@@ -1,10 +1,8 @@
 -- Families that can be read from a page that is UTF-8: a page of them can be relayed, and a page that can be relayed is one of them.
-use Rattle.std.proofs.Common.{◌≡◌, ℕ, zero, suc, ◌<◌, ◌/◌, ◌%◌, ◌==◌, Bool, true, false, List, [], ◌∷◌, ◌++◌, length, get_or, map, refl, sym, ap, subst, ◌∙◌, append_assoc, arith}
+use Rattle.std.proofs.Common.{ℕ, zero, suc, ◌<◌, ◌/◌, ◌%◌, ◌==◌, Bool, true, false, List, [], ◌∷◌, ◌++◌, length, refl, sym, ap, subst, ◌∙◌, append_assoc, arith}
 use Rattle.std.specs.Prelude.{Option, Some, None, IfSome, codes, decimal, flat_map, All, IsUtf8, IsAscii, if◌then◌else◌}
 use Rattle.std.specs.Fmt.{digits}
 use Rattle.std.specs.Fmt.{digits_onto, digit_glyph}
-use Rattle.std.specs.Int.{w128}
-use Rattle.std.specs.Int.RustNames.{FitsSigned}
 use Rattle.std.proofs.lemmas.List.Elements.{All-head, All-tail, All-cons, All-nil}
 use Rattle.std.proofs.lemmas.Str.{IsUtf8-nil, IsUtf8-append, IsUtf8-from_ascii}
 use Rattle.metrics_core.specs.Characters.{newline, line}
@@ -12,7 +10,7 @@ use Rattle.metrics_core.specs.Keys.{LabelText}
 use Rattle.metrics_core.specs.Numbers.{page_number}
 use Rattle.prom_format.specs.Names.{IsMetricName}
 use Rattle.prom_format.specs.Printed.{escaped_label_value, escaped_description}
-use Rattle.prom_format.specs.Pages.{Row, Family, IsPage, label_text, labels_text, label_set_text, type_text, block_text, body_text, page_text, IsPrintable, IsPrintableRow, HasValuesInRange, AreInRange}
+use Rattle.prom_format.specs.Pages.{Row, Family, label_text, labels_text, label_set_text, type_text, block_text, body_text, page_text, IsPrintable, IsPrintableRow, HasValuesInRange, AreInRange}
 use Rattle.prom_format.specs.declared.families.FamilyType.{FamilyType}
 use Rattle.prom_format.specs.declared.families.FamilyType.TheVariants.{Counter, Gauge, Histogram, Summary}
 use Rattle.prom_format.proofs.PageText.{page_is, page_read}

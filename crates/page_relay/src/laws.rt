@@ -18,10 +18,12 @@ pub fn one_first_bad_line()
         → IsFirstBadLine bytes l → ¬ IsStream bytes pages }
 {}
 
-/// Pages that have a conflict don't merge.
+/// Pages that have a conflict don't merge, and they have one conflict at most.
 pub fn conflicts_refuse()
-    ensures { (pages : List (List Family)) (page : ℕ) (name : List ℕ) (families : List Family)
+    ensures no_merge { (pages : List (List Family)) (page : ℕ) (name : List ℕ) (families : List Family)
         → IsConflict pages page name → ¬ IsMerged pages families }
+    ensures same { (pages : List (List Family)) (p q : ℕ) (n m : List ℕ)
+        → IsConflict pages p n → IsConflict pages q m → (p ≡ q) × (n ≡ m) }
 {}
 
 /// What the pages of a stream become is a page that can stand in a stream itself.
