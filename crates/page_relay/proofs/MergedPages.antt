@@ -45,8 +45,8 @@ merges_before a b merges = record {
 }
 
 -- pages with a conflict don't merge
-pub conflict_refuses : (pages : List (List Family)) (page : ℕ) (name : List ℕ) (families : List Family) → IsConflict pages page name → IsMerged pages families → ⊥
-conflict_refuses pages page name families conflict merged =
+pub conflict_refuses : (pages : List (List Family)) (page : ℕ) (name : List ℕ) → IsConflict pages page name → (families : List Family) → IsMerged pages families → ⊥
+conflict_refuses pages page name conflict families merged =
     let whole = conflict.split ∙ sym (append_assoc conflict.before (record { page = page; family = conflict.family } ∷ []) conflict.behind) in
     conflict.refused (merges_before (conflict.before ++ record { page = page; family = conflict.family } ∷ []) conflict.behind (subst Merges whole merged.merges))
 

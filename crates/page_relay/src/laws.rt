@@ -20,8 +20,8 @@ pub fn one_first_bad_line()
 
 /// Pages that have a conflict don't merge, and they have one conflict at most.
 pub fn conflicts_refuse()
-    ensures no_merge { (pages : List (List Family)) (page : ℕ) (name : List ℕ) (families : List Family)
-        → IsConflict pages page name → ¬ IsMerged pages families }
+    ensures no_merge { (pages : List (List Family)) (page : ℕ) (name : List ℕ)
+        → IsConflict pages page name → (families : List Family) → ¬ IsMerged pages families }
     ensures same { (pages : List (List Family)) (p q : ℕ) (n m : List ℕ)
         → IsConflict pages p n → IsConflict pages q m → (p ≡ q) × (n ≡ m) }
 {}
@@ -29,5 +29,6 @@ pub fn conflicts_refuse()
 /// What the pages of a stream become is a page that can stand in a stream itself.
 pub fn merged_pages_stand()
     ensures { (bytes : List ℕ) (pages : List (List Family)) (families : List Family)
-        → IsStream bytes pages → IsMerged pages families → IsRelayPage (page_text families) families }
+        → IsStream bytes pages → IsMerged pages families
+        → IsRelayPage (page_text families) families }
 {}

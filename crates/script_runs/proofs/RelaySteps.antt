@@ -1,7 +1,9 @@
 -- From the parts of a relay to what a run of it says as a whole.
-use Rattle.std.proofs.Common.{◌≡◌, ℕ, ◌≤◌, ◌⊎◌, inl, inr, List, length, refl, sym, subst, arith}
-use Rattle.std.specs.Prelude.{All, Option, Some, None, IfSome, string_bytes}
-use Rattle.metrics_core.specs.Characters.{line}
+use Rattle.std.proofs.Common.{◌≡◌, ℕ, ◌⊎◌, inl, inr, List, [], ◌∷◌, ◌++◌, refl, sym, ap, subst, ◌∙◌, append_assoc, arith}
+use Rattle.std.specs.Prelude.{All, Option, Some, None, IfSome, codes, decimal, string_bytes}
+use Rattle.std.specs.declared.alloc.Global.{Global}
+use Rattle.std.specs.declared.string.String.{String}
+use Rattle.metrics_core.specs.Characters.{line, newline}
 use Rattle.metrics_core.specs.Outside.{GrewBy, GrewByPrefix}
 use Rattle.drive_script.specs.Faults.{fault_text}
 use Rattle.drive_script.specs.declared.faults.DriveFault.{DriveFault}
@@ -9,13 +11,13 @@ use Rattle.drive_script.specs.declared.faults.DriveFault.TheVariants as faults
 use Rattle.prom_format.specs.Pages.{Family, IsPrintable, page_text}
 use Rattle.page_relay.specs.Merge.{IsMerged}
 use Rattle.page_relay.specs.Streams.{IsFirstBadLine, IsStream}
+use Rattle.page_relay.specs.Values.{IsWritingFault}
 use Rattle.page_relay.specs.declared.faults.RelayFault.{RelayFault}
 use Rattle.page_relay.specs.declared.faults.RelayFault.TheVariants as relay
 use Rattle.page_relay.proofs.MergedPages.{conflict_refuses, merged_stands}
 use Rattle.page_relay.proofs.OneStream.{stream_told}
 use Rattle.page_relay.proofs.Streams.{page_printable}
-use Rattle.script_runs.specs.Answers.{IsTooLong, fault_status}
-use Rattle.script_runs.specs.Headline.{script_limit}
+use Rattle.script_runs.specs.Answers.{IsSaidText, fault_status}
 use Rattle.script_runs.specs.Reading.{IsReadFault}
 use Rattle.script_runs.specs.Relay.{HasConflict, HasPages, HasRelayCause, IsBadStream, IsMergedPage, IsRelayComplete, IsRelayed, IsRelayedInPart, IsRelayEnd, IsRelayLineOf, IsUnmergeable, IsWithinLimit, LeavesRelay, bad_stream, conflict, done, merged_text, no_memory, read_failed, relay_fault_text, relay_status, too_long, write_failed}
 
@@ -44,23 +46,15 @@ pub relayed_prefix : (bytes : List ℕ) (pages : List (List Family)) (families :
 relayed_prefix bytes pages families written written' stream merged grew =
     record { text = page_text families; page = merged_page bytes pages families stream merged; grew = grew }
 
+-- what a refused writing leaves
+pub relay_leaves : (bytes : List ℕ) (pages : List (List Family)) (families : List Family) (written written' : Option (List ℕ)) (before now : ℕ) (fault : RelayFault) → IsStream bytes pages → IsMerged pages families
+    → IsWritingFault before now fault → GrewByPrefix written written' (page_text families) → LeavesRelay bytes written written' fault
+relay_leaves bytes pages families written written' before now (relay.Syntax l) stream merged cause grew = absurd cause
+relay_leaves bytes pages families written written' before now (relay.Conflict page name) stream merged cause grew = absurd cause
+relay_leaves bytes pages families written written' before now relay.WriteFault stream merged cause grew = relayed_prefix bytes pages families written written' stream merged grew
+relay_leaves bytes pages families written written' before now relay.Memory stream merged cause grew = inr (relayed_prefix bytes pages families written written' stream merged grew)
+
 -- ---- which status each cause brings
-
-long_relay : (bytes : List ℕ) (S K : Type 0) → IsTooLong bytes → IsRelayComplete bytes S K 5
-long_relay bytes S K long = record {
-  too_long = λ is ok. inl refl;
-  no_stream = λ within none ok. absurd (omega (arith, long, within));
-  no_merge = λ pages within stream none ok. absurd (omega (arith, long, within));
-  merges = λ pages families within stream merged ok sink_ok. absurd (omega (arith, long, within));
-}
-
-unread_relay : (bytes : List ℕ) (S K : Type 0) → S → IsRelayComplete bytes S K 6
-unread_relay bytes S K failed = record {
-  too_long = λ is ok. absurd (ok failed);
-  no_stream = λ within none ok. absurd (ok failed);
-  no_merge = λ pages within stream none ok. absurd (ok failed);
-  merges = λ pages families within stream merged ok sink_ok. absurd (ok failed);
-}
 
 memory_relay : (bytes : List ℕ) (S K : Type 0) → IsRelayComplete bytes S K 8
 memory_relay bytes S K = record {
@@ -84,7 +78,7 @@ conflict_relay bytes S K page name in_limit h = record {
   no_stream = λ within none ok. absurd (none h.0 h.1);
   no_merge = λ pages within stream none ok. inl refl;
   merges = λ pages families within stream merged ok sink_ok.
-      absurd (conflict_refuses h.0 page name families h.2 (subst (λ p. IsMerged p families) (stream_told bytes pages h.0 stream h.1) merged));
+      absurd (conflict_refuses h.0 page name h.2 families (subst (λ p. IsMerged p families) (stream_told bytes pages h.0 stream h.1) merged));
 }
 
 -- pages that merge were written, or a write failed
@@ -106,54 +100,6 @@ of_told (Some bytes) items P whole h = subst P whole h
 of_any : (left : Option (List ℕ)) (P : List ℕ → Type 0) → ((bytes : List ℕ) → P bytes) → IfSome left P
 of_any None P h = tt
 of_any (Some bytes) P h = h bytes
-
-of_each : (left : Option (List ℕ)) (P Q : List ℕ → Type 0) → ((bytes : List ℕ) → P bytes → Q bytes) → IfSome left P → IfSome left Q
-of_each None P Q f h = tt
-of_each (Some bytes) P Q f h = f bytes h
-
--- the source wasn't read whole
-pub unread_ends : (left : Option (List ℕ)) (S K : Type 0) (written : Option (List ℕ)) (fault : DriveFault) → IsReadFault left S fault → IsRelayEnd left S K written written (fault_status fault)
-unread_ends left S K written (faults.Script l) h = absurd h
-unread_ends left S K written faults.TooLong h = record {
-  merged = λ e. absurd (omega (arith, e));
-  others = (λ e. omega (arith, e), λ e. omega (arith, e));
-  too_long = λ e. h;
-  read_failed = λ e. absurd (omega (arith, e));
-  write_failed = λ e. absurd (omega (arith, e));
-  bad_stream = λ e. absurd (omega (arith, e));
-  conflict = λ e. absurd (omega (arith, e));
-  unplayed = λ e. refl;
-  prefix = λ e. absurd (omega (arith, e));
-  no_memory = λ e. absurd (omega (arith, e));
-  complete = of_each left IsTooLong (λ bytes. IsRelayComplete bytes S K 5) (λ bytes long. long_relay bytes S K long) h;
-}
-unread_ends left S K written faults.ReadFault h = record {
-  merged = λ e. absurd (omega (arith, e));
-  others = (λ e. omega (arith, e), λ e. omega (arith, e));
-  too_long = λ e. absurd (omega (arith, e));
-  read_failed = λ e. h;
-  write_failed = λ e. absurd (omega (arith, e));
-  bad_stream = λ e. absurd (omega (arith, e));
-  conflict = λ e. absurd (omega (arith, e));
-  unplayed = λ e. refl;
-  prefix = λ e. absurd (omega (arith, e));
-  no_memory = λ e. absurd (omega (arith, e));
-  complete = of_any left (λ bytes. IsRelayComplete bytes S K 6) (λ bytes. unread_relay bytes S K h);
-}
-unread_ends left S K written faults.WriteFault h = absurd h
-unread_ends left S K written faults.Memory h = record {
-  merged = λ e. absurd (omega (arith, e));
-  others = (λ e. omega (arith, e), λ e. omega (arith, e));
-  too_long = λ e. absurd (omega (arith, e));
-  read_failed = λ e. absurd (omega (arith, e));
-  write_failed = λ e. absurd (omega (arith, e));
-  bad_stream = λ e. absurd (omega (arith, e));
-  conflict = λ e. absurd (omega (arith, e));
-  unplayed = λ e. refl;
-  prefix = λ e. absurd (omega (arith, e));
-  no_memory = λ e. of_any left (λ bytes. (written ≡ written) ⊎ IsRelayedInPart bytes written written) (λ bytes. inl refl);
-  complete = of_any left (λ bytes. IsRelayComplete bytes S K 8) (λ bytes. memory_relay bytes S K);
-}
 
 -- the page was written
 pub done_ends : (left : Option (List ℕ)) (items : List ℕ) (S K : Type 0) (written written' : Option (List ℕ)) → IfSome left (λ bytes. items ≡ bytes) → IsWithinLimit items → IsRelayed items written written'
@@ -247,3 +193,19 @@ refused_line left items K (relay.Conflict page name) whole within cause =
     conflict page (string_bytes name) (of_told left items (λ bytes. IsUnmergeable bytes page (string_bytes name)) whole (within, cause))
 refused_line left items K relay.WriteFault whole within cause = write_failed
 refused_line left items K relay.Memory whole within cause = no_memory
+
+-- a text that is the line of a fault, said of that fault
+pub relay_said_of : (Failed : Type 0) (said said' : Option (List ℕ)) (fault is : RelayFault) (text : List ℕ) → fault ≡ is → text ≡ line (relay_fault_text is)
+    → IsSaidText Failed said said' text → IsSaidText Failed said said' (line (relay_fault_text fault))
+relay_said_of Failed said said' fault is text same spelled h =
+    let P : List ℕ → Type 0 = λ t. IsSaidText Failed said said' t in
+    subst P (spelled ∙ sym (ap (λ f. line (relay_fault_text f)) same)) h
+
+-- the line of a conflict, from its pieces
+pub conflict_line : (digits text : List ℕ) (page : ℕ) (name : String Global) → digits ≡ decimal page → text ≡ string_bytes name
+    → codes "conflict: page " ++ (digits ++ (codes " family " ++ (text ++ newline ∷ []))) ≡ line (relay_fault_text (relay.Conflict page name))
+conflict_line digits text page name d t =
+    (λ j. codes "conflict: page " ++ (d j ++ (codes " family " ++ (t j ++ newline ∷ []))))
+    ∙ sym (append_assoc (codes "conflict: page " ++ decimal page ++ codes " family ") (string_bytes name) (newline ∷ [])
+    ∙ append_assoc (codes "conflict: page " ++ decimal page) (codes " family ") (string_bytes name ++ newline ∷ [])
+    ∙ append_assoc (codes "conflict: page ") (decimal page) (codes " family " ++ (string_bytes name ++ newline ∷ [])))

@@ -1,4 +1,5 @@
--- What a run of the word `merge` writes, which status comes by which cause, and its line on `err` (this project's rules).
+-- What a run of the word `merge` writes, which status comes by which cause, and its line on `err` (this project's
+-- rules).
 use Rattle.std.specs.Prelude.{◌≡◌, ◌≢◌, ℕ, ◌≤◌, ◌⊎◌, List, ◌++◌, length, Option, IfSome, codes, decimal, string_bytes}
 use Rattle.metrics_core.specs.Characters.{line}
 use Rattle.metrics_core.specs.Outside.{GrewBy, GrewByPrefix}
@@ -14,7 +15,8 @@ use Rattle.script_runs.specs.Headline.{script_limit}
 
 -- ---- what is written
 
--- the bytes are a stream whose pages merge, and the text is the page that they become, which can stand in a stream itself
+-- the bytes are a stream whose pages merge, and the text is the page that they become, which can stand in a stream
+-- itself
 pub record IsMergedPage (bytes text : List ℕ) : Type 0 where
   pub pages : List (List Family)
   pub families : List Family
@@ -45,7 +47,8 @@ HasPages bytes count = (pages : List (List Family)) × IsStream bytes pages × (
 
 -- the bytes are a stream, and the family of this name on this page doesn't merge with those before it
 abbrev pub HasConflict : List ℕ → ℕ → List ℕ → Type 0
-HasConflict bytes page name = (pages : List (List Family)) × IsStream bytes pages × IsConflict pages page name
+HasConflict bytes page name =
+    (pages : List (List Family)) × IsStream bytes pages × IsConflict pages page name
 
 -- the same of bytes within the limit, and of bytes that are no stream, whose first bad line is l
 abbrev pub IsUnmergeable : List ℕ → ℕ → List ℕ → Type 0
@@ -67,7 +70,8 @@ abbrev pub LeavesRelay : List ℕ → Option (List ℕ) → Option (List ℕ) �
 LeavesRelay bytes written written' (relay.Syntax l) = written' ≡ written
 LeavesRelay bytes written written' (relay.Conflict page name) = written' ≡ written
 LeavesRelay bytes written written' relay.WriteFault = IsRelayedInPart bytes written written'
-LeavesRelay bytes written written' relay.Memory = (written' ≡ written) ⊎ IsRelayedInPart bytes written written'
+LeavesRelay bytes written written' relay.Memory =
+    (written' ≡ written) ⊎ IsRelayedInPart bytes written written'
 
 -- ---- statuses
 
@@ -78,27 +82,34 @@ relay_status relay.WriteFault = 7
 relay_status relay.Memory = 8
 
 -- Each cause brings its status, unless a device failed or memory was wanting.
-pub record IsRelayComplete (bytes : List ℕ) (SourceFailed SinkFailed : Type 0) (status : ℕ) : Type 0 where
+pub record IsRelayComplete (bytes : List ℕ) (SourceFailed SinkFailed : Type 0)
+    (status : ℕ) : Type 0 where
   pub too_long : IsTooLong bytes → ¬ SourceFailed → (status ≡ 5) ⊎ (status ≡ 8)
-  pub no_stream : IsWithinLimit bytes → ((pages : List (List Family)) → ¬ IsStream bytes pages) → ¬ SourceFailed
-      → (status ≡ 10) ⊎ (status ≡ 8)
+  pub no_stream : IsWithinLimit bytes → ((pages : List (List Family)) → ¬ IsStream bytes pages)
+      → ¬ SourceFailed → (status ≡ 10) ⊎ (status ≡ 8)
   pub no_merge : (pages : List (List Family)) → IsWithinLimit bytes → IsStream bytes pages
-      → ((families : List Family) → ¬ IsMerged pages families) → ¬ SourceFailed → (status ≡ 11) ⊎ (status ≡ 8)
-  pub merges : (pages : List (List Family)) (families : List Family) → IsWithinLimit bytes → IsStream bytes pages
-      → IsMerged pages families → ¬ SourceFailed → ¬ SinkFailed → (status ≡ 0) ⊎ (status ≡ 8)
+      → ((families : List Family) → ¬ IsMerged pages families)
+      → ¬ SourceFailed → (status ≡ 11) ⊎ (status ≡ 8)
+  pub merges : (pages : List (List Family)) (families : List Family) → IsWithinLimit bytes
+      → IsStream bytes pages → IsMerged pages families
+      → ¬ SourceFailed → ¬ SinkFailed → (status ≡ 0) ⊎ (status ≡ 8)
 
 -- what a status of the word `merge` says
-pub record IsRelayEnd (left : Option (List ℕ)) (SourceFailed SinkFailed : Type 0) (written written' : Option (List ℕ)) (status : ℕ) : Type 0 where
-  pub merged : status ≡ 0 → IfSome left (λ bytes. IsWithinLimit bytes × IsRelayed bytes written written')
+pub record IsRelayEnd (left : Option (List ℕ)) (SourceFailed SinkFailed : Type 0)
+    (written written' : Option (List ℕ)) (status : ℕ) : Type 0 where
+  pub merged : status ≡ 0
+      → IfSome left (λ bytes. IsWithinLimit bytes × IsRelayed bytes written written')
   pub others : (status ≢ 2) × (status ≢ 3)
   pub too_long : status ≡ 5 → IfSome left IsTooLong
   pub read_failed : status ≡ 6 → SourceFailed
   pub write_failed : status ≡ 7 → SinkFailed
   pub bad_stream : status ≡ 10 → IfSome left (λ bytes. (l : ℕ) × IsBadStream bytes l)
-  pub conflict : status ≡ 11 → IfSome left (λ bytes. (page : ℕ) × (name : List ℕ) × IsUnmergeable bytes page name)
+  pub conflict : status ≡ 11
+      → IfSome left (λ bytes. (page : ℕ) × (name : List ℕ) × IsUnmergeable bytes page name)
   pub unplayed : IsUnplayed status → written' ≡ written
   pub prefix : status ≡ 7 → IfSome left (λ bytes. IsRelayedInPart bytes written written')
-  pub no_memory : status ≡ 8 → IfSome left (λ bytes. (written' ≡ written) ⊎ IsRelayedInPart bytes written written')
+  pub no_memory : status ≡ 8
+      → IfSome left (λ bytes. (written' ≡ written) ⊎ IsRelayedInPart bytes written written')
   pub complete : IfSome left (λ bytes. IsRelayComplete bytes SourceFailed SinkFailed status)
 
 -- ---- lines on `err`
@@ -120,17 +131,20 @@ relay_fault_text relay.Memory = codes "out of memory"
 
 -- the line that each status has; what it says of the pages holds where the source tells its bytes
 pub data IsRelayLineOf (left : Option (List ℕ)) : ℕ → List ℕ → Type 0 where
-  done : (pages : ℕ) → IfSome left (λ bytes. HasPages bytes pages) → IsRelayLineOf left 0 (line (merged_text pages))
+  done : (pages : ℕ) → IfSome left (λ bytes. HasPages bytes pages)
+      → IsRelayLineOf left 0 (line (merged_text pages))
   too_long : IsRelayLineOf left 5 (line (fault_text faults.TooLong))
   read_failed : IsRelayLineOf left 6 (line (fault_text faults.ReadFault))
   write_failed : IsRelayLineOf left 7 (line (fault_text faults.WriteFault))
   no_memory : IsRelayLineOf left 8 (line (fault_text faults.Memory))
-  bad_stream : (l : ℕ) → IfSome left (λ bytes. IsBadStream bytes l) → IsRelayLineOf left 10 (line (bad_line_text l))
+  bad_stream : (l : ℕ) → IfSome left (λ bytes. IsBadStream bytes l)
+      → IsRelayLineOf left 10 (line (bad_line_text l))
   conflict : (page : ℕ) (name : List ℕ) → IfSome left (λ bytes. IsUnmergeable bytes page name)
       → IsRelayLineOf left 11 (line (conflict_text page name))
 
 -- `err` got the line of the status, where it tells and didn't fail
-pub record IsRelaySaid (left : Option (List ℕ)) (ErrFailed : Type 0) (said said' : Option (List ℕ)) (status : ℕ) : Type 0 where
+pub record IsRelaySaid (left : Option (List ℕ)) (ErrFailed : Type 0)
+    (said said' : Option (List ℕ)) (status : ℕ) : Type 0 where
   pub text : List ℕ
   pub meant : IsRelayLineOf left status text
   pub written : IsSaidText ErrFailed said said' text

@@ -13,11 +13,14 @@ use std::alloc::Global;
 pub fn relay<K: Sink>(alloc: Global, bytes: &[u8], out: &mut K) -> Result<u64, RelayFault>
     ensures relayed { OnOk result (IsRelayed bytes.now (K.written out.old) (K.written out.new)) }
     ensures counted { IfOk result (HasPages bytes.now) }
-    ensures cause { IfErr result (HasRelayCause bytes.now (Rose (K.faults out.old) (K.faults out.new))) }
+    ensures cause { IfErr result
+        (HasRelayCause bytes.now (Rose (K.faults out.old) (K.faults out.new))) }
     ensures leaves { IfErr result (LeavesRelay bytes.now (K.written out.old) (K.written out.new)) }
 {
     let pages = read_pages(alloc, bytes)?;
     let page = merge(alloc, &pages)?;
-    write_page(alloc, &page, out)?;
-    Ok(pages.len() as u64)
+    match write_page(alloc, &page, out) {
+        Ok(()) => Ok(pages.len() as u64),
+        Err(fault) => Err(fault),
+    }
 }

@@ -2,9 +2,11 @@
 
 ghost use Rattle.std.specs.Prelude.{◌≡◌, ◌≢◌, ◌∷◌, [], ◌⊎◌, ◌↔◌, ℕ, List, IsTrue, IfSome, codes};
 ghost use Rattle.metrics_core.specs.Outside.{Rose};
-ghost use Rattle.script_runs.specs.Answers.{fault_status, IsBadScript, IsComplete, IsDriveWords, IsNoDriveStatus, IsForm, IsMergeWords, IsSaid, IsTooLong, IsUnplayed, texts_of};
+ghost use Rattle.script_runs.specs.Answers.{fault_status, texts_of, IsBadScript, IsComplete, IsDriveWords};
+ghost use Rattle.script_runs.specs.Answers.{IsForm, IsMergeWords, IsNoDriveStatus, IsSaid, IsTooLong, IsUnplayed};
 ghost use Rattle.script_runs.specs.Headline.{IsPlayed, IsPlayedInPart};
-ghost use Rattle.script_runs.specs.Relay.{relay_status, IsBadStream, IsRelayComplete, IsRelayed, IsRelayedInPart, IsRelayEnd, IsRelaySaid, IsUnmergeable, IsWithinLimit};
+ghost use Rattle.script_runs.specs.Relay.{relay_status, IsBadStream, IsRelayComplete, IsRelayed, IsRelayedInPart};
+ghost use Rattle.script_runs.specs.Relay.{IsRelayEnd, IsRelaySaid, IsUnmergeable, IsWithinLimit};
 
 use crate::Gate;
 use crate::driving::drive;
@@ -35,12 +37,14 @@ pub fn run<R: Threads + Wait + Sync, S: Source, K: Sink, E: Sink, G: Gate + Sync
     err: &mut E,
     gate: &G,
 ) -> u8
-    // `drive`, status 0: what was written is one page per round, ended by `# EOF`; read by the exposition grammar, each is
-    // exactly the families of the sequential state, for one order per series of all lanes' calls.
+    // `drive`, status 0: what was written is one page per round, ended by `# EOF`; read by the
+    // exposition grammar, each is exactly the families of the sequential state, for one order per
+    // series of all lanes' calls.
     ensures headline { IsDriveWords (texts_of words.now) → result ≡ 0 → IfSome (S.left source.old)
         (λ bytes. IsPlayed bytes (K.written out.old) (K.written out.new)) }
 
-    // `merge`, status 0: the bytes are one stream, and what was written is the one page that its pages become.
+    // `merge`, status 0: the bytes are one stream, and what was written is the one page that its
+    // pages become.
     ensures merged { IsMergeWords (texts_of words.now) → result ≡ 0 → IfSome (S.left source.old)
         (λ bytes. IsWithinLimit bytes × IsRelayed bytes (K.written out.old) (K.written out.new)) }
 
@@ -54,28 +58,38 @@ pub fn run<R: Threads + Wait + Sync, S: Source, K: Sink, E: Sink, G: Gate + Sync
     ensures bad_stream { result ≡ 10 → IsMergeWords (texts_of words.now)
         × IfSome (S.left source.old) (λ bytes. (l : ℕ) × IsBadStream bytes l) }
     ensures conflict { result ≡ 11 → IsMergeWords (texts_of words.now)
-        × IfSome (S.left source.old) (λ bytes. (page : ℕ) × (name : List ℕ) × IsUnmergeable bytes page name) }
+        × IfSome (S.left source.old)
+        (λ bytes. (page : ℕ) × (name : List ℕ) × IsUnmergeable bytes page name) }
 
-    // After 2, 3, 5, 6, 10 and 11 nothing was written; after 7 a prefix of the pages; after 8 a prefix or nothing.
+    // After 2, 3, 5, 6, 10 and 11 nothing was written; after 7 a prefix of the pages; after 8 a
+    // prefix or nothing.
     ensures unplayed { IsUnplayed result → K.written out.new ≡ K.written out.old }
     ensures prefix { IsDriveWords (texts_of words.now) → result ≡ 7 → IfSome (S.left source.old)
         (λ bytes. IsPlayedInPart bytes (K.written out.old) (K.written out.new)) }
-    ensures merged_prefix { IsMergeWords (texts_of words.now) → result ≡ 7 → IfSome (S.left source.old)
-        (λ bytes. IsRelayedInPart bytes (K.written out.old) (K.written out.new)) }
-    ensures no_memory { IsDriveWords (texts_of words.now) → result ≡ 8 → IfSome (S.left source.old) (λ bytes.
-        (K.written out.new ≡ K.written out.old) ⊎ IsPlayedInPart bytes (K.written out.old) (K.written out.new)) }
-    ensures merged_no_memory { IsMergeWords (texts_of words.now) → result ≡ 8 → IfSome (S.left source.old) (λ bytes.
-        (K.written out.new ≡ K.written out.old) ⊎ IsRelayedInPart bytes (K.written out.old) (K.written out.new)) }
+    ensures merged_prefix { IsMergeWords (texts_of words.now) → result ≡ 7
+        → IfSome (S.left source.old) (λ bytes. IsRelayedInPart bytes (K.written out.old) (K.written out.new)) }
+    ensures no_memory { IsDriveWords (texts_of words.now) → result ≡ 8 → IfSome (S.left source.old)
+        (λ bytes. (K.written out.new ≡ K.written out.old)
+        ⊎ IsPlayedInPart bytes (K.written out.old) (K.written out.new)) }
+    ensures merged_no_memory { IsMergeWords (texts_of words.now) → result ≡ 8
+        → IfSome (S.left source.old) (λ bytes. (K.written out.new ≡ K.written out.old)
+        ⊎ IsRelayedInPart bytes (K.written out.old) (K.written out.new)) }
 
     // Each cause brings its status, where neither device failed and memory was not wanting.
-    ensures complete { IsDriveWords (texts_of words.now) → IfSome (S.left source.old) (λ bytes.
-        IsComplete bytes (Rose (S.faults source.old) (S.faults source.new)) (Rose (K.faults out.old) (K.faults out.new)) result) }
-    ensures merged_complete { IsMergeWords (texts_of words.now) → IfSome (S.left source.old) (λ bytes.
-        IsRelayComplete bytes (Rose (S.faults source.old) (S.faults source.new)) (Rose (K.faults out.old) (K.faults out.new)) result) }
+    ensures complete { IsDriveWords (texts_of words.now) → IfSome (S.left source.old)
+        (λ bytes. IsComplete bytes (Rose (S.faults source.old) (S.faults source.new))
+        (Rose (K.faults out.old) (K.faults out.new)) result) }
+    ensures merged_complete { IsMergeWords (texts_of words.now) → IfSome (S.left source.old)
+        (λ bytes. IsRelayComplete bytes (Rose (S.faults source.old) (S.faults source.new))
+        (Rose (K.faults out.old) (K.faults out.new)) result) }
 
     // The line on `err` is that of the status.
-    ensures said { ¬ IsMergeWords (texts_of words.now) → IsSaid (S.left source.old) (Rose (E.faults err.old) (E.faults err.new)) (E.written err.old) (E.written err.new) result }
-    ensures merged_said { IsMergeWords (texts_of words.now) → IsRelaySaid (S.left source.old) (Rose (E.faults err.old) (E.faults err.new)) (E.written err.old) (E.written err.new) result }
+    ensures said { ¬ IsMergeWords (texts_of words.now) → IsSaid (S.left source.old)
+        (Rose (E.faults err.old) (E.faults err.new)) (E.written err.old) (E.written err.new)
+        result }
+    ensures merged_said { IsMergeWords (texts_of words.now) → IsRelaySaid (S.left source.old)
+        (Rose (E.faults err.old) (E.faults err.new)) (E.written err.old) (E.written err.new)
+        result }
 {
     if is_word(words, "drive") {
         return run_drive(rt, alloc, source, out, err, gate);
@@ -106,19 +120,26 @@ fn run_drive<R: Threads + Wait + Sync, S: Source, K: Sink, E: Sink, G: Gate + Sy
     err: &mut E,
     gate: &G,
 ) -> u8
-    ensures headline { result ≡ 0 → IfSome (S.left source.old) (λ bytes. IsPlayed bytes (K.written out.old) (K.written out.new)) }
+    ensures headline { result ≡ 0 → IfSome (S.left source.old)
+        (λ bytes. IsPlayed bytes (K.written out.old) (K.written out.new)) }
     ensures others { ¬ IsNoDriveStatus result }
-    ensures bad_script { result ≡ 3 → IfSome (S.left source.old) (λ bytes. (l : ℕ) × IsBadScript bytes l) }
+    ensures bad_script { result ≡ 3 → IfSome (S.left source.old)
+        (λ bytes. (l : ℕ) × IsBadScript bytes l) }
     ensures too_long { result ≡ 5 → IfSome (S.left source.old) IsTooLong }
     ensures read_failed { result ≡ 6 → Rose (S.faults source.old) (S.faults source.new) }
     ensures write_failed { result ≡ 7 → Rose (K.faults out.old) (K.faults out.new) }
     ensures unplayed { IsUnplayed result → K.written out.new ≡ K.written out.old }
-    ensures prefix { result ≡ 7 → IfSome (S.left source.old) (λ bytes. IsPlayedInPart bytes (K.written out.old) (K.written out.new)) }
-    ensures no_memory { result ≡ 8 → IfSome (S.left source.old) (λ bytes.
-        (K.written out.new ≡ K.written out.old) ⊎ IsPlayedInPart bytes (K.written out.old) (K.written out.new)) }
-    ensures complete { IfSome (S.left source.old) (λ bytes.
-        IsComplete bytes (Rose (S.faults source.old) (S.faults source.new)) (Rose (K.faults out.old) (K.faults out.new)) result) }
-    ensures said { IsSaid (S.left source.old) (Rose (E.faults err.old) (E.faults err.new)) (E.written err.old) (E.written err.new) result }
+    ensures prefix { result ≡ 7 → IfSome (S.left source.old)
+        (λ bytes. IsPlayedInPart bytes (K.written out.old) (K.written out.new)) }
+    ensures no_memory { result ≡ 8 → IfSome (S.left source.old)
+        (λ bytes. (K.written out.new ≡ K.written out.old)
+        ⊎ IsPlayedInPart bytes (K.written out.old) (K.written out.new)) }
+    ensures complete { IfSome (S.left source.old)
+        (λ bytes. IsComplete bytes (Rose (S.faults source.old) (S.faults source.new))
+        (Rose (K.faults out.old) (K.faults out.new)) result) }
+    ensures said { IsSaid (S.left source.old)
+        (Rose (E.faults err.old) (E.faults err.new)) (E.written err.old) (E.written err.new)
+        result }
 {
     match drive(rt, alloc, source, out, gate) {
         Ok(report) => {
@@ -140,8 +161,11 @@ fn run_merge<S: Source, K: Sink, E: Sink>(
     err: &mut E,
 ) -> u8
     ensures ends { IsRelayEnd (S.left source.old) (Rose (S.faults source.old) (S.faults source.new))
-        (Rose (K.faults out.old) (K.faults out.new)) (K.written out.old) (K.written out.new) result }
-    ensures said { IsRelaySaid (S.left source.old) (Rose (E.faults err.old) (E.faults err.new)) (E.written err.old) (E.written err.new) result }
+        (Rose (K.faults out.old) (K.faults out.new)) (K.written out.old) (K.written out.new)
+        result }
+    ensures said { IsRelaySaid (S.left source.old)
+        (Rose (E.faults err.old) (E.faults err.new)) (E.written err.old) (E.written err.new)
+        result }
 {
     let bytes = match read_all(alloc, source) {
         Ok(bytes) => bytes,

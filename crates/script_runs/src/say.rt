@@ -67,8 +67,8 @@ pub fn say_fault<E: Sink>(err: &mut E, fault: DriveFault)
 
 /// Says how many pages were merged.
 pub fn say_merged<E: Sink>(err: &mut E, pages: u64)
-    ensures said { IsSaidText (Rose (E.faults err.old) (E.faults err.new)) (E.written err.old) (E.written err.new)
-        (line (merged_text pages)) }
+    ensures said { IsSaidText (Rose (E.faults err.old) (E.faults err.new))
+        (E.written err.old) (E.written err.new) (line (merged_text pages)) }
 {
     let mut number = Buffer::new();
     say(
@@ -79,8 +79,8 @@ pub fn say_merged<E: Sink>(err: &mut E, pages: u64)
 
 /// Says why pages weren't relayed.
 pub fn say_relay_fault<E: Sink>(err: &mut E, fault: &RelayFault)
-    ensures said { IsSaidText (Rose (E.faults err.old) (E.faults err.new)) (E.written err.old) (E.written err.new)
-        (line (relay_fault_text fault.now)) }
+    ensures said { IsSaidText (Rose (E.faults err.old) (E.faults err.new))
+        (E.written err.old) (E.written err.new) (line (relay_fault_text fault.now)) }
 {
     let mut number = Buffer::new();
     match fault {
