@@ -1,4 +1,5 @@
-//! The program: it plays a script of rounds on the exporter, and writes a page for each round.
+//! The program: it plays a script of rounds on the exporter, and writes a page for each round; or it makes one page of
+//! several.
 #![tactic(auto)]
 
 use drive_script::DriveFault;

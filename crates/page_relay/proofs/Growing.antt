@@ -28,7 +28,7 @@ pub flat_push : {X : Type 0} (f : X → List ℕ) (xs : List X) (x : X) → flat
 flat_push f [] x = append-nil (f x)
 flat_push f (y ∷ xs) x = ap (λ l. f y ++ l) (flat_push f xs x) ∙ sym (append_assoc (f y) (flat_map f xs) (f x))
 
-line_utf8 : (text : List ℕ) → IsUtf8 text → IsUtf8 (line text)
+pub line_utf8 : (text : List ℕ) → IsUtf8 text → IsUtf8 (line text)
 line_utf8 text utf8 = IsUtf8-append text (newline ∷ []) utf8 (one_ascii newline (omega arith))
 
 abbrev pub so : List (List Family) → List Family → BegunText → SoFar
@@ -81,7 +81,7 @@ type_follows pages families text name help type sound utf8 is =
 abbrev pub with_row : Family → Row → Family
 with_row family row = record { help = family.help; name = family.name; type = family.type; rows = family.rows ++ row ∷ [] }
 
-readable_named : (labels : List LabelText) → All IsReadableLabel labels → All (λ label. IsLabelName label.key) labels
+pub readable_named : (labels : List LabelText) → All IsReadableLabel labels → All (λ label. IsLabelName label.key) labels
 readable_named [] all = All-nil (λ (label : LabelText). IsLabelName label.key)
 readable_named (label ∷ labels) all =
     All-cons (λ (label : LabelText). IsLabelName label.key) label labels (All-head IsReadableLabel label labels all).named (readable_named labels (All-tail IsReadableLabel label labels all))
@@ -153,7 +153,7 @@ page_ends pages families text sound utf8 end =
 
 -- ---- what was read so far begins a stream
 
-ascii_utf8 : (text : List ℕ) → list_all (λ c. nat_lt c 128) text ≡ true → IsUtf8 text
+pub ascii_utf8 : (text : List ℕ) → list_all (λ c. nat_lt c 128) text ≡ true → IsUtf8 text
 ascii_utf8 text low = IsUtf8-from_ascii text (kind_ascii (λ c. nat_lt c 128) (λ c h. ltb-true c 128 h) text low)
 
 pub begins_front : (x y : List ℕ) → BeginsStream (x ++ y) → BeginsStream x
@@ -181,7 +181,7 @@ block_begins pages families family some sound =
 abbrev some_row : Row
 some_row = record { name = codes "a"; labels = []; value = pos 0 }
 
-zero_fits : FitsSigned w128 (pos 0)
+pub zero_fits : FitsSigned w128 (pos 0)
 zero_fits = record { sfits = omega arith }
 
 rows_begin : (pages : List (List Family)) (families : List Family) (family : Family) → IsSound (so pages families (Block family)) → BeginsStream (text_so_far (so pages families (Block family)))

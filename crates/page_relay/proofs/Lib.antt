@@ -17,3 +17,5 @@ pub mod MergedFamilies
 pub mod RowSteps
 pub mod Gathered
 pub mod Numbering
+pub mod Readable
+pub mod MergedPages

@@ -162,7 +162,7 @@ set_utf8 [] x named utf8 = All-nil IsReadableLabel
 set_utf8 (label ∷ labels) x named utf8 =
     values_utf8 label labels (125 ∷ x) named (behind_ascii 123 (labels_text (label ∷ labels) ++ (125 ∷ x)) (omega arith) (subst IsUtf8 (set_step label labels x) utf8))
 
-row_fits : (row : Row) → IsPrintableRow row → FitsSigned w128 row.value → IsUtf8 (row_line row) → IsRowLine (row_line row) row
+pub row_fits : (row : Row) → IsPrintableRow row → FitsSigned w128 row.value → IsUtf8 (row_line row) → IsRowLine (row_line row) row
 row_fits row printable fits utf8 =
     let split = append_assoc (row.name ++ label_set_text row.labels) (codes " ") (page_number row.value) ∙ append_assoc row.name (label_set_text row.labels) (codes " " ++ page_number row.value) in
     record {
@@ -209,10 +209,10 @@ help_place text name help named spelled =
     ap place_behind (spelled ∙ append_assoc (codes "# HELP " ++ name) (codes " ") (escaped_description help) ∙ append_assoc (codes "# HELP ") name (32 ∷ escaped_description help))
     ∙ ap Helped (name_of_help name (escaped_description help) named)
 
-abbrev type_line_of : List ℕ → FamilyType → List ℕ
+abbrev pub type_line_of : List ℕ → FamilyType → List ℕ
 type_line_of name type = codes "# TYPE " ++ name ++ codes " " ++ type_text type
 
-abbrev help_line_of : List ℕ → List ℕ → List ℕ
+abbrev pub help_line_of : List ℕ → List ℕ → List ℕ
 help_line_of name help = codes "# HELP " ++ name ++ codes " " ++ escaped_description help
 
 type_is_line : (name : List ℕ) (type : FamilyType) → IsMetricName name → IsLine (type_line_of name type)
@@ -231,7 +231,7 @@ help_is_line name help named =
     both_lines (codes "# HELP " ++ name ++ codes " ") (escaped_description help)
     (both_lines (codes "# HELP " ++ name) (codes " ") (both_lines (codes "# HELP ") name refl (metric_line name named)) refl) (escaped_line false help)
 
-help_fits : (name help : List ℕ) → IsMetricName name → IsUtf8 (help_line_of name help) → IsHelpLine (help_line_of name help) name help
+pub help_fits : (name help : List ℕ) → IsMetricName name → IsUtf8 (help_line_of name help) → IsHelpLine (help_line_of name help) name help
 help_fits name help named utf8 =
     let behind_word : IsUtf8 (name ++ (32 ∷ escaped_description help)) = behind_ascii 32 _ (omega arith) (behind_ascii 80 _ (omega arith) (behind_ascii 76 _ (omega arith) (behind_ascii 69 _ (omega arith) (behind_ascii 72 _ (omega arith) (behind_ascii 32 _ (omega arith) (behind_ascii 35 _ (omega arith)
     (subst IsUtf8 (append_assoc (codes "# HELP " ++ name) (codes " ") (escaped_description help) ∙ append_assoc (codes "# HELP ") name (32 ∷ escaped_description help)) utf8))))))) in
@@ -240,21 +240,21 @@ help_fits name help named utf8 =
 
 -- ---- blocks
 
-abbrev help_lines : List ℕ → Option (List ℕ) → List (List ℕ)
+abbrev pub help_lines : List ℕ → Option (List ℕ) → List (List ℕ)
 help_lines name None = []
 help_lines name (Some help) = help_line_of name help ∷ []
 
-abbrev rows_lines : List Row → List (List ℕ)
+abbrev pub rows_lines : List Row → List (List ℕ)
 rows_lines rows = map row_line rows ++ [] ∷ []
 
-abbrev block_lines : Family → List (List ℕ)
+abbrev pub block_lines : Family → List (List ℕ)
 block_lines family = help_lines family.name family.help ++ type_line_of family.name family.type ∷ rows_lines family.rows
 
 rows_are : (rows : List Row) → flat_map row_text rows ++ line [] ≡ flat_map line (rows_lines rows)
 rows_are [] = refl
 rows_are (row ∷ rows) = append_assoc (row_text row) (flat_map row_text rows) (line []) ∙ ap (λ l. row_text row ++ l) (rows_are rows)
 
-block_is : (family : Family) → block_text family ≡ flat_map line (block_lines family)
+pub block_is : (family : Family) → block_text family ≡ flat_map line (block_lines family)
 block_is family = by family.help
   where
     type : List ℕ
@@ -269,7 +269,7 @@ block_is family = by family.help
     by None = behind []
     by (Some help) = behind (line (help_line_of family.name help))
 
-abbrev Fitting : Row → Type 0
+abbrev pub Fitting : Row → Type 0
 Fitting row = FitsSigned w128 row.value
 
 row_behind : (row : Row) → IsPrintableRow row → place_behind (row_line row) ≡ InRows

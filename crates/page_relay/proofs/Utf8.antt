@@ -4,6 +4,7 @@ use Rattle.std.specs.Prelude.{IsUtf8, encode_utf8_all}
 use Rattle.std.specs.Char.{encode_utf8}
 use Rattle.std.specs.Str.{all_scalars}
 use Rattle.std.proofs.lemmas.Bool.{and_parts, and_from, eqb-true}
+use Rattle.std.proofs.lemmas.Grind.{flat_map-append}
 use Rattle.std.proofs.lemmas.List.{append-nil, length-append, length_push, take_at, drop_at}
 use Rattle.std.proofs.lemmas.Str.{IsUtf8-nil, IsUtf8-append, IsUtf8-take, IsUtf8-drop, IsUtf8-from_ascii, IsCharBoundary-before_ascii, IsCharBoundary-after_ascii, IsCharBoundary-from_take, length-encode, len_utf8_bounds}
 use Rattle.metrics_core.specs.Characters.{newline, quote, backslash}
@@ -125,3 +126,35 @@ unescape (suc k) in_label (c ∷ text) few utf8 = by (shape in_label c) (unescap
 -- a text is UTF-8 where its escape is
 pub unescaped_utf8 : (in_label : Bool) (text : List ℕ) → IsUtf8 (escaped in_label text) → IsUtf8 text
 unescaped_utf8 in_label text utf8 = unescape (length text) in_label text (omega arith) utf8
+
+-- ---- from a text to its escape
+
+-- characters that aren't ASCII stand as they are
+high_same : (in_label : Bool) (xs : List ℕ) → AreHigh xs → escaped in_label xs ≡ xs
+high_same in_label [] high = refl
+high_same in_label (x ∷ xs) high = by (shape in_label x) (high_same in_label xs high.1)
+  where
+    by : Escapes in_label x ⊎ (escaped_character in_label x ≡ x ∷ []) → escaped in_label xs ≡ xs → escaped in_label (x ∷ xs) ≡ x ∷ xs
+    by (inl s) behind = absurd (omega (arith, s.low, high.0))
+    by (inr is) behind = λ j. is j ++ behind j
+
+one_escaped : (in_label : Bool) (d : ℕ) (ds : List ℕ) → all_scalars (d ∷ ds) ≡ true → IsUtf8 (escaped in_label (encode_utf8 d))
+one_escaped in_label d ds s = by (encode_cases d)
+  where
+    alone : Escapes in_label d ⊎ (escaped_character in_label d ≡ d ∷ []) → encode_utf8 d ≡ d ∷ [] → IsUtf8 (escaped in_label (d ∷ []))
+    alone (inl e) is = subst IsUtf8 (sym (append-nil (escaped_character in_label d) ∙ e.is)) (IsUtf8-append (backslash ∷ []) (e.second ∷ []) (one_ascii backslash (omega arith)) (one_ascii e.second e.low_second))
+    alone (inr e) is = subst IsUtf8 (is ∙ sym (append-nil (escaped_character in_label d) ∙ e)) (one_char d ds s)
+
+    by : (encode_utf8 d ≡ d ∷ []) ⊎ AreHigh (encode_utf8 d) → IsUtf8 (escaped in_label (encode_utf8 d))
+    by (inl is) = subst (λ l. IsUtf8 (escaped in_label l)) (sym is) (alone (shape in_label d) is)
+    by (inr high) = subst IsUtf8 (sym (high_same in_label (encode_utf8 d) high)) (one_char d ds s)
+
+characters_escaped : (in_label : Bool) (cs : List ℕ) → all_scalars cs ≡ true → IsUtf8 (escaped in_label (encode_utf8_all cs))
+characters_escaped in_label [] s = IsUtf8-nil
+characters_escaped in_label (d ∷ ds) s =
+    subst IsUtf8 (sym (flat_map-append (escaped_character in_label) (encode_utf8 d) (encode_utf8_all ds)))
+    (IsUtf8-append (escaped in_label (encode_utf8 d)) (escaped in_label (encode_utf8_all ds)) (one_escaped in_label d ds s) (characters_escaped in_label ds (and_parts _ _ s).1))
+
+-- the escape of a text is UTF-8 where the text is
+pub escaped_utf8 : (in_label : Bool) (text : List ℕ) → IsUtf8 text → IsUtf8 (escaped in_label text)
+escaped_utf8 in_label text utf8 = subst (λ l. IsUtf8 (escaped in_label l)) utf8.1.1 (characters_escaped in_label utf8.0 utf8.1.0)

@@ -149,7 +149,7 @@ pub record IsMerged (pages : List (List Family)) (families : List Family) : Type
   pub merges : Merges (numbered pages)
   pub are : families ≡ merged (numbered pages)
 
--- the family of this name on this page, from 1, is the last one of the shortest front that doesn't merge
+-- the family of this name on this page, from 1, is the last one of the shortest prefix that doesn't merge
 pub record IsConflict (pages : List (List Family)) (page : ℕ) (name : List ℕ) : Type 0 where
   pub before : List Numbered
   pub behind : List Numbered

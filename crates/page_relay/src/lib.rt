@@ -14,7 +14,7 @@ mod reader;
 mod writer;
 
 pub use faults::RelayFault;
-pub use laws::{one_first_bad_line, one_stream};
+pub use laws::{conflicts_refuse, merged_pages_stand, one_first_bad_line, one_stream};
 pub use merging::merge;
 pub use pages::{Family, Page, PageRow};
 pub use prom_format::FamilyType as Shape;

@@ -4,6 +4,7 @@ pub mod RoundSteps
 pub mod BuiltRounds
 pub mod RunPages
 pub mod DriveSteps
+pub mod RelaySteps
 pub mod Sayings
 pub mod WordSteps
 pub mod Fits

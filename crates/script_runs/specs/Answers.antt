@@ -17,9 +17,15 @@ use Rattle.script_runs.specs.declared.report.Report.{Report}
 abbrev pub texts_of : List (Bor (List ℕ)) → List (List ℕ)
 texts_of words = map (λ word. word.now) words
 
--- the words of the one form: the command `drive`
+-- the words of the two forms: the commands `drive` and `merge`
 abbrev pub IsDriveWords : List (List ℕ) → Type 0
 IsDriveWords words = words ≡ codes "drive" ∷ []
+
+abbrev pub IsMergeWords : List (List ℕ) → Type 0
+IsMergeWords words = words ≡ codes "merge" ∷ []
+
+abbrev pub IsForm : List (List ℕ) → Type 0
+IsForm words = IsDriveWords words ⊎ IsMergeWords words
 
 -- the source gave more bytes than that
 abbrev pub IsTooLong : List ℕ → Type 0
@@ -76,14 +82,19 @@ pub record IsComplete (bytes : List ℕ) (SourceFailed SinkFailed : Type 0) (sta
   pub bad_script : (l : ℕ) → IsBadScript bytes l → ¬ SourceFailed → (status ≡ 3) ⊎ (status ≡ 8)
   pub good_script : (script : ScriptText) → IsGoodScript bytes script → ¬ SourceFailed → ¬ SinkFailed → (status ≡ 0) ⊎ (status ≡ 8)
 
--- the statuses after which no page was begun: the words are no form, or the script was refused or not read
+-- the statuses after which no page was begun: the words are no form, or the input was refused or not read
 abbrev pub IsUnplayed : ℕ → Type 0
-IsUnplayed status = (status ≡ 2) ⊎ ((status ≡ 3) ⊎ ((status ≡ 5) ⊎ (status ≡ 6)))
+IsUnplayed status =
+    (status ≡ 2) ⊎ ((status ≡ 3) ⊎ ((status ≡ 5) ⊎ ((status ≡ 6) ⊎ ((status ≡ 10) ⊎ (status ≡ 11)))))
+
+-- the statuses that are none of the command `drive`
+abbrev pub IsNoDriveStatus : ℕ → Type 0
+IsNoDriveStatus status = (status ≡ 2) ⊎ ((status ≡ 10) ⊎ (status ≡ 11))
 
 -- ---- lines on `err`
 
 abbrev pub usage_text : List ℕ
-usage_text = codes "usage: drive [ADDRESS] | serve COUNT [NETWORK ..] | bench N"
+usage_text = codes "usage: drive [ADDRESS] | serve COUNT [NETWORK ..] | bench N | merge"
 
 -- the report of a run: its pages, payloads sent and not sent, values left out
 abbrev pub report_text : Report → List ℕ

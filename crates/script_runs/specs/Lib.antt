@@ -2,6 +2,7 @@ pub mod Play
 pub mod InTurn
 pub mod Headline
 pub mod Answers
+pub mod Relay
 pub mod Reading
 pub mod Player
 pub mod Orders

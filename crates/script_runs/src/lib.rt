@@ -1,5 +1,6 @@
-//! Runs of scripts: a script is read from a source, played on the exporter, and a page is written for each round; a run
-//! ends with a status and a line that says why.
+//! Runs of scripts: a script is read from a source, played on the exporter, and a page is written for each round; and runs
+//! of the relay: pages are read from a source, and the one page that they become is written. A run ends with a status and a
+//! line that says why.
 //!
 //! A run over a script in memory:
 //!
@@ -12,6 +13,7 @@ mod gates;
 mod lanes;
 mod play;
 mod reading;
+mod relaying;
 mod report;
 mod running;
 mod say;
@@ -19,6 +21,7 @@ mod say;
 pub use driving::drive;
 pub use examples::{basic_example, empty_example};
 pub use gates::{Free, Gate};
+pub use relaying::relay;
 pub use report::Report;
 pub use running::run;
 pub use say::say_fault;

@@ -1,35 +1,33 @@
 //! The top call: the words of the command line, and what each form of them does.
 
-ghost use Rattle.std.specs.Prelude.{◌≡◌, ◌⊎◌, ◌↔◌, ℕ, IsTrue, IfSome};
+ghost use Rattle.std.specs.Prelude.{◌≡◌, ◌≢◌, ◌∷◌, [], ◌⊎◌, ◌↔◌, ℕ, List, IsTrue, IfSome, codes};
 ghost use Rattle.metrics_core.specs.Outside.{Rose};
-ghost use Rattle.script_runs.specs.Answers.{
-  fault_status,
-  IsBadScript,
-  IsComplete,
-  IsDriveWords,
-  IsSaid,
-  IsTooLong,
-  IsUnplayed,
-  texts_of,
-};
+ghost use Rattle.script_runs.specs.Answers.{fault_status, texts_of, IsBadScript, IsComplete, IsDriveWords};
+ghost use Rattle.script_runs.specs.Answers.{IsForm, IsMergeWords, IsNoDriveStatus, IsSaid, IsTooLong, IsUnplayed};
 ghost use Rattle.script_runs.specs.Headline.{IsPlayed, IsPlayedInPart};
+ghost use Rattle.script_runs.specs.Relay.{relay_status, IsBadStream, IsRelayComplete, IsRelayed, IsRelayedInPart};
+ghost use Rattle.script_runs.specs.Relay.{IsRelayEnd, IsRelaySaid, IsUnmergeable, IsWithinLimit};
 
 use crate::Gate;
 use crate::driving::drive;
-use crate::say::{say_fault, say_report, say_usage};
+use crate::reading::read_all;
+use crate::relaying::relay;
+use crate::say::{say_fault, say_merged, say_relay_fault, say_report, say_usage};
 use drive_script::DriveFault;
 use metrics_core::{Sink, Source};
+use page_relay::RelayFault;
 use std::alloc::Global;
 use std::sync::Wait;
 use std::thread::Threads;
 
 /// Does what the words ask for, and answers the status that the program ends with:
-/// 0 done, 2 the words are no form, 3 the script is not valid, 5 it is longer than 67,108,864 bytes, 6 the source failed,
-/// 7 the sink of the pages failed, 8 memory was wanting. `err` gets one line that says which; a failing `err` changes
-/// nothing else.
+/// 0 done, 2 the words are no form, 3 the script is not valid, 5 the input is longer than 67,108,864 bytes, 6 the source
+/// failed, 7 the sink of the pages failed, 8 memory was wanting, 10 the input is no stream of pages, 11 its pages don't
+/// merge. `err` gets one line that says which; a failing `err` changes nothing else.
 ///
 /// For the word `drive` the whole script is read from `source`, and its pages are written to `out`. The lanes of a round run
-/// side by side, in up to eight threads; the gate is called around each call of a lane.
+/// side by side, in up to eight threads; the gate is called around each call of a lane. For the word `merge` the whole
+/// source is read as pages that stand one after the other, and the one page that they become is written to `out`.
 pub fn run<R: Threads + Wait + Sync, S: Source, K: Sink, E: Sink, G: Gate + Sync>(
     rt: &R,
     alloc: Global,
@@ -39,34 +37,110 @@ pub fn run<R: Threads + Wait + Sync, S: Source, K: Sink, E: Sink, G: Gate + Sync
     err: &mut E,
     gate: &G,
 ) -> u8
-    // Status 0: what was written is one page per round, ended by `# EOF`; read by the exposition grammar, each is exactly
-    // the families of the sequential state, for one order per series of all lanes' calls.
-    ensures headline { result ≡ 0 → IfSome (S.left source.old) (λ bytes. IsPlayed bytes (K.written out.old) (K.written out.new)) }
+    // `drive`, status 0: what was written is one page per round, ended by `# EOF`; read by the
+    // exposition grammar, each is exactly the families of the sequential state, for one order per
+    // series of all lanes' calls.
+    ensures headline { IsDriveWords (texts_of words.now) → result ≡ 0 → IfSome (S.left source.old)
+        (λ bytes. IsPlayed bytes (K.written out.old) (K.written out.new)) }
+
+    // `merge`, status 0: the bytes are one stream, and what was written is the one page that its
+    // pages become.
+    ensures merged { IsMergeWords (texts_of words.now) → result ≡ 0 → IfSome (S.left source.old)
+        (λ bytes. IsWithinLimit bytes × IsRelayed bytes (K.written out.old) (K.written out.new)) }
 
     // Each other status comes only by its cause.
-    ensures usage { (result ≡ 2) ↔ (¬ (IsDriveWords (texts_of words.now))) }
-    ensures bad_script { result ≡ 3 → IfSome (S.left source.old) (λ bytes. (l : ℕ) × IsBadScript bytes l) }
+    ensures usage { (result ≡ 2) ↔ (¬ (IsForm (texts_of words.now))) }
+    ensures bad_script { result ≡ 3 → IsDriveWords (texts_of words.now)
+        × IfSome (S.left source.old) (λ bytes. (l : ℕ) × IsBadScript bytes l) }
     ensures too_long { result ≡ 5 → IfSome (S.left source.old) IsTooLong }
     ensures read_failed { result ≡ 6 → Rose (S.faults source.old) (S.faults source.new) }
     ensures write_failed { result ≡ 7 → Rose (K.faults out.old) (K.faults out.new) }
+    ensures bad_stream { result ≡ 10 → IsMergeWords (texts_of words.now)
+        × IfSome (S.left source.old) (λ bytes. (l : ℕ) × IsBadStream bytes l) }
+    ensures conflict { result ≡ 11 → IsMergeWords (texts_of words.now)
+        × IfSome (S.left source.old)
+        (λ bytes. (page : ℕ) × (name : List ℕ) × IsUnmergeable bytes page name) }
 
-    // After 2, 3, 5 and 6 nothing was written; after 7 a prefix of the pages; after 8 a prefix or nothing.
+    // After 2, 3, 5, 6, 10 and 11 nothing was written; after 7 a prefix of the pages; after 8 a
+    // prefix or nothing.
     ensures unplayed { IsUnplayed result → K.written out.new ≡ K.written out.old }
-    ensures prefix { result ≡ 7 → IfSome (S.left source.old) (λ bytes. IsPlayedInPart bytes (K.written out.old) (K.written out.new)) }
-    ensures no_memory { result ≡ 8 → IfSome (S.left source.old) (λ bytes.
-        (K.written out.new ≡ K.written out.old) ⊎ IsPlayedInPart bytes (K.written out.old) (K.written out.new)) }
+    ensures prefix { IsDriveWords (texts_of words.now) → result ≡ 7 → IfSome (S.left source.old)
+        (λ bytes. IsPlayedInPart bytes (K.written out.old) (K.written out.new)) }
+    ensures merged_prefix { IsMergeWords (texts_of words.now) → result ≡ 7
+        → IfSome (S.left source.old) (λ bytes. IsRelayedInPart bytes (K.written out.old) (K.written out.new)) }
+    ensures no_memory { IsDriveWords (texts_of words.now) → result ≡ 8 → IfSome (S.left source.old)
+        (λ bytes. (K.written out.new ≡ K.written out.old)
+        ⊎ IsPlayedInPart bytes (K.written out.old) (K.written out.new)) }
+    ensures merged_no_memory { IsMergeWords (texts_of words.now) → result ≡ 8
+        → IfSome (S.left source.old) (λ bytes. (K.written out.new ≡ K.written out.old)
+        ⊎ IsRelayedInPart bytes (K.written out.old) (K.written out.new)) }
 
     // Each cause brings its status, where neither device failed and memory was not wanting.
-    ensures complete { IsDriveWords (texts_of words.now) → IfSome (S.left source.old) (λ bytes.
-        IsComplete bytes (Rose (S.faults source.old) (S.faults source.new)) (Rose (K.faults out.old) (K.faults out.new)) result) }
+    ensures complete { IsDriveWords (texts_of words.now) → IfSome (S.left source.old)
+        (λ bytes. IsComplete bytes (Rose (S.faults source.old) (S.faults source.new))
+        (Rose (K.faults out.old) (K.faults out.new)) result) }
+    ensures merged_complete { IsMergeWords (texts_of words.now) → IfSome (S.left source.old)
+        (λ bytes. IsRelayComplete bytes (Rose (S.faults source.old) (S.faults source.new))
+        (Rose (K.faults out.old) (K.faults out.new)) result) }
 
     // The line on `err` is that of the status.
-    ensures said { IsSaid (S.left source.old) (Rose (E.faults err.old) (E.faults err.new)) (E.written err.old) (E.written err.new) result }
+    ensures said { ¬ IsMergeWords (texts_of words.now) → IsSaid (S.left source.old)
+        (Rose (E.faults err.old) (E.faults err.new)) (E.written err.old) (E.written err.new)
+        result }
+    ensures merged_said { IsMergeWords (texts_of words.now) → IsRelaySaid (S.left source.old)
+        (Rose (E.faults err.old) (E.faults err.new)) (E.written err.old) (E.written err.new)
+        result }
 {
-    if !is_drive(words) {
-        say_usage(err);
-        return 2;
+    if is_word(words, "drive") {
+        return run_drive(rt, alloc, source, out, err, gate);
     }
+    if is_word(words, "merge") {
+        return run_merge(alloc, source, out, err);
+    }
+    say_usage(err);
+    2
+}
+
+/// Whether the words are one word, and this one.
+fn is_word(words: &[&str], word: &str) -> bool
+    ensures { IsTrue result ↔ (texts_of words.now ≡ word.now ∷ []) }
+{
+    match words {
+        [only] => *only == word,
+        _ => false,
+    }
+}
+
+/// Does what the word `drive` asks for.
+fn run_drive<R: Threads + Wait + Sync, S: Source, K: Sink, E: Sink, G: Gate + Sync>(
+    rt: &R,
+    alloc: Global,
+    source: &mut S,
+    out: &mut K,
+    err: &mut E,
+    gate: &G,
+) -> u8
+    ensures headline { result ≡ 0 → IfSome (S.left source.old)
+        (λ bytes. IsPlayed bytes (K.written out.old) (K.written out.new)) }
+    ensures others { ¬ IsNoDriveStatus result }
+    ensures bad_script { result ≡ 3 → IfSome (S.left source.old)
+        (λ bytes. (l : ℕ) × IsBadScript bytes l) }
+    ensures too_long { result ≡ 5 → IfSome (S.left source.old) IsTooLong }
+    ensures read_failed { result ≡ 6 → Rose (S.faults source.old) (S.faults source.new) }
+    ensures write_failed { result ≡ 7 → Rose (K.faults out.old) (K.faults out.new) }
+    ensures unplayed { IsUnplayed result → K.written out.new ≡ K.written out.old }
+    ensures prefix { result ≡ 7 → IfSome (S.left source.old)
+        (λ bytes. IsPlayedInPart bytes (K.written out.old) (K.written out.new)) }
+    ensures no_memory { result ≡ 8 → IfSome (S.left source.old)
+        (λ bytes. (K.written out.new ≡ K.written out.old)
+        ⊎ IsPlayedInPart bytes (K.written out.old) (K.written out.new)) }
+    ensures complete { IfSome (S.left source.old)
+        (λ bytes. IsComplete bytes (Rose (S.faults source.old) (S.faults source.new))
+        (Rose (K.faults out.old) (K.faults out.new)) result) }
+    ensures said { IsSaid (S.left source.old)
+        (Rose (E.faults err.old) (E.faults err.new)) (E.written err.old) (E.written err.new)
+        result }
+{
     match drive(rt, alloc, source, out, gate) {
         Ok(report) => {
             say_report(err, &report);
@@ -79,13 +153,36 @@ pub fn run<R: Threads + Wait + Sync, S: Source, K: Sink, E: Sink, G: Gate + Sync
     }
 }
 
-/// Whether the words are the command `drive`.
-fn is_drive(words: &[&str]) -> bool
-    ensures { IsTrue result ↔ (IsDriveWords (texts_of words.now)) }
+/// Does what the word `merge` asks for.
+fn run_merge<S: Source, K: Sink, E: Sink>(
+    alloc: Global,
+    source: &mut S,
+    out: &mut K,
+    err: &mut E,
+) -> u8
+    ensures ends { IsRelayEnd (S.left source.old) (Rose (S.faults source.old) (S.faults source.new))
+        (Rose (K.faults out.old) (K.faults out.new)) (K.written out.old) (K.written out.new)
+        result }
+    ensures said { IsRelaySaid (S.left source.old)
+        (Rose (E.faults err.old) (E.faults err.new)) (E.written err.old) (E.written err.new)
+        result }
 {
-    match words {
-        [word] => *word == "drive",
-        _ => false,
+    let bytes = match read_all(alloc, source) {
+        Ok(bytes) => bytes,
+        Err(fault) => {
+            say_fault(err, fault);
+            return status_of(fault);
+        }
+    };
+    match relay(alloc, &bytes, out) {
+        Ok(pages) => {
+            say_merged(err, pages);
+            0
+        }
+        Err(fault) => {
+            say_relay_fault(err, &fault);
+            relay_status_of(&fault)
+        }
     }
 }
 
@@ -99,5 +196,17 @@ fn status_of(fault: DriveFault) -> u8
         DriveFault::ReadFault => 6,
         DriveFault::WriteFault => 7,
         DriveFault::Memory => 8,
+    }
+}
+
+/// The status that a fault of the relay ends the program with.
+fn relay_status_of(fault: &RelayFault) -> u8
+    ensures { result ≡ relay_status fault.now }
+{
+    match fault {
+        RelayFault::Syntax { line: _ } => 10,
+        RelayFault::Conflict { page: _, name: _ } => 11,
+        RelayFault::WriteFault => 7,
+        RelayFault::Memory => 8,
     }
 }

@@ -6,11 +6,13 @@ ghost use Rattle.metrics_core.specs.Characters.{line};
 ghost use Rattle.metrics_core.specs.Outside.{Rose};
 ghost use Rattle.drive_script.specs.Faults.{fault_text};
 ghost use Rattle.script_runs.specs.Answers.{IsSaidText, report_text, usage_text};
+ghost use Rattle.script_runs.specs.Relay.{merged_text, relay_fault_text};
 
 use crate::Report;
 use drive_script::DriveFault;
 use itoa::Buffer;
 use metrics_core::{Sink, write_whole};
+use page_relay::RelayFault;
 
 /// Says how the program is called.
 pub fn say_usage<E: Sink>(err: &mut E)
@@ -18,7 +20,7 @@ pub fn say_usage<E: Sink>(err: &mut E)
 {
     say(
         err,
-        &[b"usage: drive [ADDRESS] | serve COUNT [NETWORK ..] | bench N\n"],
+        &[b"usage: drive [ADDRESS] | serve COUNT [NETWORK ..] | bench N | merge\n"],
     );
 }
 
@@ -60,6 +62,44 @@ pub fn say_fault<E: Sink>(err: &mut E, fault: DriveFault)
         DriveFault::ReadFault => say(err, &[b"read failed\n"]),
         DriveFault::WriteFault => say(err, &[b"write failed\n"]),
         DriveFault::Memory => say(err, &[b"out of memory\n"]),
+    }
+}
+
+/// Says how many pages were merged.
+pub fn say_merged<E: Sink>(err: &mut E, pages: u64)
+    ensures said { IsSaidText (Rose (E.faults err.old) (E.faults err.new))
+        (E.written err.old) (E.written err.new) (line (merged_text pages)) }
+{
+    let mut number = Buffer::new();
+    say(
+        err,
+        &[b"merged ", number.format(pages).as_bytes(), b" pages\n"],
+    );
+}
+
+/// Says why pages weren't relayed.
+pub fn say_relay_fault<E: Sink>(err: &mut E, fault: &RelayFault)
+    ensures said { IsSaidText (Rose (E.faults err.old) (E.faults err.new))
+        (E.written err.old) (E.written err.new) (line (relay_fault_text fault.now)) }
+{
+    let mut number = Buffer::new();
+    match fault {
+        RelayFault::Syntax { line } => say(
+            err,
+            &[b"page: line ", number.format(*line).as_bytes(), b"\n"],
+        ),
+        RelayFault::Conflict { page, name } => say(
+            err,
+            &[
+                b"conflict: page ",
+                number.format(*page).as_bytes(),
+                b" family ",
+                name.as_bytes(),
+                b"\n",
+            ],
+        ),
+        RelayFault::WriteFault => say(err, &[b"write failed\n"]),
+        RelayFault::Memory => say(err, &[b"out of memory\n"]),
     }
 }
 

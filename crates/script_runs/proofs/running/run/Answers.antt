@@ -1,25 +1,6 @@
-use Rattle.std.proofs.Common.{ℕ, subst, sym}
 use Rattle.metrics_core.specs.Characters.{line}
-use Rattle.drive_script.specs.Faults.{fault_text}
-use Rattle.script_runs.specs.Answers.{IsLineOf, usage, usage_text, report_text}
-use Rattle.script_runs.proofs.Sayings.{fault_line, report_line}
+use Rattle.script_runs.specs.Answers.{usage, usage_text}
 use Rattle.script_runs.proofs.running.run.Goals as goal
 
-pub returns-then-not-is_drive-clause-said : goal.returns-then-not-is_drive-clause-said
-returns-then-not-is_drive-clause-said g c = record { text = line usage_text; meant = usage; written = c.say_usage.ensures.said }
-
-pub returns-in-Ok-clause-said : goal.returns-in-Ok-clause-said
-returns-in-Ok-clause-said g c = record {
-  text = line (report_text c.in-Ok.report);
-  meant = report_line _ c.in-Ok.report c.in-Ok.ensures.none_sent c.in-Ok.ensures.rounds;
-  written = c.say_report.ensures.said;
-}
-
-pub returns-in-Err-clause-said : goal.returns-in-Err-clause-said
-returns-in-Err-clause-said g c =
-    let P : ℕ → Type 0 = λ status. IsLineOf (g.S.Source.left c.args.source.now) status (line (fault_text c.in-Err.fault)) in
-    record {
-      text = line (fault_text c.in-Err.fault);
-      meant = subst P (sym c.status_of.ensures) (fault_line _ _ _ c.in-Err.fault c.in-Err.ensures.cause);
-      written = c.say_fault.ensures.said;
-    }
+pub returns-clause-said : goal.returns-clause-said
+returns-clause-said g c = λ no_merge. record { text = line usage_text; meant = usage; written = c.say_usage.ensures.said }

@@ -1,0 +1,211 @@
+-- From the parts of a relay to what a run of it says as a whole.
+use Rattle.std.proofs.Common.{◌≡◌, ℕ, ◌⊎◌, inl, inr, List, [], ◌∷◌, ◌++◌, refl, sym, ap, subst, ◌∙◌, append_assoc, arith}
+use Rattle.std.specs.Prelude.{All, Option, Some, None, IfSome, codes, decimal, string_bytes}
+use Rattle.std.specs.declared.alloc.Global.{Global}
+use Rattle.std.specs.declared.string.String.{String}
+use Rattle.metrics_core.specs.Characters.{line, newline}
+use Rattle.metrics_core.specs.Outside.{GrewBy, GrewByPrefix}
+use Rattle.drive_script.specs.Faults.{fault_text}
+use Rattle.drive_script.specs.declared.faults.DriveFault.{DriveFault}
+use Rattle.drive_script.specs.declared.faults.DriveFault.TheVariants as faults
+use Rattle.prom_format.specs.Pages.{Family, IsPrintable, page_text}
+use Rattle.page_relay.specs.Merge.{IsMerged}
+use Rattle.page_relay.specs.Streams.{IsFirstBadLine, IsStream}
+use Rattle.page_relay.specs.Values.{IsWritingFault}
+use Rattle.page_relay.specs.declared.faults.RelayFault.{RelayFault}
+use Rattle.page_relay.specs.declared.faults.RelayFault.TheVariants as relay
+use Rattle.page_relay.proofs.MergedPages.{conflict_refuses, merged_stands}
+use Rattle.page_relay.proofs.OneStream.{stream_told}
+use Rattle.page_relay.proofs.Streams.{page_printable}
+use Rattle.script_runs.specs.Answers.{IsSaidText, fault_status}
+use Rattle.script_runs.specs.Reading.{IsReadFault}
+use Rattle.script_runs.specs.Relay.{HasConflict, HasPages, HasRelayCause, IsBadStream, IsMergedPage, IsRelayComplete, IsRelayed, IsRelayedInPart, IsRelayEnd, IsRelayLineOf, IsUnmergeable, IsWithinLimit, LeavesRelay, bad_stream, conflict, done, merged_text, no_memory, read_failed, relay_fault_text, relay_status, too_long, write_failed}
+
+-- ---- the page
+
+pub merged_page : (bytes : List ℕ) (pages : List (List Family)) (families : List Family) → IsStream bytes pages → IsMerged pages families → IsMergedPage bytes (page_text families)
+merged_page bytes pages families stream merged = record {
+  pages = pages;
+  families = families;
+  stream = stream;
+  merged = merged;
+  page = merged_stands bytes pages families stream merged;
+}
+
+pub merged_printable : (bytes : List ℕ) (pages : List (List Family)) (families : List Family) → IsStream bytes pages → IsMerged pages families → All IsPrintable families
+merged_printable bytes pages families stream merged =
+    page_printable (page_text families) families (merged_stands bytes pages families stream merged).page
+
+pub relayed_whole : (bytes : List ℕ) (pages : List (List Family)) (families : List Family) (written written' : Option (List ℕ)) → IsStream bytes pages → IsMerged pages families
+    → GrewBy written written' (page_text families) → IsRelayed bytes written written'
+relayed_whole bytes pages families written written' stream merged grew =
+    record { text = page_text families; page = merged_page bytes pages families stream merged; grew = grew }
+
+pub relayed_prefix : (bytes : List ℕ) (pages : List (List Family)) (families : List Family) (written written' : Option (List ℕ)) → IsStream bytes pages → IsMerged pages families
+    → GrewByPrefix written written' (page_text families) → IsRelayedInPart bytes written written'
+relayed_prefix bytes pages families written written' stream merged grew =
+    record { text = page_text families; page = merged_page bytes pages families stream merged; grew = grew }
+
+-- what a refused writing leaves
+pub relay_leaves : (bytes : List ℕ) (pages : List (List Family)) (families : List Family) (written written' : Option (List ℕ)) (before now : ℕ) (fault : RelayFault) → IsStream bytes pages → IsMerged pages families
+    → IsWritingFault before now fault → GrewByPrefix written written' (page_text families) → LeavesRelay bytes written written' fault
+relay_leaves bytes pages families written written' before now (relay.Syntax l) stream merged cause grew = absurd cause
+relay_leaves bytes pages families written written' before now (relay.Conflict page name) stream merged cause grew = absurd cause
+relay_leaves bytes pages families written written' before now relay.WriteFault stream merged cause grew = relayed_prefix bytes pages families written written' stream merged grew
+relay_leaves bytes pages families written written' before now relay.Memory stream merged cause grew = inr (relayed_prefix bytes pages families written written' stream merged grew)
+
+-- ---- which status each cause brings
+
+memory_relay : (bytes : List ℕ) (S K : Type 0) → IsRelayComplete bytes S K 8
+memory_relay bytes S K = record {
+  too_long = λ is ok. inr refl;
+  no_stream = λ within none ok. inr refl;
+  no_merge = λ pages within stream none ok. inr refl;
+  merges = λ pages families within stream merged ok sink_ok. inr refl;
+}
+
+bad_relay : (bytes : List ℕ) (S K : Type 0) (l : ℕ) → IsWithinLimit bytes → IsFirstBadLine bytes l → IsRelayComplete bytes S K 10
+bad_relay bytes S K l in_limit bad = record {
+  too_long = λ long ok. absurd (omega (arith, long, in_limit));
+  no_stream = λ within none ok. inl refl;
+  no_merge = λ pages within stream none ok. absurd (bad.no_stream pages stream);
+  merges = λ pages families within stream merged ok sink_ok. absurd (bad.no_stream pages stream);
+}
+
+conflict_relay : (bytes : List ℕ) (S K : Type 0) (page : ℕ) (name : List ℕ) → IsWithinLimit bytes → HasConflict bytes page name → IsRelayComplete bytes S K 11
+conflict_relay bytes S K page name in_limit h = record {
+  too_long = λ long ok. absurd (omega (arith, long, in_limit));
+  no_stream = λ within none ok. absurd (none h.0 h.1);
+  no_merge = λ pages within stream none ok. inl refl;
+  merges = λ pages families within stream merged ok sink_ok.
+      absurd (conflict_refuses h.0 page name h.2 families (subst (λ p. IsMerged p families) (stream_told bytes pages h.0 stream h.1) merged));
+}
+
+-- pages that merge were written, or a write failed
+good_relay : (bytes text : List ℕ) (S K : Type 0) (status : ℕ) → IsWithinLimit bytes → IsMergedPage bytes text → (¬ K → (status ≡ 0) ⊎ (status ≡ 8)) → IsRelayComplete bytes S K status
+good_relay bytes text S K status in_limit h end = record {
+  too_long = λ long ok. absurd (omega (arith, long, in_limit));
+  no_stream = λ within none ok. absurd (none h.pages h.stream);
+  no_merge = λ pages within stream none ok. absurd (none h.families (subst (λ p. IsMerged p h.families) (stream_told bytes h.pages pages h.stream stream) h.merged));
+  merges = λ pages families within stream merged ok sink_ok. end sink_ok;
+}
+
+-- ---- how a run ends
+
+-- what holds of the bytes that were read whole holds of those that the source tells
+of_told : (left : Option (List ℕ)) (items : List ℕ) (P : List ℕ → Type 0) → IfSome left (λ bytes. items ≡ bytes) → P items → IfSome left P
+of_told None items P whole h = tt
+of_told (Some bytes) items P whole h = subst P whole h
+
+of_any : (left : Option (List ℕ)) (P : List ℕ → Type 0) → ((bytes : List ℕ) → P bytes) → IfSome left P
+of_any None P h = tt
+of_any (Some bytes) P h = h bytes
+
+-- the page was written
+pub done_ends : (left : Option (List ℕ)) (items : List ℕ) (S K : Type 0) (written written' : Option (List ℕ)) → IfSome left (λ bytes. items ≡ bytes) → IsWithinLimit items → IsRelayed items written written'
+    → IsRelayEnd left S K written written' 0
+done_ends left items S K written written' whole within relayed = record {
+  merged = λ e. of_told left items (λ bytes. IsWithinLimit bytes × IsRelayed bytes written written') whole (within, relayed);
+  others = (λ e. omega (arith, e), λ e. omega (arith, e));
+  too_long = λ e. absurd (omega (arith, e));
+  read_failed = λ e. absurd (omega (arith, e));
+  write_failed = λ e. absurd (omega (arith, e));
+  bad_stream = λ e. absurd (omega (arith, e));
+  conflict = λ e. absurd (omega (arith, e));
+  unplayed = λ e. absurd (omega (arith, e));
+  prefix = λ e. absurd (omega (arith, e));
+  no_memory = λ e. absurd (omega (arith, e));
+  complete = of_told left items (λ bytes. IsRelayComplete bytes S K 0) whole (good_relay items relayed.text S K 0 within relayed.page (λ ok. inl refl));
+}
+
+-- the relay was refused
+pub refused_ends : (left : Option (List ℕ)) (items : List ℕ) (S K : Type 0) (written written' : Option (List ℕ)) (fault : RelayFault) → IfSome left (λ bytes. items ≡ bytes) → IsWithinLimit items
+    → HasRelayCause items K fault → LeavesRelay items written written' fault → IsRelayEnd left S K written written' (relay_status fault)
+refused_ends left items S K written written' (relay.Syntax l) whole within cause leaves = record {
+  merged = λ e. absurd (omega (arith, e));
+  others = (λ e. omega (arith, e), λ e. omega (arith, e));
+  too_long = λ e. absurd (omega (arith, e));
+  read_failed = λ e. absurd (omega (arith, e));
+  write_failed = λ e. absurd (omega (arith, e));
+  bad_stream = λ e. of_told left items (λ bytes. (k : ℕ) × IsBadStream bytes k) whole (l, (within, cause));
+  conflict = λ e. absurd (omega (arith, e));
+  unplayed = λ e. leaves;
+  prefix = λ e. absurd (omega (arith, e));
+  no_memory = λ e. absurd (omega (arith, e));
+  complete = of_told left items (λ bytes. IsRelayComplete bytes S K 10) whole (bad_relay items S K l within cause);
+}
+refused_ends left items S K written written' (relay.Conflict page name) whole within cause leaves = record {
+  merged = λ e. absurd (omega (arith, e));
+  others = (λ e. omega (arith, e), λ e. omega (arith, e));
+  too_long = λ e. absurd (omega (arith, e));
+  read_failed = λ e. absurd (omega (arith, e));
+  write_failed = λ e. absurd (omega (arith, e));
+  bad_stream = λ e. absurd (omega (arith, e));
+  conflict = λ e. of_told left items (λ bytes. (k : ℕ) × (text : List ℕ) × IsUnmergeable bytes k text) whole (page, string_bytes name, (within, cause));
+  unplayed = λ e. leaves;
+  prefix = λ e. absurd (omega (arith, e));
+  no_memory = λ e. absurd (omega (arith, e));
+  complete = of_told left items (λ bytes. IsRelayComplete bytes S K 11) whole (conflict_relay items S K page (string_bytes name) within cause);
+}
+refused_ends left items S K written written' relay.WriteFault whole within cause leaves = record {
+  merged = λ e. absurd (omega (arith, e));
+  others = (λ e. omega (arith, e), λ e. omega (arith, e));
+  too_long = λ e. absurd (omega (arith, e));
+  read_failed = λ e. absurd (omega (arith, e));
+  write_failed = λ e. cause;
+  bad_stream = λ e. absurd (omega (arith, e));
+  conflict = λ e. absurd (omega (arith, e));
+  unplayed = λ e. absurd (omega (arith, e));
+  prefix = λ e. of_told left items (λ bytes. IsRelayedInPart bytes written written') whole leaves;
+  no_memory = λ e. absurd (omega (arith, e));
+  complete = of_told left items (λ bytes. IsRelayComplete bytes S K 7) whole (good_relay items leaves.text S K 7 within leaves.page (λ ok. absurd (ok cause)));
+}
+refused_ends left items S K written written' relay.Memory whole within cause leaves = record {
+  merged = λ e. absurd (omega (arith, e));
+  others = (λ e. omega (arith, e), λ e. omega (arith, e));
+  too_long = λ e. absurd (omega (arith, e));
+  read_failed = λ e. absurd (omega (arith, e));
+  write_failed = λ e. absurd (omega (arith, e));
+  bad_stream = λ e. absurd (omega (arith, e));
+  conflict = λ e. absurd (omega (arith, e));
+  unplayed = λ e. absurd (omega (arith, e));
+  prefix = λ e. absurd (omega (arith, e));
+  no_memory = λ e. of_told left items (λ bytes. (written' ≡ written) ⊎ IsRelayedInPart bytes written written') whole leaves;
+  complete = of_any left (λ bytes. IsRelayComplete bytes S K 8) (λ bytes. memory_relay bytes S K);
+}
+
+-- ---- lines on `err`
+
+pub unread_line : (left : Option (List ℕ)) (S : Type 0) (fault : DriveFault) → IsReadFault left S fault → IsRelayLineOf left (fault_status fault) (line (fault_text fault))
+unread_line left S (faults.Script l) h = absurd h
+unread_line left S faults.TooLong h = too_long
+unread_line left S faults.ReadFault h = read_failed
+unread_line left S faults.WriteFault h = absurd h
+unread_line left S faults.Memory h = no_memory
+
+pub done_line : (left : Option (List ℕ)) (items : List ℕ) (pages : ℕ) → IfSome left (λ bytes. items ≡ bytes) → HasPages items pages → IsRelayLineOf left 0 (line (merged_text pages))
+done_line left items pages whole has = done pages (of_told left items (λ bytes. HasPages bytes pages) whole has)
+
+pub refused_line : (left : Option (List ℕ)) (items : List ℕ) (K : Type 0) (fault : RelayFault) → IfSome left (λ bytes. items ≡ bytes) → IsWithinLimit items → HasRelayCause items K fault
+    → IsRelayLineOf left (relay_status fault) (line (relay_fault_text fault))
+refused_line left items K (relay.Syntax l) whole within cause = bad_stream l (of_told left items (λ bytes. IsBadStream bytes l) whole (within, cause))
+refused_line left items K (relay.Conflict page name) whole within cause =
+    conflict page (string_bytes name) (of_told left items (λ bytes. IsUnmergeable bytes page (string_bytes name)) whole (within, cause))
+refused_line left items K relay.WriteFault whole within cause = write_failed
+refused_line left items K relay.Memory whole within cause = no_memory
+
+-- a text that is the line of a fault, said of that fault
+pub relay_said_of : (Failed : Type 0) (said said' : Option (List ℕ)) (fault is : RelayFault) (text : List ℕ) → fault ≡ is → text ≡ line (relay_fault_text is)
+    → IsSaidText Failed said said' text → IsSaidText Failed said said' (line (relay_fault_text fault))
+relay_said_of Failed said said' fault is text same spelled h =
+    let P : List ℕ → Type 0 = λ t. IsSaidText Failed said said' t in
+    subst P (spelled ∙ sym (ap (λ f. line (relay_fault_text f)) same)) h
+
+-- the line of a conflict, from its pieces
+pub conflict_line : (digits text : List ℕ) (page : ℕ) (name : String Global) → digits ≡ decimal page → text ≡ string_bytes name
+    → codes "conflict: page " ++ (digits ++ (codes " family " ++ (text ++ newline ∷ []))) ≡ line (relay_fault_text (relay.Conflict page name))
+conflict_line digits text page name d t =
+    (λ j. codes "conflict: page " ++ (d j ++ (codes " family " ++ (t j ++ newline ∷ []))))
+    ∙ sym (append_assoc (codes "conflict: page " ++ decimal page ++ codes " family ") (string_bytes name) (newline ∷ [])
+    ∙ append_assoc (codes "conflict: page " ++ decimal page) (codes " family ") (string_bytes name ++ newline ∷ [])
+    ∙ append_assoc (codes "conflict: page ") (decimal page) (codes " family " ++ (string_bytes name ++ newline ∷ [])))
