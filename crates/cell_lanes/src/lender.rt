@@ -21,7 +21,7 @@ pub trait Lender: Send {
     type Entry;
 
     /// What tells one from another, and whatever else is kept with it and never changes.
-    type Fixed;
+    type Lasting;
 
     /// What the root pass knows.
     ghost root: { Self → View Self.Entry };
@@ -30,13 +30,13 @@ pub trait Lender: Send {
     ghost knows: { Self.Lent → View Self.Entry };
 
     /// What lending, calls and taking back leave as it is.
-    ghost fixed: { Self → Self.Fixed };
+    ghost fixed: { Self → Self.Lasting };
 
     /// The pass was lent by one of which this is fixed.
-    ghost owns: { Self.Fixed → Self.Lent → Type 0 };
+    ghost owns: { Self.Lasting → Self.Lent → Type 0 };
 
     /// One of which this is fixed takes this call.
-    ghost takes: { Self.Fixed → Self.Call → Type 0 };
+    ghost takes: { Self.Lasting → Self.Call → Type 0 };
 
     /// What a lane asks for may stand in the history as these calls: mostly one, none where the call changes nothing.
     ghost stands_as: { Self.Call → List Self.Entry → Type 0 };
@@ -56,10 +56,10 @@ pub trait Lender: Send {
         lent: &mut Self::Lent,
         call: &Self::Call,
     ) -> Result<(), Memory>
-        requires { (by : Self.Fixed) × owns by lent.old × takes by call.now }
+        requires { (by : Self.Lasting) × owns by lent.old × takes by call.now }
         ensures made { OnOk result (Made (stands_as call.now) (knows lent.old) (knows lent.new)) }
         ensures refused { OnErr result (knows lent.new ≡ knows lent.old) }
-        ensures kept { (by : Self.Fixed) → owns by lent.old → owns by lent.new };
+        ensures kept { (by : Self.Lasting) → owns by lent.old → owns by lent.new };
 
     /// Takes a pass back. The root has then seen what either had seen, and holds the calls of both.
     fn take_back(&mut self, lent: Self::Lent)

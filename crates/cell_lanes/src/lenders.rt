@@ -26,13 +26,13 @@ pub trait Lenders: Send {
     type Entry;
 
     /// What tells one thing from another, and whatever else is kept with it and never changes.
-    type Fixed;
+    type Lasting;
 
     /// What is kept beside the things.
     type Frame;
 
     /// The things, in the order of their indices.
-    ghost things: { Self → List (Thing Self.Entry Self.Fixed) };
+    ghost things: { Self → List (Thing Self.Entry Self.Lasting) };
 
     /// All but what the root passes know. Lending, taking back and settling leave it as it is.
     ghost frame: { Self → Self.Frame };
@@ -41,10 +41,10 @@ pub trait Lenders: Send {
     ghost knows: { Self.Lent → View Self.Entry };
 
     /// The pass was lent by a thing of which this is fixed.
-    ghost owns: { Self.Fixed → Self.Lent → Type 0 };
+    ghost owns: { Self.Lasting → Self.Lent → Type 0 };
 
     /// A thing of which this is fixed takes this call.
-    ghost takes: { Self.Fixed → Self.Call → Type 0 };
+    ghost takes: { Self.Lasting → Self.Call → Type 0 };
 
     /// What a lane asks for may stand in the history as these calls: mostly one, none where the call changes nothing.
     ghost stands_as: { Self.Call → List Self.Entry → Type 0 };
@@ -52,9 +52,9 @@ pub trait Lenders: Send {
     /// Lends a new pass of the thing with this index, which has seen what the root pass has seen and has made no call.
     fn lend(&mut self, alloc: Global, index: usize) -> Result<Self::Lent, Memory>
         requires here { index < length (things self.old) }
-        requires root { (t : Thing Self.Entry Self.Fixed) → get_elem? (things self.old) index ≡ some t → t.root.number ≡ 0 }
-        ensures lent { IfOk result (λ new. (t : Thing Self.Entry Self.Fixed) → get_elem? (things self.old) index ≡ some t → owns t.fixed new × (knows new ≡ child t.root)) }
-        ensures out { OnOk result ((t : Thing Self.Entry Self.Fixed) → get_elem? (things self.old) index ≡ some t → things self.new ≡ set (things self.old) index (record t { root = lender t.root })) }
+        requires root { (t : Thing Self.Entry Self.Lasting) → get_elem? (things self.old) index ≡ some t → t.root.number ≡ 0 }
+        ensures lent { IfOk result (λ new. (t : Thing Self.Entry Self.Lasting) → get_elem? (things self.old) index ≡ some t → owns t.fixed new × (knows new ≡ child t.root)) }
+        ensures out { OnOk result ((t : Thing Self.Entry Self.Lasting) → get_elem? (things self.old) index ≡ some t → things self.new ≡ set (things self.old) index (record t { root = lender t.root })) }
         ensures refused { OnErr result (things self.new ≡ things self.old) }
         ensures frame { frame self.new ≡ frame self.old };
 
@@ -65,18 +65,18 @@ pub trait Lenders: Send {
         lent: &mut Self::Lent,
         call: &Self::Call,
     ) -> Result<(), Memory>
-        requires { (by : Self.Fixed) × owns by lent.old × takes by call.now }
+        requires { (by : Self.Lasting) × owns by lent.old × takes by call.now }
         ensures made { OnOk result (Made (stands_as call.now) (knows lent.old) (knows lent.new)) }
         ensures refused { OnErr result (knows lent.new ≡ knows lent.old) }
-        ensures kept { (by : Self.Fixed) → owns by lent.old → owns by lent.new };
+        ensures kept { (by : Self.Lasting) → owns by lent.old → owns by lent.new };
 
     /// Takes a pass of the thing with this index back. The root has then seen what either had seen, and holds the calls of both.
     fn take_back(&mut self, index: usize, lent: Self::Lent)
         requires here { index < length (things self.old) }
-        requires root { (t : Thing Self.Entry Self.Fixed) → get_elem? (things self.old) index ≡ some t → t.root.number ≡ 0 }
-        requires lent { (t : Thing Self.Entry Self.Fixed) → get_elem? (things self.old) index ≡ some t → owns t.fixed lent }
-        ensures taken { (t : Thing Self.Entry Self.Fixed) → get_elem? (things self.old) index ≡ some t
-            → (u : Thing Self.Entry Self.Fixed) × TookBack t.root (knows lent) u.root × (u.fixed ≡ t.fixed) × (things self.new ≡ set (things self.old) index u) }
+        requires root { (t : Thing Self.Entry Self.Lasting) → get_elem? (things self.old) index ≡ some t → t.root.number ≡ 0 }
+        requires lent { (t : Thing Self.Entry Self.Lasting) → get_elem? (things self.old) index ≡ some t → owns t.fixed lent }
+        ensures taken { (t : Thing Self.Entry Self.Lasting) → get_elem? (things self.old) index ≡ some t
+            → (u : Thing Self.Entry Self.Lasting) × TookBack t.root (knows lent) u.root × (u.fixed ≡ t.fixed) × (things self.new ≡ set (things self.old) index u) }
         ensures frame { frame self.new ≡ frame self.old };
 
     /// With no pass out, makes sure that each root knows whose each call is.
@@ -84,7 +84,7 @@ pub trait Lenders: Send {
         requires roots { Roots root_of (things self.old) }
         requires home { Home root_of (things self.old) }
         ensures same { things self.new ≡ things self.old }
-        ensures settled { (j : ℕ) (t : Thing Self.Entry Self.Fixed) → get_elem? (things self.old) j ≡ some t → Settled t.root }
+        ensures settled { (j : ℕ) (t : Thing Self.Entry Self.Lasting) → get_elem? (things self.old) j ≡ some t → Settled t.root }
         ensures frame { frame self.new ≡ frame self.old };
 }
 
@@ -98,7 +98,7 @@ impl<S: Lender> Lenders for Vec<S> {
 
     type Entry = S::Entry;
 
-    type Fixed = S::Fixed;
+    type Lasting = S::Lasting;
 
     type Frame = ();
 

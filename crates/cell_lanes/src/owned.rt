@@ -112,7 +112,7 @@ impl<C: SharedCell> Lender for OwnedCell<C> {
 
     type Entry = C::Entry;
 
-    type Fixed = C;
+    type Lasting = C;
 
     ghost root = { root_of };
 

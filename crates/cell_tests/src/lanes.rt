@@ -26,8 +26,8 @@ pub fn two_lanes<K: Copy + Drop>(
     times: usize,
 ) -> Result<Vec<Lane<K>>, Fail> {
     let mut lanes = Vec::new(alloc);
-    for (number, call) in [(0, calls[0]), (1, calls[1])] {
-        lanes.push(lane_of(alloc, number, vec![in alloc; call; times]?)?)?;
-    }
+    let [first, second] = calls;
+    lanes.push(lane_of(alloc, 0, vec![in alloc; first; times]?)?)?;
+    lanes.push(lane_of(alloc, 1, vec![in alloc; second; times]?)?)?;
     Ok(lanes)
 }

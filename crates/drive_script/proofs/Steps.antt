@@ -14,7 +14,7 @@ use Rattle.drive_script.specs.Script.{ScriptText, SettingsText, IsLine, global_l
 use Rattle.drive_script.specs.Valid.{Registration, registered, HasHandle, PrintApart, AreValidLines}
 use Rattle.drive_script.specs.Growth.{BeginsRound, SetsUp, AddsCall, IsNext}
 use Rattle.drive_script.specs.Texts.{call_line_of, setup_of, round_of, script_so_far, IsKnown, StandsBehind}
-use Rattle.drive_script.specs.declared.progress.Progress.{Progress}
+use Rattle.drive_script.specs.declared.progress.ScriptSoFar.{ScriptSoFar}
 use Rattle.drive_script.specs.declared.script.CallLine.{CallLine}
 use Rattle.drive_script.specs.declared.script.Setup.{Setup}
 use Rattle.drive_script.specs.declared.script.Setup.TheVariants as setups
@@ -146,7 +146,7 @@ no_handle rs kinds place wanted knows past h =
 -- ---- one line
 
 -- what a step says of the script, said of the lines
-pub step_taken : {E : Type 0} (lines : List (List ℕ)) (line : List ℕ) (old new : Progress) (says : text.ScriptLine) (r : Result Bool E) → StandsBehind lines old → IsLine line says
+pub step_taken : {E : Type 0} (lines : List (List ℕ)) (line : List ℕ) (old new : ScriptSoFar) (says : text.ScriptLine) (r : Result Bool E) → StandsBehind lines old → IsLine line says
     → IfOk r (λ taken. MatchBool taken (IsNext (script_so_far old) says (script_so_far new) × IsKnown new) ((t : ScriptText) → ¬ IsNext (script_so_far old) says t))
     → IfOk r (λ taken. MatchBool taken (StandsBehind (lines ++ line ∷ []) new) (¬ AreValidLines (lines ++ line ∷ [])))
 step_taken lines line old new says (Ok true) h is_line next =

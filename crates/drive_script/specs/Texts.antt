@@ -10,7 +10,7 @@ use Rattle.drive_script.specs.Reading.{Registered}
 use Rattle.drive_script.specs.declared.script.Settings.{Settings}
 use Rattle.drive_script.specs.Script as text
 use Rattle.drive_script.specs.Valid.{registered, IsValid}
-use Rattle.drive_script.specs.declared.progress.Progress.{Progress}
+use Rattle.drive_script.specs.declared.progress.ScriptSoFar.{ScriptSoFar}
 use Rattle.drive_script.specs.declared.script.Act.{Act}
 use Rattle.drive_script.specs.declared.script.Act.TheVariants as acts
 use Rattle.drive_script.specs.declared.script.CallLine.{CallLine}
@@ -18,8 +18,8 @@ use Rattle.drive_script.specs.declared.script.Setup.{Setup}
 use Rattle.drive_script.specs.declared.script.Setup.TheVariants as setups
 use Rattle.drive_script.specs.declared.script.Round.{Round}
 use Rattle.drive_script.specs.declared.script.Script.{Script}
-use Rattle.drive_script.specs.declared.lines.Line.{Line}
-use Rattle.drive_script.specs.declared.lines.Line.TheVariants as lines
+use Rattle.drive_script.specs.declared.lines.Statement.{Statement}
+use Rattle.drive_script.specs.declared.lines.Statement.TheVariants as lines
 
 abbrev pub act_of : Act → text.Act
 act_of (acts.Inc n) = text.Inc n
@@ -51,7 +51,7 @@ label_of label = record { key = string_bytes label.0; value = string_bytes label
 abbrev pub registered_of : MetricKind × KeyText → Registered
 registered_of registered = (registered.0, (registered.1.name, registered.1.labels))
 
-abbrev pub line_of : Line → text.ScriptLine
+abbrev pub line_of : Statement → text.ScriptLine
 line_of (lines.Global key value) = text.Global (label_of (key, value))
 line_of (lines.Round moment) = text.Round moment
 line_of (lines.Register kind key) = text.Setup (text.Register kind key)
@@ -60,17 +60,17 @@ line_of (lines.Call call) = text.CallOf (call_line_of call)
 -- ---- the progress of the reading
 
 -- the script of the settings and the rounds so far
-abbrev pub script_so_far : Progress → text.ScriptText
+abbrev pub script_so_far : ScriptSoFar → text.ScriptText
 script_so_far progress = record { settings = settings_of progress.settings; rounds = map round_of progress.rounds.items }
 
 -- what is known beside the script: the global labels, the kind of each register line, and whose each head is
-pub record IsKnown (progress : Progress) : Type 0 where
+pub record IsKnown (progress : ScriptSoFar) : Type 0 where
   pub globals : labels_of progress.heads.globals.entries ≡ text.global_labels (script_so_far progress).settings
   pub kinds : progress.kinds.items ≡ map (λ r. r.kind) (registered (script_so_far progress))
   pub heads : AreHeadsOf (labels_of progress.heads.globals.entries) (keys_by_head progress.heads.keys.entries) (registered (script_so_far progress))
 
 -- the progress stands behind these lines: they are the valid script of its rounds
-pub record StandsBehind (lines : List (List ℕ)) (progress : Progress) : Type 0 where
+pub record StandsBehind (lines : List (List ℕ)) (progress : ScriptSoFar) : Type 0 where
   pub script : text.IsScript lines (script_so_far progress)
   pub valid : IsValid (script_so_far progress)
   pub known : IsKnown progress

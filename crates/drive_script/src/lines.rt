@@ -16,7 +16,7 @@ const LAST_LANE: u64 = 7;
 
 /// What one line says.
 #[derive(Drop)]
-pub(crate) enum Line {
+pub(crate) enum Statement {
     /// The key and the value of a global label.
     Global(String, String),
     /// The moment of a round that begins.
@@ -37,22 +37,22 @@ pub(crate) enum Verb {
 }
 
 /// What a line says, if it is of some form.
-pub(crate) fn read_line(alloc: Global, line: &[u8]) -> Result<Option<Line>, Memory>
+pub(crate) fn read_line(alloc: Global, line: &[u8]) -> Result<Option<Statement>, Memory>
     ensures { IfOk result (λ read.
         MatchOption read ((says : ScriptLine) → ¬ IsLine line.now says)
         (λ says. IsLine line.now (line_of says))) }
 {
     if let Some(call) = call_line(line) {
-        return Ok(Some(Line::Call(call)));
+        return Ok(Some(Statement::Call(call)));
     }
     if let Some(moment) = round_line(line) {
-        return Ok(Some(Line::Round(moment)));
+        return Ok(Some(Statement::Round(moment)));
     }
     if let Some((kind, key)) = register_line(alloc, line)? {
-        return Ok(Some(Line::Register { kind, key }));
+        return Ok(Some(Statement::Register { kind, key }));
     }
     if let Some((key, value)) = global_line(alloc, line)? {
-        return Ok(Some(Line::Global(key, value)));
+        return Ok(Some(Statement::Global(key, value)));
     }
     Ok(None)
 }

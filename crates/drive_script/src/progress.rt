@@ -8,7 +8,7 @@ ghost use Rattle.drive_script.specs.Valid.{registered, HasHandle, AreValidLines}
 ghost use Rattle.std.specs.List.Sorted.{IsNonDecreasingBy};
 
 use crate::heads::Heads;
-use crate::lines::{Line, read_line};
+use crate::lines::{Statement, read_line};
 use crate::{CallLine, Round, Script, Settings, Setup};
 use metrics_core::{Key, Memory, MetricKind};
 use std::alloc::Global;
@@ -19,19 +19,19 @@ const MAX_REGISTRATIONS: usize = 1_000_000;
 /// The settings and the rounds so far, the kind of each register line in them, and the heads of all keys. After an `Err`
 /// of a method it is of no use.
 #[derive(Drop)]
-pub(crate) struct Progress {
+pub(crate) struct ScriptSoFar {
     settings: Settings,
     rounds: Vec<Round>,
     kinds: Vec<MetricKind>,
     heads: Heads,
 }
 
-impl Progress {
+impl ScriptSoFar {
     /// Nothing is said yet.
-    pub(crate) fn new(alloc: Global) -> Progress
+    pub(crate) fn new(alloc: Global) -> ScriptSoFar
         ensures { StandsBehind [] result }
     {
-        Progress {
+        ScriptSoFar {
             settings: Settings {
                 globals: Vec::new(alloc),
             },
@@ -49,10 +49,10 @@ impl Progress {
     {
         match read_line(alloc, line)? {
             None => Ok(false),
-            Some(Line::Global(key, value)) => self.add_global(alloc, key, value),
-            Some(Line::Round(moment)) => self.begin_round(alloc, moment),
-            Some(Line::Register { kind, key }) => self.register(alloc, kind, key),
-            Some(Line::Call(call)) => self.call(call),
+            Some(Statement::Global(key, value)) => self.add_global(alloc, key, value),
+            Some(Statement::Round(moment)) => self.begin_round(alloc, moment),
+            Some(Statement::Register { kind, key }) => self.register(alloc, kind, key),
+            Some(Statement::Call(call)) => self.call(call),
         }
     }
 
@@ -60,7 +60,7 @@ impl Progress {
     pub(crate) fn into_script(self) -> Script
         ensures { script_of result ≡ script_so_far self }
     {
-        let Progress {
+        let ScriptSoFar {
             settings,
             rounds,
             ..

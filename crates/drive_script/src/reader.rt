@@ -7,7 +7,7 @@ ghost use Rattle.drive_script.specs.Texts.{script_of};
 ghost use Rattle.drive_script.specs.Valid.{IsScriptOf};
 
 use crate::cursor::count_before;
-use crate::progress::Progress;
+use crate::progress::ScriptSoFar;
 use crate::{DriveFault, Script};
 use std::alloc::Global;
 
@@ -16,7 +16,7 @@ pub fn read_script(alloc: Global, bytes: &[u8]) -> Result<Script, DriveFault>
     ensures valid { IfOk result (λ script. IsScriptOf bytes.now (script_of script)) }
     ensures refused { IfErr result (IsScriptFault bytes.now) }
 {
-    let mut progress = Progress::new(alloc);
+    let mut progress = ScriptSoFar::new(alloc);
     let mut rest = bytes;
     let mut line = 0;
     while !rest.is_empty() {

@@ -1,8 +1,8 @@
 -- What a hasher of keys answers after some calls.
 use Rattle.std.specs.Prelude.{◌≡◌, ℕ, List, [], ◌∷◌, ◌++◌, flat_map, fold, Option, Some, None, unwrap_or}
 use Rattle.std.specs.Int.{w64, to_le_bytes}
-use Rattle.metrics_core.specs.declared.key_hasher.Progress.{Progress}
-use Rattle.metrics_core.specs.declared.key_hasher.Progress.TheVariants.{Nothing, Number, Bytes}
+use Rattle.metrics_core.specs.declared.key_hasher.Taken.{Taken}
+use Rattle.metrics_core.specs.declared.key_hasher.Taken.TheVariants.{Nothing, Number, Bytes}
 use Rattle.metrics_core.specs.Hashes.{hash_step, hash_bytes}
 
 -- a call: bytes, or a number of 64 bits
@@ -32,17 +32,17 @@ abbrev pub answer_of : List HashCall → ℕ
 answer_of calls = answer_after None calls
 
 -- the answer after further calls on a hasher
-abbrev pub answer_from : Progress → List HashCall → ℕ
+abbrev pub answer_from : Taken → List HashCall → ℕ
 answer_from Nothing calls = answer_after None calls
 answer_from (Number number) calls = answer_after (Some number) calls
 answer_from (Bytes hash) calls = fold hash_step hash (flat_map bytes_of calls)
 
 -- the hash of all that a hasher was given, where bytes are hashed
-abbrev pub hashed : Progress → ℕ
+abbrev pub hashed : Taken → ℕ
 hashed Nothing = hash_bytes 0 []
 hashed (Number number) = hash_bytes 0 (to_le_bytes w64 number)
 hashed (Bytes hash) = hash
 
 -- a hasher that answers, whatever calls come next, as one on which these calls were made
-abbrev pub StandsFor : Progress → List HashCall → Type 0
+abbrev pub StandsFor : Taken → List HashCall → Type 0
 StandsFor hasher calls = (next : List HashCall) → answer_from hasher next ≡ answer_of (calls ++ next)

@@ -7,7 +7,7 @@ use std::marker::Model;
 
 /// What a hasher was given so far.
 #[derive(Clone, Copy, Debug, Drop)]
-enum Progress {
+enum Taken {
     /// Nothing.
     Nothing,
     /// Numbers alone, this one last.
@@ -16,7 +16,7 @@ enum Progress {
     Bytes(u64),
 }
 
-impl Progress {
+impl Taken {
     ghost use Rattle.metrics_core.specs.KeyHashing.{hashed};
 
     /// The hash of all that was given, as bytes.
@@ -24,9 +24,9 @@ impl Progress {
         ensures { result ≡ hashed self }
     {
         match self {
-            Progress::Nothing => hash_with_seed(0, &[]),
-            Progress::Number(number) => hash_with_seed(0, &number.to_le_bytes()),
-            Progress::Bytes(hash) => hash,
+            Taken::Nothing => hash_with_seed(0, &[]),
+            Taken::Number(number) => hash_with_seed(0, &number.to_le_bytes()),
+            Taken::Bytes(hash) => hash,
         }
     }
 }
@@ -35,13 +35,13 @@ impl Progress {
 /// hash that the key has, and so is not hashed again.
 #[derive(Debug, Drop)]
 pub struct KeyHasher {
-    progress: Progress,
+    progress: Taken,
 }
 
 impl Model for KeyHasher {
-    ghost use Rattle.metrics_core.specs.declared.key_hasher.Progress.{Progress};
+    ghost use Rattle.metrics_core.specs.declared.key_hasher.Taken.{Taken};
 
-    ghost Value = { Progress };
+    ghost Value = { Taken };
 
     ghost view = { λ hasher. hasher.progress };
 }
@@ -54,7 +54,7 @@ impl Default for KeyHasher {
 
     fn default() -> KeyHasher {
         KeyHasher {
-            progress: Progress::Nothing,
+            progress: Taken::Nothing,
         }
     }
 }
@@ -67,7 +67,7 @@ impl KeyHasher {
         ensures { (calls : List HashCall) → StandsFor self.old calls → StandsFor self.new (calls ++ OfBytes bytes.now ∷ []) }
     {
         let start = self.progress.hashed();
-        self.progress = Progress::Bytes(continue_hash(start, bytes));
+        self.progress = Taken::Bytes(continue_hash(start, bytes));
     }
 
     /// Takes a number.
@@ -75,8 +75,8 @@ impl KeyHasher {
         ensures { (calls : List HashCall) → StandsFor self.old calls → StandsFor self.new (calls ++ OfNumber number ∷ []) }
     {
         self.progress = match self.progress {
-            Progress::Nothing | Progress::Number(_) => Progress::Number(number),
-            Progress::Bytes(hash) => Progress::Bytes(continue_hash(hash, &number.to_le_bytes())),
+            Taken::Nothing | Taken::Number(_) => Taken::Number(number),
+            Taken::Bytes(hash) => Taken::Bytes(continue_hash(hash, &number.to_le_bytes())),
         };
     }
 
@@ -85,9 +85,9 @@ impl KeyHasher {
         ensures { (calls : List HashCall) → StandsFor self.now calls → result ≡ answer_of calls }
     {
         match self.progress {
-            Progress::Nothing => 0,
-            Progress::Number(number) => number,
-            Progress::Bytes(hash) => hash,
+            Taken::Nothing => 0,
+            Taken::Number(number) => number,
+            Taken::Bytes(hash) => hash,
         }
     }
 }

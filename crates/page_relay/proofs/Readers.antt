@@ -6,7 +6,7 @@ use Rattle.metrics_core.specs.Characters.{line}
 use Rattle.prom_format.specs.Pages.{Family, page_text}
 use Rattle.page_relay.specs.Streams.{IsStream, BeginsStream, ended_lines, IsFirstBadLine}
 use Rattle.page_relay.specs.Fitting.{Start, Fits, FitsBetween, SoFar, place_between, place_of, place_behind_all, text_so_far, IsSound, TakesLine}
-use Rattle.page_relay.specs.declared.progress.Progress.{Progress}
+use Rattle.page_relay.specs.declared.progress.PagesSoFar.{PagesSoFar}
 use Rattle.page_relay.proofs.Streams.{flat_append, place_append, pages_stream}
 use Rattle.page_relay.proofs.Growing.{begins_so_far}
 use Rattle.page_relay.proofs.BadLines.{first_bad, ends_badly}
@@ -79,7 +79,7 @@ between_fits : (families : List Family) (text : List ℕ) → Fits (place_betwee
 between_fits [] text h = h
 between_fits (family ∷ families) text h = h
 
-pub between_given : {E : Type 0} (T : Progress → Type 0) (families : List Family) (text : List ℕ) (r : Result (Option Progress) E) → IfOk r (λ next. MatchOption next (¬ FitsBetween text) T)
+pub between_given : {E : Type 0} (T : PagesSoFar → Type 0) (families : List Family) (text : List ℕ) (r : Result (Option PagesSoFar) E) → IfOk r (λ next. MatchOption next (¬ FitsBetween text) T)
     → IfOk r (λ next. MatchOption next (¬ (IsUtf8 text × Fits (place_between families) text)) T)
 between_given T families text (Ok None) h = λ p. h (between_fits families text p.1)
 between_given T families text (Ok (Some next)) h = h

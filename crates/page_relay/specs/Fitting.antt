@@ -12,7 +12,7 @@ use Rattle.page_relay.specs.declared.pages.Family.{Family as RelayFamily}
 use Rattle.page_relay.specs.declared.pages.Page.{Page}
 use Rattle.page_relay.specs.declared.progress.Begun.{Begun}
 use Rattle.page_relay.specs.declared.progress.Begun.TheVariants as opened
-use Rattle.page_relay.specs.declared.progress.Progress.{Progress}
+use Rattle.page_relay.specs.declared.progress.PagesSoFar.{PagesSoFar}
 
 -- where the next line stands: at the start of a page, behind a block, behind the help line of a name, behind a type
 -- line, or behind a row
@@ -85,7 +85,7 @@ parts_so_far pages families begun = record {
   begun = begun_of begun;
 }
 
-abbrev pub so_far : Progress → SoFar
+abbrev pub so_far : PagesSoFar → SoFar
 so_far progress = parts_so_far progress.pages.items progress.families.items progress.begun
 
 abbrev pub block_so_far : Family → List ℕ
@@ -136,5 +136,5 @@ pub record TakesLine (old : SoFar) (text : List ℕ) (new : SoFar) : Type 0 wher
   pub place : place_of new ≡ place_behind text
 
 -- the progress behind one more line that may stand there, or nothing where it may not
-abbrev pub IsNext : Type 0 → SoFar → List ℕ → Option Progress → Type 0
+abbrev pub IsNext : Type 0 → SoFar → List ℕ → Option PagesSoFar → Type 0
 IsNext may old text next = MatchOption next (¬ may) (λ new. TakesLine old text (so_far new))

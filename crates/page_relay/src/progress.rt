@@ -25,7 +25,7 @@ use std::alloc::Global;
 
 /// The whole pages, the whole families of the page that isn't, and what is open of the next family.
 #[derive(Drop)]
-pub(crate) struct Progress {
+pub(crate) struct PagesSoFar {
     pages: Vec<Page>,
     families: Vec<Family>,
     begun: Begun,
@@ -42,14 +42,14 @@ pub(crate) enum Begun {
     Block(Family),
 }
 
-impl Progress {
+impl PagesSoFar {
     /// No line was read yet.
-    pub(crate) fn new(alloc: Global) -> Progress
+    pub(crate) fn new(alloc: Global) -> PagesSoFar
         ensures sound { IsSound (so_far result) }
         ensures nothing { text_so_far (so_far result) ≡ [] }
         ensures place { place_of (so_far result) ≡ Start }
     {
-        Progress {
+        PagesSoFar {
             pages: Vec::new(alloc),
             families: Vec::new(alloc),
             begun: Begun::Between,
@@ -57,14 +57,14 @@ impl Progress {
     }
 
     /// Takes the next line, or answers `None` where it may not stand here.
-    pub(crate) fn take_line(self, alloc: Global, line: &[u8]) -> Result<Option<Progress>, Memory>
+    pub(crate) fn take_line(self, alloc: Global, line: &[u8]) -> Result<Option<PagesSoFar>, Memory>
         ensures { IsSound (so_far self)
             → IfOk result (IsNext (IsUtf8 line.now × Fits (place_of (so_far self)) line.now) (so_far self) line.now) }
     {
         if str::from_utf8(line).is_err() {
             return Ok(None);
         }
-        let Progress {
+        let PagesSoFar {
             pages,
             families,
             begun,
@@ -98,14 +98,14 @@ fn begin_block(
     mut pages: Vec<Page>,
     families: Vec<Family>,
     line: &[u8],
-) -> Result<Option<Progress>, Memory>
+) -> Result<Option<PagesSoFar>, Memory>
     ensures { IsUtf8 line.now → IsSound (parts_so_far pages.items families.items opened.Between)
         → IfOk result (IsNext (FitsBetween line.now)
         (parts_so_far pages.items families.items opened.Between) line.now) }
 {
     if line == b"# EOF".as_slice() {
         pages.push(Page { families })?;
-        return Ok(Some(Progress {
+        return Ok(Some(PagesSoFar {
             pages,
             families: Vec::new(alloc),
             begun: Begun::Between,
@@ -113,7 +113,7 @@ fn begin_block(
     }
     if let Some((name, help)) = read_help_line(alloc, line)? {
         let begun = Begun::Helped { name, help };
-        return Ok(Some(Progress {
+        return Ok(Some(PagesSoFar {
             pages,
             families,
             begun,
@@ -126,7 +126,7 @@ fn begin_block(
             shape,
             rows: Vec::new(alloc),
         });
-        return Ok(Some(Progress {
+        return Ok(Some(PagesSoFar {
             pages,
             families,
             begun,
@@ -143,7 +143,7 @@ fn type_block(
     name: String,
     help: String,
     line: &[u8],
-) -> Result<Option<Progress>, Memory>
+) -> Result<Option<PagesSoFar>, Memory>
     ensures { IsUtf8 line.now → IsSound (parts_so_far pages.items families.items (opened.Helped name help))
         → IfOk result (IsNext (Fits (Helped (string_bytes name)) line.now)
         (parts_so_far pages.items families.items (opened.Helped name help)) line.now) }
@@ -160,7 +160,7 @@ fn type_block(
         shape,
         rows: Vec::new(alloc),
     });
-    Ok(Some(Progress {
+    Ok(Some(PagesSoFar {
         pages,
         families,
         begun,
@@ -174,14 +174,14 @@ fn grow_block(
     mut families: Vec<Family>,
     mut family: Family,
     line: &[u8],
-) -> Result<Option<Progress>, Memory>
+) -> Result<Option<PagesSoFar>, Memory>
     ensures { IsUtf8 line.now → IsSound (parts_so_far pages.items families.items (opened.Block family))
         → IfOk result (IsNext (Fits (place_in_rows (family_of family).rows) line.now)
         (parts_so_far pages.items families.items (opened.Block family)) line.now) }
 {
     if line.is_empty() && !family.rows.is_empty() {
         families.push(family)?;
-        return Ok(Some(Progress {
+        return Ok(Some(PagesSoFar {
             pages,
             families,
             begun: Begun::Between,
@@ -191,7 +191,7 @@ fn grow_block(
         return Ok(None);
     };
     family.rows.push(row)?;
-    Ok(Some(Progress {
+    Ok(Some(PagesSoFar {
         pages,
         families,
         begun: Begun::Block(family),

@@ -5,7 +5,7 @@ ghost use Rattle.page_relay.specs.Streams.{IsStream, IsSplit, ended_lines};
 ghost use Rattle.page_relay.specs.Values.{families_of, IsReadingFault};
 
 use crate::lines::count_before;
-use crate::progress::Progress;
+use crate::progress::PagesSoFar;
 use crate::{Page, RelayFault};
 use std::alloc::Global;
 
@@ -15,7 +15,7 @@ pub fn read_pages(alloc: Global, bytes: &[u8]) -> Result<Vec<Page>, RelayFault>
     ensures stream { IfOk result (λ pages. IsStream bytes.now (map families_of pages.items)) }
     ensures refused { IfErr result (IsReadingFault bytes.now) }
 {
-    let mut progress = Progress::new(alloc);
+    let mut progress = PagesSoFar::new(alloc);
     let mut rest = bytes;
     let mut line = 1;
     while let Some((text, after)) = split_line(rest) {

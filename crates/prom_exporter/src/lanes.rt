@@ -54,7 +54,7 @@ impl Lenders for PrometheusState {
 
     type Entry = SeriesCall;
 
-    type Fixed = SeriesCell;
+    type Lasting = SeriesCell;
 
     type Frame = PrometheusState;
 

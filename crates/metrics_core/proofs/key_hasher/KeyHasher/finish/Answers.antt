@@ -1,4 +1,4 @@
-use Rattle.metrics_core.specs.declared.key_hasher.Progress.TheVariants.{Nothing, Number, Bytes}
+use Rattle.metrics_core.specs.declared.key_hasher.Taken.TheVariants.{Nothing, Number, Bytes}
 use Rattle.metrics_core.proofs.KeyHasherSteps.{finishes}
 use Rattle.metrics_core.proofs.key_hasher.KeyHasher.finish.Goals as goal
 

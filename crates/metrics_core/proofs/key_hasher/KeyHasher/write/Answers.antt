@@ -1,6 +1,6 @@
 use Rattle.std.proofs.Common.{◌≡◌, [], ◌∷◌, ◌++◌, subst}
 use Rattle.std.specs.Prelude.{fold}
-use Rattle.metrics_core.specs.declared.key_hasher.Progress.TheVariants.{Bytes}
+use Rattle.metrics_core.specs.declared.key_hasher.Taken.TheVariants.{Bytes}
 use Rattle.metrics_core.specs.Hashes.{hash_step}
 use Rattle.metrics_core.specs.KeyHashing.{OfBytes, StandsFor, hashed}
 use Rattle.metrics_core.proofs.KeyHasherSteps.{bytes_turn, stands_for_more}

@@ -3,7 +3,7 @@ use Rattle.drive_script.specs.Script.{kind_of}
 use Rattle.drive_script.specs.Texts.{act_of, script_so_far}
 use Rattle.drive_script.specs.Valid.{registered}
 use Rattle.drive_script.proofs.Steps.{handle_decides, no_handle}
-use Rattle.drive_script.proofs.progress.Progress.has_handle.Goals as goal
+use Rattle.drive_script.proofs.progress.ScriptSoFar.has_handle.Goals as goal
 
 pub returns-in-Some : goal.returns-in-Some
 returns-in-Some c = λ known.

@@ -7,8 +7,8 @@ use Rattle.drive_script.specs.Heads.{keys_by_head, AreHeadsOf}
 use Rattle.drive_script.specs.Texts.{settings_of, script_so_far}
 use Rattle.drive_script.specs.Valid.{Registration, registered, PrintApart}
 use Rattle.drive_script.proofs.Steps.{script_with, register_added, register_full, calls_stand, key_registered, kinds_of}
-use Rattle.drive_script.proofs.progress.Progress.register.Goals as goal
-use Rattle.drive_script.proofs.progress.Progress.register.Goals.{then-not-is_empty-via-then-not-is_empty, then-not-is_empty-via-else-not-is_empty+then-len-ge-MAX_REGISTRATIONS, In_ok-push-2}
+use Rattle.drive_script.proofs.progress.ScriptSoFar.register.Goals as goal
+use Rattle.drive_script.proofs.progress.ScriptSoFar.register.Goals.{then-not-is_empty-via-then-not-is_empty, then-not-is_empty-via-else-not-is_empty+then-len-ge-MAX_REGISTRATIONS, In_ok-push-2}
 
 pub returns-then-not-is_empty : goal.returns-then-not-is_empty
 returns-then-not-is_empty c = record {

@@ -8,7 +8,7 @@ use Rattle.drive_script.specs.Heads.{keys_by_head}
 use Rattle.drive_script.specs.Texts.{round_of, label_of}
 use Rattle.drive_script.specs.Valid.{registered_in}
 use Rattle.drive_script.proofs.HeadSteps.{label_set-push, no_heads}
-use Rattle.drive_script.proofs.progress.Progress.add_global.Goals as goal
+use Rattle.drive_script.proofs.progress.ScriptSoFar.add_global.Goals as goal
 
 pub returns : goal.returns
 returns c =

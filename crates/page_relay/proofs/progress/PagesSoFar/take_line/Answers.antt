@@ -2,7 +2,7 @@ use Rattle.std.proofs.Common.{map, rules}
 use Rattle.std.specs.Prelude.{IsUtf8}
 use Rattle.page_relay.specs.Values.{family_of}
 use Rattle.page_relay.proofs.Readers.{between_given}
-use Rattle.page_relay.proofs.progress.Progress.take_line.Goals as goal
+use Rattle.page_relay.proofs.progress.PagesSoFar.take_line.Goals as goal
 
 pub returns-in-Between : goal.returns-in-Between
 returns-in-Between c =

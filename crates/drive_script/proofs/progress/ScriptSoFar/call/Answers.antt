@@ -6,8 +6,8 @@ use Rattle.drive_script.specs.Growth.{AddsCall}
 use Rattle.drive_script.specs.Texts.{call_line_of, script_so_far, settings_of, IsKnown}
 use Rattle.drive_script.proofs.Growth.{none_registered}
 use Rattle.drive_script.proofs.Steps.{script_with, call_added, kinds_of}
-use Rattle.drive_script.proofs.progress.Progress.call.Goals as goal
-use Rattle.drive_script.proofs.progress.Progress.call.Goals.{In_ok-push}
+use Rattle.drive_script.proofs.progress.ScriptSoFar.call.Goals as goal
+use Rattle.drive_script.proofs.progress.ScriptSoFar.call.Goals.{In_ok-push}
 
 added : (c : In_ok-push) → IsKnown c.args.self.now
     → AddsCall (script_so_far c.args.self.now) (call_line_of c.args.call) (script_with (settings_of c.args.self.now.settings) (set c.args.self.now.rounds.items (vec_len c.args.self.now.rounds - 1) (record { moment = c.in-Some.round.now.moment; setup = c.in-Some.round.now.setup; calls = c.push.new.self })))

@@ -3,7 +3,7 @@ use Rattle.drive_script.specs.Script.{IsLine}
 use Rattle.drive_script.specs.Texts.{call_line_of, label_of}
 use Rattle.drive_script.proofs.Growth.{no_next}
 use Rattle.drive_script.proofs.Steps.{step_taken}
-use Rattle.drive_script.proofs.progress.Progress.take_line.Goals as goal
+use Rattle.drive_script.proofs.progress.ScriptSoFar.take_line.Goals as goal
 
 pub returns-in-None : goal.returns-in-None
 returns-in-None c = λ lines h. no_next lines c.args.line.now (rw c.in-None.is at c.in_ok-read_line.ensures)

@@ -11,8 +11,8 @@ use Rattle.drive_script.specs.Texts.{round_of, settings_of, script_so_far}
 use Rattle.drive_script.specs.declared.script.Round.{Round}
 use Rattle.drive_script.proofs.Growth.{round_registered}
 use Rattle.drive_script.proofs.Steps.{script_with, round_begun, none_after, kinds_of}
-use Rattle.drive_script.proofs.progress.Progress.begin_round.Goals as goal
-use Rattle.drive_script.proofs.progress.Progress.begin_round.Goals.{In_ok-push, in_default-via-in-None-1, in_default-via-in-Some+else-moment-last}
+use Rattle.drive_script.proofs.progress.ScriptSoFar.begin_round.Goals as goal
+use Rattle.drive_script.proofs.progress.ScriptSoFar.begin_round.Goals.{In_ok-push, in_default-via-in-None-1, in_default-via-in-Some+else-moment-last}
 
 -- no round so far is after the moment
 not_before : (c : In_ok-push) → IsNonDecreasingBy (λ (r : RoundText). r.moment) (map round_of c.args.self.now.rounds.items) → All (λ (r : RoundText). r.moment ≤ c.args.moment) (map round_of c.args.self.now.rounds.items)
