@@ -11,8 +11,10 @@ ghost use Rattle.legal_history.specs.History.{Distinct, keep};
 ghost use Rattle.prom_exporter.specs.LanePasses.{ids_of};
 ghost use Rattle.drive_script.specs.Texts.{call_line_of};
 ghost use Rattle.script_runs.specs.Fitting.{FitsHandle};
+ghost use Rattle.script_runs.specs.Places.{ArePlaced};
 ghost use Rattle.script_runs.specs.LaneCalls.{AllAsked, AreInPlace, AreReady, AsksKind, HasLane, asked, call_asked, calls_at, gathered_asked, gathered_at, gathered_parts, has_lines, is_at, is_place, lane_asks, lane_cells, lane_lines, lane_number, numbered_asked, numbered_at, parts_of};
 
+use crate::places::index_at;
 use cell_lanes::{Lane, Line};
 use drive_script::{Act, CallLine};
 use indexmap::IndexSet;
@@ -26,9 +28,11 @@ pub(crate) fn lanes_of(
     alloc: Global,
     exporter: &PrometheusState,
     handles: &[SeriesId],
+    places: &[Option<usize>],
     calls: &[CallLine],
 ) -> Result<Vec<Lane<SeriesCall>>, Memory>
     requires fit { All (λ line. FitsHandle handles.now (call_line_of line)) calls.now }
+    requires placed { ArePlaced exporter.now handles.now places.now }
     ensures fit { IfOk result (λ lanes. AllFit (length (ids_of exporter.now)) lanes.items) }
     ensures asked { IfOk result (λ lanes. (l : ℕ) (lane : Lane SeriesCall) → get_elem? lanes.items l ≡ some lane → AllAsked (ids_of exporter.now) lane.cells.items lane.lines.items) }
     ensures numbers { IfOk result (λ lanes. Distinct (map lane_number lanes.items)) }
@@ -38,7 +42,7 @@ pub(crate) fn lanes_of(
 {
     let mut gathered = Vec::new(alloc);
     for line in calls {
-        gather(alloc, exporter, handles, &mut gathered, line)?;
+        gather(alloc, exporter, handles, places, &mut gathered, line)?;
     }
     into_lanes(alloc, gathered)
 }
@@ -48,10 +52,12 @@ fn gather(
     alloc: Global,
     exporter: &PrometheusState,
     handles: &[SeriesId],
+    places: &[Option<usize>],
     gathered: &mut Vec<LaneCalls>,
     line: &CallLine,
 ) -> Result<(), Memory>
     requires fit { FitsHandle handles.now (call_line_of line.now) }
+    requires placed { ArePlaced exporter.now handles.now places.now }
     requires ready { AreReady (ids_of exporter.now) gathered.old.items }
     requires places { AreInPlace 0 gathered.old.items }
     ensures ready { OnOk result (AreReady (ids_of exporter.now) gathered.new.items) }
@@ -60,19 +66,29 @@ fn gather(
         ≡ gathered_at j gathered.old.items l ++ keep (HasLane l line.now && is_at (ids_of exporter.now) handles.now j line.now) (asked line.now.act) []) }
     ensures lines { OnOk result ((l : ℕ) → gathered_asked gathered.new.items l ≡ gathered_asked gathered.old.items l ++ keep (HasLane l line.now) (asked line.now.act) []) }
 {
-    let place = place_of(exporter, handles, line);
+    let place = place_of(exporter, handles, places, line);
     let lane = usize::from(line.lane);
     make_room(alloc, gathered, lane)?;
     gathered[lane].push(place, call_of(line.act))
 }
 
 /// The index of the series that a call line's handle names, if it is live.
-fn place_of(exporter: &PrometheusState, handles: &[SeriesId], line: &CallLine) -> Option<usize>
+fn place_of(
+    exporter: &PrometheusState,
+    handles: &[SeriesId],
+    places: &[Option<usize>],
+    line: &CallLine,
+) -> Option<usize>
     requires fit { FitsHandle handles.now (call_line_of line.now) }
+    requires placed { ArePlaced exporter.now handles.now places.now }
     ensures place { (j : ℕ) → is_at (ids_of exporter.now) handles.now j line.now ≡ is_place j result }
     ensures asks { IfSome result (λ index. AsksKind (ids_of exporter.now) index (asked line.now.act)) }
 {
-    exporter.index_of(id_of(handles, line)?)
+    let id = id_of(handles, line)?;
+    match places.get(line.handle as usize) {
+        Some(Some(place)) => Some(index_at(exporter, id, *place)),
+        _ => exporter.index_of(id),
+    }
 }
 
 /// Adds lanes without calls, until there is one with this number.
