@@ -35,11 +35,14 @@ fn lane_with_a_gap(alloc: Global) -> Result<Vec<Lane<SeriesCall>>, Fail> {
         lines.push(Line { slot, call })?;
     }
     let cells = vec![in alloc; 0usize]?;
-    Ok(Vec::from_array(alloc, [Lane {
+    Ok(Vec::from_array(
+        alloc,
+        [Lane {
             number: 0,
             cells,
             lines,
-        }])?)
+        }],
+    )?)
 }
 
 /// What a counter reads after that lane.
