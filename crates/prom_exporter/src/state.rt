@@ -1,6 +1,6 @@
 //! The state of the exporter: its live series of each kind, in order of registration.
 
-ghost use Rattle.std.specs.Prelude.{◌≡◌, ◌-◌, ◌^◌, ◌<◌, ◌≤◌, ◌⊎◌, length, set, All, IsOk, IfOk, OnErr, OnOk, true, false};
+ghost use Rattle.std.specs.Prelude.{◌≡◌, ◌+◌, ◌-◌, ◌^◌, ◌<◌, ◌≤◌, ◌⊎◌, length, set, All, IsOk, IfOk, OnErr, OnOk, true, false};
 ghost use Rattle.metrics_core.specs.declared.kinds.MetricKind.TheVariants.{Counter, Gauge};
 ghost use Rattle.metrics_registry.specs.Live.{IsNumbered};
 ghost use Rattle.metrics_core.specs.Outside.{Rose, GrewBy, GrewByPrefix};
@@ -217,6 +217,17 @@ impl PrometheusState {
         }
         let place = self.series.place_of_gauge(id)?;
         Some(self.series.counter_count() + place)
+    }
+
+    /// How many counters are live: the indices of gauges begin there.
+    pub fn counter_count(&self) -> usize
+        ensures count { result ≡ length self.now.series.counters }
+        ensures room { length self.now.series.counters + length self.now.series.gauges < 2 ^ 64 }
+        ensures numbered { IsNumbered self.now.series }
+    {
+        // The clause on numbers needs how many were made.
+        let _made = self.series.made();
+        self.series.counter_count()
     }
 
     /// Lends a new pass of the series with this index, counters first and gauges behind them, to a lane.

@@ -82,7 +82,7 @@ index_found [] s j e = absurd (some-ne-none j (sym e))
 index_found (c ∷ cs) zero j e = some-injective c j e
 index_found (c ∷ cs) (suc s) j e = index_found cs s j e
 
-found_of : (cs : List ℕ) (s j : ℕ) → slice_get cs s ≡ Some j → get_elem? cs s ≡ some j
+pub found_of : (cs : List ℕ) (s j : ℕ) → slice_get cs s ≡ Some j → get_elem? cs s ≡ some j
 found_of [] s j e = absurd cc
 found_of (c ∷ cs) zero j e = ap some (Rattle.std.proofs.lemmas.Option.same_Some c j e)
 found_of (c ∷ cs) (suc s) j e = found_of cs s j e

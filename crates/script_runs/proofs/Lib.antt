@@ -10,6 +10,7 @@ pub mod WordSteps
 pub mod Fits
 pub mod LaneSteps
 pub mod LaneOrders
+pub mod PlaceSteps
 pub mod Numbers
 pub mod AfterLanes
 pub mod RestingSteps

@@ -10,4 +10,5 @@ pub mod Resting
 pub mod Built
 pub mod Fitting
 pub mod LaneCalls
+pub mod Places
 pub mod Vectors

@@ -11,8 +11,10 @@ ghost use Rattle.legal_history.specs.History.{Distinct, keep};
 ghost use Rattle.prom_exporter.specs.LanePasses.{ids_of};
 ghost use Rattle.drive_script.specs.Texts.{call_line_of};
 ghost use Rattle.script_runs.specs.Fitting.{FitsHandle};
+ghost use Rattle.script_runs.specs.Places.{ArePlaced};
 ghost use Rattle.script_runs.specs.LaneCalls.{AllAsked, AreInPlace, AreReady, AsksKind, HasLane, asked, call_asked, calls_at, gathered_asked, gathered_at, gathered_parts, has_lines, is_at, is_place, lane_asks, lane_cells, lane_lines, lane_number, numbered_asked, numbered_at, parts_of};
 
+use crate::places::index_at;
 use cell_lanes::{Lane, Line};
 use drive_script::{Act, CallLine};
 use indexmap::IndexSet;
@@ -26,19 +28,26 @@ pub(crate) fn lanes_of(
     alloc: Global,
     exporter: &PrometheusState,
     handles: &[SeriesId],
+    places: &[Option<usize>],
     calls: &[CallLine],
 ) -> Result<Vec<Lane<SeriesCall>>, Memory>
     requires fit { All (λ line. FitsHandle handles.now (call_line_of line)) calls.now }
+    requires placed { ArePlaced exporter.now handles.now places.now }
     ensures fit { IfOk result (λ lanes. AllFit (length (ids_of exporter.now)) lanes.items) }
-    ensures asked { IfOk result (λ lanes. (l : ℕ) (lane : Lane SeriesCall) → get_elem? lanes.items l ≡ some lane → AllAsked (ids_of exporter.now) lane.cells.items lane.lines.items) }
+    ensures asked { IfOk result (λ lanes. (l : ℕ) (lane : Lane SeriesCall)
+        → get_elem? lanes.items l ≡ some lane
+        → AllAsked (ids_of exporter.now) lane.cells.items lane.lines.items) }
     ensures numbers { IfOk result (λ lanes. Distinct (map lane_number lanes.items)) }
-    ensures calls { IfOk result (λ lanes. (j l : ℕ) → numbered_at j lanes.items l ≡ calls_at (ids_of exporter.now) handles.now l j calls.now) }
-    ensures lines { IfOk result (λ lanes. (l : ℕ) → numbered_asked lanes.items l ≡ lane_asks l calls.now) }
-    ensures busy { IfOk result (λ lanes. (i : ℕ) (lane : Lane SeriesCall) → get_elem? lanes.items i ≡ some lane → 0 < length lane.lines.items) }
+    ensures calls { IfOk result (λ lanes. (j l : ℕ) → numbered_at j lanes.items l
+        ≡ calls_at (ids_of exporter.now) handles.now l j calls.now) }
+    ensures lines { IfOk result (λ lanes. (l : ℕ) → numbered_asked lanes.items l
+        ≡ lane_asks l calls.now) }
+    ensures busy { IfOk result (λ lanes. (i : ℕ) (lane : Lane SeriesCall)
+        → get_elem? lanes.items i ≡ some lane → 0 < length lane.lines.items) }
 {
     let mut gathered = Vec::new(alloc);
     for line in calls {
-        gather(alloc, exporter, handles, &mut gathered, line)?;
+        gather(alloc, exporter, handles, places, &mut gathered, line)?;
     }
     into_lanes(alloc, gathered)
 }
@@ -48,41 +57,63 @@ fn gather(
     alloc: Global,
     exporter: &PrometheusState,
     handles: &[SeriesId],
+    places: &[Option<usize>],
     gathered: &mut Vec<LaneCalls>,
     line: &CallLine,
 ) -> Result<(), Memory>
     requires fit { FitsHandle handles.now (call_line_of line.now) }
+    requires placed { ArePlaced exporter.now handles.now places.now }
     requires ready { AreReady (ids_of exporter.now) gathered.old.items }
     requires places { AreInPlace 0 gathered.old.items }
     ensures ready { OnOk result (AreReady (ids_of exporter.now) gathered.new.items) }
     ensures places { OnOk result (AreInPlace 0 gathered.new.items) }
     ensures calls { OnOk result ((j l : ℕ) → gathered_at j gathered.new.items l
-        ≡ gathered_at j gathered.old.items l ++ keep (HasLane l line.now && is_at (ids_of exporter.now) handles.now j line.now) (asked line.now.act) []) }
-    ensures lines { OnOk result ((l : ℕ) → gathered_asked gathered.new.items l ≡ gathered_asked gathered.old.items l ++ keep (HasLane l line.now) (asked line.now.act) []) }
+        ≡ gathered_at j gathered.old.items l
+        ++ keep (HasLane l line.now && is_at (ids_of exporter.now) handles.now j line.now)
+        (asked line.now.act) []) }
+    ensures lines { OnOk result ((l : ℕ) → gathered_asked gathered.new.items l
+        ≡ gathered_asked gathered.old.items l
+        ++ keep (HasLane l line.now) (asked line.now.act) []) }
 {
-    let place = place_of(exporter, handles, line);
+    let place = place_of(exporter, handles, places, line);
     let lane = usize::from(line.lane);
     make_room(alloc, gathered, lane)?;
     gathered[lane].push(place, call_of(line.act))
 }
 
 /// The index of the series that a call line's handle names, if it is live.
-fn place_of(exporter: &PrometheusState, handles: &[SeriesId], line: &CallLine) -> Option<usize>
+fn place_of(
+    exporter: &PrometheusState,
+    handles: &[SeriesId],
+    places: &[Option<usize>],
+    line: &CallLine,
+) -> Option<usize>
     requires fit { FitsHandle handles.now (call_line_of line.now) }
-    ensures place { (j : ℕ) → is_at (ids_of exporter.now) handles.now j line.now ≡ is_place j result }
-    ensures asks { IfSome result (λ index. AsksKind (ids_of exporter.now) index (asked line.now.act)) }
+    requires placed { ArePlaced exporter.now handles.now places.now }
+    ensures place { (j : ℕ)
+        → is_at (ids_of exporter.now) handles.now j line.now ≡ is_place j result }
+    ensures asks { IfSome result (λ index.
+        AsksKind (ids_of exporter.now) index (asked line.now.act)) }
 {
-    exporter.index_of(id_of(handles, line)?)
+    let id = id_of(handles, line)?;
+    match places.get(line.handle as usize) {
+        Some(Some(place)) => Some(index_at(exporter, id, *place)),
+        _ => exporter.index_of(id),
+    }
 }
 
 /// Adds lanes without calls, until there is one with this number.
 fn make_room(alloc: Global, gathered: &mut Vec<LaneCalls>, lane: usize) -> Result<(), Memory>
     requires { lane < 256 }
     ensures room { OnOk result (lane < length gathered.new.items) }
-    ensures ready { OnOk result ((ids : List SeriesId) → AreReady ids gathered.old.items → AreReady ids gathered.new.items) }
-    ensures places { OnOk result (AreInPlace 0 gathered.old.items → AreInPlace 0 gathered.new.items) }
-    ensures calls { OnOk result ((j l : ℕ) → gathered_at j gathered.new.items l ≡ gathered_at j gathered.old.items l) }
-    ensures lines { OnOk result ((l : ℕ) → gathered_asked gathered.new.items l ≡ gathered_asked gathered.old.items l) }
+    ensures ready { OnOk result ((ids : List SeriesId)
+        → AreReady ids gathered.old.items → AreReady ids gathered.new.items) }
+    ensures places { OnOk result (AreInPlace 0 gathered.old.items
+        → AreInPlace 0 gathered.new.items) }
+    ensures calls { OnOk result ((j l : ℕ)
+        → gathered_at j gathered.new.items l ≡ gathered_at j gathered.old.items l) }
+    ensures lines { OnOk result ((l : ℕ)
+        → gathered_asked gathered.new.items l ≡ gathered_asked gathered.old.items l) }
 {
     for number in gathered.len()..lane + 1 {
         gathered.push(LaneCalls::new(alloc, number))?;
@@ -92,8 +123,10 @@ fn make_room(alloc: Global, gathered: &mut Vec<LaneCalls>, lane: usize) -> Resul
 
 /// The lanes that have calls, from what was gathered.
 fn into_lanes(alloc: Global, gathered: Vec<LaneCalls>) -> Result<Vec<Lane<SeriesCall>>, Memory>
-    ensures parts { IfOk result (λ lanes. map parts_of lanes.items ≡ map gathered_parts (filter has_lines gathered.items)) }
-    ensures once { IfOk result (λ lanes. (l : ℕ) (lane : Lane SeriesCall) → get_elem? lanes.items l ≡ some lane → Distinct lane.cells.items) }
+    ensures parts { IfOk result (λ lanes. map parts_of lanes.items
+        ≡ map gathered_parts (filter has_lines gathered.items)) }
+    ensures once { IfOk result (λ lanes. (l : ℕ) (lane : Lane SeriesCall)
+        → get_elem? lanes.items l ≡ some lane → Distinct lane.cells.items) }
 {
     let mut lanes = Vec::new(alloc);
     for lane in gathered {
@@ -108,6 +141,7 @@ fn into_lanes(alloc: Global, gathered: Vec<LaneCalls>) -> Result<Vec<Lane<Series
 /// A lane while its calls are gathered.
 #[derive(Drop)]
 pub struct LaneCalls {
+    /// The lane's number.
     number: usize,
     /// The indices of the series that its calls are on, each once.
     cells: IndexSet<usize>,
@@ -132,9 +166,16 @@ impl LaneCalls {
         requires { LineFit (length (lane_cells self.old)) (lane_lines self.old) }
         ensures number { self.new.number ≡ self.old.number }
         ensures fit { OnOk result (LineFit (length (lane_cells self.new)) (lane_lines self.new)) }
-        ensures asked { OnOk result ((ids : List SeriesId) → IfSome place (λ index. AsksKind ids index call) → AllAsked ids (lane_cells self.old) (lane_lines self.old) → AllAsked ids (lane_cells self.new) (lane_lines self.new)) }
-        ensures calls { OnOk result ((j : ℕ) → cell_calls j (lane_cells self.new) (lane_lines self.new) ≡ cell_calls j (lane_cells self.old) (lane_lines self.old) ++ keep (is_place j place) call []) }
-        ensures lines { OnOk result (map call_asked (lane_lines self.new) ≡ map call_asked (lane_lines self.old) ++ call ∷ []) }
+        ensures asked { OnOk result ((ids : List SeriesId)
+            → IfSome place (λ index. AsksKind ids index call)
+            → AllAsked ids (lane_cells self.old) (lane_lines self.old)
+            → AllAsked ids (lane_cells self.new) (lane_lines self.new)) }
+        ensures calls { OnOk result ((j : ℕ)
+            → cell_calls j (lane_cells self.new) (lane_lines self.new)
+            ≡ cell_calls j (lane_cells self.old) (lane_lines self.old)
+            ++ keep (is_place j place) call []) }
+        ensures lines { OnOk result (map call_asked (lane_lines self.new)
+            ≡ map call_asked (lane_lines self.old) ++ call ∷ []) }
     {
         let Some(index) = place else {
             self.lines.push(Line { slot: None, call })?;

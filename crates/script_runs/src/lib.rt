@@ -11,6 +11,7 @@ mod driving;
 mod examples;
 mod gates;
 mod lanes;
+mod places;
 mod play;
 mod reading;
 mod relaying;

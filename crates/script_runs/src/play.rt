@@ -11,6 +11,7 @@ ghost use Rattle.script_runs.specs.Play.{exporter_settings};
 
 use crate::gates::GateHook;
 use crate::lanes::lanes_of;
+use crate::places::place_in_kind;
 use crate::{Gate, Report};
 use cell_lanes::run_lanes;
 use drive_script::{CallLine, DriveFault, Round, Script, Settings, Setup};
@@ -54,6 +55,8 @@ pub fn play<R: Threads + Wait + Sync, G: Gate + Sync, K: Sink>(
 pub struct Player {
     pub exporter: PrometheusState,
     pub handles: Vec<SeriesId>,
+    /// For each handle, where its series stands among those of its kind, if that is known.
+    pub places: Vec<Option<usize>>,
 }
 
 impl Player {
@@ -67,7 +70,7 @@ impl Player {
     ghost use Rattle.script_runs.specs.Answers.{IsPlayFault};
     ghost use Rattle.script_runs.specs.Orders.{ForSomeOrders, IsCalled, round_text};
     ghost use Rattle.script_runs.specs.Play.{after_round, play_start, setup_step, exporter_settings};
-    ghost use Rattle.script_runs.specs.Player.{state_of};
+    ghost use Rattle.script_runs.specs.Player.{KnowsPlaces, state_of};
     ghost use Rattle.script_runs.specs.Resting.{AllRest};
     ghost use Rattle.script_runs.specs.Built.{AreBuiltSetups, IsBuiltSetup};
     ghost use Rattle.script_runs.specs.Fitting.{CallsFit, FitsHandle};
@@ -77,12 +80,14 @@ impl Player {
         ensures start { IfOk result (λ player. state_of player ≡ play_start) }
         ensures settings { IfOk result (λ player. player.exporter.settings ≡ exporter_settings (settings_of settings.now)) }
         ensures rest { IfOk result (λ player. AllRest player.exporter) }
+        ensures placed { IfOk result (λ player. KnowsPlaces player) }
     {
         let builder = builder_of(alloc, settings)?;
         match builder.build_state(alloc) {
             Ok(exporter) => Ok(Player {
                 exporter,
                 handles: Vec::new(alloc),
+                places: Vec::new(alloc),
             }),
             Err(_) => Err(Memory),
         }
@@ -100,7 +105,9 @@ impl Player {
         requires built { AreBuiltSetups round.now.setup.items }
         requires fit { CallsFit self.old.handles.items (round_of round.now ∷ []) }
         requires rest { AllRest self.old.exporter }
+        requires placed { KnowsPlaces self.old }
         ensures rest { OnOk result (AllRest self.new.exporter) }
+        ensures placed { OnOk result (KnowsPlaces self.new) }
         ensures settings { self.new.exporter.settings ≡ self.old.exporter.settings }
         ensures played { (settings : SettingsText) → self.old.exporter.settings ≡ exporter_settings settings
             → OnOk result (ForSomeOrders (state_of self.old) (round_of round.now) (λ orders.
@@ -122,6 +129,7 @@ impl Player {
         requires { AreBuiltSetups setup.now }
         ensures settings { self.new.exporter.settings ≡ self.old.exporter.settings }
         ensures rest { AllRest self.old.exporter → AllRest self.new.exporter }
+        ensures placed { OnOk result (KnowsPlaces self.old → KnowsPlaces self.new) }
         ensures stepped { OnOk result (state_of self.new ≡ fold setup_step (state_of self.old) (map setup_of setup.now)) }
     {
         for line in setup {
@@ -135,6 +143,7 @@ impl Player {
         requires { IsBuiltSetup (setup_of line.now) }
         ensures settings { self.new.exporter.settings ≡ self.old.exporter.settings }
         ensures rest { AllRest self.old.exporter → AllRest self.new.exporter }
+        ensures placed { OnOk result (KnowsPlaces self.old → KnowsPlaces self.new) }
         ensures stepped { OnOk result (state_of self.new ≡ setup_step (state_of self.old) (setup_of line.now)) }
     {
         let Setup::Register { kind, key } = line;
@@ -143,7 +152,9 @@ impl Player {
             MetricKind::Gauge => self.exporter.register_gauge(alloc, key)?,
             MetricKind::Histogram => unreachable!(),
         };
+        let place = place_in_kind(&self.exporter, id);
         self.handles.push(id)?;
+        self.places.push(place)?;
         Ok(())
     }
 
@@ -158,11 +169,13 @@ impl Player {
     ) -> Result<(), Memory>
         requires fit { All (λ line. FitsHandle self.old.handles.items (call_line_of line)) calls.now }
         requires rest { AllRest self.old.exporter }
+        requires placed { KnowsPlaces self.old }
         ensures rest { AllRest self.new.exporter }
+        ensures placed { KnowsPlaces self.new }
         ensures settings { self.new.exporter.settings ≡ self.old.exporter.settings }
         ensures called { OnOk result ((round : RoundText) → round.calls ≡ map call_line_of calls.now → IsCalled (state_of self.old) round (state_of self.new)) }
     {
-        let lanes = lanes_of(alloc, &self.exporter, &self.handles, calls)?;
+        let lanes = lanes_of(alloc, &self.exporter, &self.handles, &self.places, calls)?;
         run_lanes(rt, alloc, &GateHook { gate }, &mut self.exporter, &lanes)
     }
 
@@ -175,6 +188,7 @@ impl Player {
     ) -> Result<(), DriveFault>
         requires home { AllHome self.old.exporter }
         ensures same { self.new.exporter ≡ self.old.exporter }
+        ensures placed { KnowsPlaces self.old → KnowsPlaces self.new }
         ensures stepped { OnOk result (state_of self.new ≡ record (state_of self.old) { prometheus = page_step self.old.exporter.settings.idle moment (prometheus_of self.old.exporter) }) }
         ensures page { OnOk result (GrewBy (K.written out.old) (K.written out.new) (page_text (page_families moment self.old.exporter))) }
         ensures prefix { OnErr result (GrewByPrefix (K.written out.old) (K.written out.new) (page_text (page_families moment self.old.exporter))) }

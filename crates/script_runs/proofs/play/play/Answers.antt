@@ -19,6 +19,9 @@ play_round-requires-clause-fit g c κs within =
     = c.round-item.is ∙ ap (λ rounds. get_or rounds c.loop-round.round-index c.round-item.result) c.deref-round-items.ensures.value in
     first_fits _ (round_of c.round-item.result) _ (subst (CallsFit c.loop-round.player.handles.items) (rounds_behind c.args.script.now.rounds.items c.loop-round.round-index c.round-item.result within found) c.loop-round.invariant.fit)
 
+pub play_round-requires-clause-placed : goal.play_round-requires-clause-placed
+play_round-requires-clause-placed g c κs within = c.loop-round.invariant.placed
+
 pub play_round-requires-clause-rest : goal.play_round-requires-clause-rest
 play_round-requires-clause-rest g c κs within = c.loop-round.invariant.rest
 
@@ -47,6 +50,7 @@ loop-round-preserved g c =
     record {
       settings = c.in_ok-play_round.ensures.settings ∙ c.loop-round.invariant.settings;
       rest = c.in_ok-play_round.ensures.rest;
+      placed = c.in_ok-play_round.ensures.placed;
       fit = subst (λ (p : PlayState). CallsFit p.handles rest) (sym played.2.0) (rest_fits (state_of c.loop-round.player) (round_of c.round-item.result) rest (subst (CallsFit c.loop-round.player.handles.items) behind c.loop-round.invariant.fit));
       never_falls = omega (arith, c.loop-round.invariant.never_falls, c.in_ok-play_round.ensures.never_falls);
       so_far = so_far-round (script_of c.args.script.now) (state_of c.loop-round.player) _ (round_of c.round-item.result) rest _ _ _ so_far played;
@@ -71,6 +75,7 @@ loop-round-init g c =
     record {
       settings = c.in_ok-player.ensures.settings;
       rest = c.in_ok-player.ensures.rest;
+      placed = c.in_ok-player.ensures.placed;
       fit = subst (λ (p : PlayState). CallsFit p.handles rounds) (sym c.in_ok-player.ensures.start) c.requires.fit;
       never_falls = omega arith;
       so_far = subst (λ (p : PlayState). IsSoFar script p rounds told told) (sym c.in_ok-player.ensures.start) (so_far-start script told);
