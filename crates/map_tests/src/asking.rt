@@ -1,14 +1,17 @@
-//! What the tests ask of a reader. Each guard and each entry ends in a function of its own.
-use evmap_core::{EntryRef, KeepAll, MapReadRef, ReadHandle, ReadHandleFactory, WriteHandle};
-use std::hash::{BuildHasherDefault, FoldHasher};
+//! What the tests ask of a reader. Entries end in one function, and guards in another.
+use evmap_core::{
+    EntryRef, KeepAll, MapReadRef, PlainHasher, ReadHandle, ReadHandleFactory, WriteHandle,
+};
 
-pub(crate) type Hasher = BuildHasherDefault<FoldHasher>;
+pub(crate) type Writer = WriteHandle<u32, u32, u32, KeepAll, PlainHasher>;
 
-pub(crate) type Writer = WriteHandle<u32, u32, u32, KeepAll, Hasher>;
+pub(crate) type Reader = ReadHandle<u32, u32, u32, KeepAll, PlainHasher>;
 
-pub(crate) type Reader = ReadHandle<u32, u32, u32, KeepAll, Hasher>;
+pub(crate) type Factory = ReadHandleFactory<u32, u32, u32, KeepAll, PlainHasher>;
 
-pub(crate) type Factory = ReadHandleFactory<u32, u32, u32, KeepAll, Hasher>;
+type Entry<'a> = EntryRef<'a, u32, u32, u32, KeepAll, PlainHasher>;
+
+type Front<'a> = MapReadRef<'a, u32, u32, u32, KeepAll, PlainHasher>;
 
 /// What an entry shows.
 #[derive(Clone, Copy)]
@@ -20,7 +23,7 @@ pub(crate) struct Shown {
     pub(crate) meta: u32,
 }
 
-fn look_into(entry: &EntryRef<'_, u32, u32, u32, KeepAll, Hasher>) -> Shown {
+fn look_into(entry: &Entry<'_>) -> Shown {
     match entry.values() {
         Some(bag) => Shown {
             form: Some((bag.is_short(), bag.len())),
@@ -35,36 +38,32 @@ fn look_into(entry: &EntryRef<'_, u32, u32, u32, KeepAll, Hasher>) -> Shown {
     }
 }
 
-pub(crate) fn at_key(r: &mut Reader, key: u32) -> Option<Shown> {
-    match r.get(&key) {
+/// What an entry shows, which ends here.
+fn shown(found: Option<Entry<'_>>) -> Option<Shown> {
+    match found {
         Some(entry) => Some(look_into(&entry)),
         None => None,
     }
+}
+
+pub(crate) fn at_key(r: &mut Reader, key: u32) -> Option<Shown> {
+    shown(r.get(&key))
 }
 
 pub(crate) fn one_at_key(r: &mut Reader, key: u32) -> Option<Shown> {
-    match r.get_one(&key) {
-        Some(entry) => Some(look_into(&entry)),
-        None => None,
-    }
+    shown(r.get_one(&key))
 }
 
 pub(crate) fn beside_key(r: &mut Reader, key: u32) -> Option<Shown> {
-    match r.meta_get(&key) {
-        Some(entry) => Some(look_into(&entry)),
-        None => None,
-    }
+    shown(r.meta_get(&key))
 }
 
 pub(crate) fn meta_alone(r: &mut Reader) -> Option<Shown> {
-    match r.meta() {
-        Some(entry) => Some(look_into(&entry)),
-        None => None,
-    }
+    shown(r.meta())
 }
 
 /// Whether a guard shows the one value 5 at the one key 1, and the meta 1, in each way.
-fn shows_five(guard: &MapReadRef<'_, u32, u32, u32, KeepAll, Hasher>) -> bool {
+fn shows_five(guard: &Front<'_>) -> bool {
     let mut pairs = 0usize;
     for _ in guard {
         pairs = pairs.saturating_add(1);

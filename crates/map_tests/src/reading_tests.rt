@@ -32,6 +32,12 @@ fn holds<R: Wait>(rt: &R, alloc: Global, look: Look) -> Result<bool, EvmapFault>
     Ok(early && held == Ok(true) && late)
 }
 
+/// Asserts that it holds.
+fn it_holds(rt: HostRuntime, look: Look) -> Result<(), Fail> {
+    assert!(rt; holds(&rt, rt.alloc(), look)?);
+    Ok(())
+}
+
 fn look_at<R: Wait>(
     rt: &R,
     alloc: Global,
@@ -218,54 +224,45 @@ fn a_told_reader<R: Wait>(rt: &R, w: &mut Writer) -> Result<bool, Memory> {
 
 #[test]
 fn equal_values_and_a_cleared_bag(rt: HostRuntime) -> Result<(), Fail> {
-    assert!(rt; holds(&rt, rt.alloc(), Look::EqualValues)?);
-    Ok(())
+    it_holds(rt, Look::EqualValues)
 }
 
 #[test]
 fn the_meta_from_before_the_first_publish_is_kept(rt: HostRuntime) -> Result<(), Fail> {
-    assert!(rt; holds(&rt, rt.alloc(), Look::FirstMeta)?);
-    Ok(())
+    it_holds(rt, Look::FirstMeta)
 }
 
 #[test]
 fn the_last_key_takes_the_place(rt: HostRuntime) -> Result<(), Fail> {
-    assert!(rt; holds(&rt, rt.alloc(), Look::RemovedKey)?);
-    Ok(())
+    it_holds(rt, Look::RemovedKey)
 }
 
 #[test]
 fn a_published_bag_changes_its_form(rt: HostRuntime) -> Result<(), Fail> {
-    assert!(rt; holds(&rt, rt.alloc(), Look::Forms)?);
-    Ok(())
+    it_holds(rt, Look::Forms)
 }
 
 #[test]
 fn entries_show_a_bag_and_the_meta(rt: HostRuntime) -> Result<(), Fail> {
-    assert!(rt; holds(&rt, rt.alloc(), Look::Entries)?);
-    Ok(())
+    it_holds(rt, Look::Entries)
 }
 
 #[test]
 fn a_guard_shows_its_front(rt: HostRuntime) -> Result<(), Fail> {
-    assert!(rt; holds(&rt, rt.alloc(), Look::Guards)?);
-    Ok(())
+    it_holds(rt, Look::Guards)
 }
 
 #[test]
 fn each_write_is_published(rt: HostRuntime) -> Result<(), Fail> {
-    assert!(rt; holds(&rt, rt.alloc(), Look::EachWrite)?);
-    Ok(())
+    it_holds(rt, Look::EachWrite)
 }
 
 #[test]
 fn marked_keys_go_at_the_next_publish(rt: HostRuntime) -> Result<(), Fail> {
-    assert!(rt; holds(&rt, rt.alloc(), Look::MarkedKeys)?);
-    Ok(())
+    it_holds(rt, Look::MarkedKeys)
 }
 
 #[test]
 fn a_told_reader_reads_the_last_publish(rt: HostRuntime) -> Result<(), Fail> {
-    assert!(rt; holds(&rt, rt.alloc(), Look::ToldReader)?);
-    Ok(())
+    it_holds(rt, Look::ToldReader)
 }
