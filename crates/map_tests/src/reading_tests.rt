@@ -32,12 +32,6 @@ fn holds<R: Wait>(rt: &R, alloc: Global, look: Look) -> Result<bool, EvmapFault>
     Ok(early && held == Ok(true) && late)
 }
 
-/// Asserts that it holds.
-fn it_holds(rt: HostRuntime, look: Look) -> Result<(), Fail> {
-    assert!(rt; holds(&rt, rt.alloc(), look)?);
-    Ok(())
-}
-
 fn look_at<R: Wait>(
     rt: &R,
     alloc: Global,
@@ -224,45 +218,54 @@ fn a_told_reader<R: Wait>(rt: &R, w: &mut Writer) -> Result<bool, Memory> {
 
 #[test]
 fn equal_values_and_a_cleared_bag(rt: HostRuntime) -> Result<(), Fail> {
-    it_holds(rt, Look::EqualValues)
+    assert!(rt; holds(&rt, rt.alloc(), Look::EqualValues)?);
+    Ok(())
 }
 
 #[test]
 fn the_meta_from_before_the_first_publish_is_kept(rt: HostRuntime) -> Result<(), Fail> {
-    it_holds(rt, Look::FirstMeta)
+    assert!(rt; holds(&rt, rt.alloc(), Look::FirstMeta)?);
+    Ok(())
 }
 
 #[test]
 fn the_last_key_takes_the_place(rt: HostRuntime) -> Result<(), Fail> {
-    it_holds(rt, Look::RemovedKey)
+    assert!(rt; holds(&rt, rt.alloc(), Look::RemovedKey)?);
+    Ok(())
 }
 
 #[test]
 fn a_published_bag_changes_its_form(rt: HostRuntime) -> Result<(), Fail> {
-    it_holds(rt, Look::Forms)
+    assert!(rt; holds(&rt, rt.alloc(), Look::Forms)?);
+    Ok(())
 }
 
 #[test]
 fn entries_show_a_bag_and_the_meta(rt: HostRuntime) -> Result<(), Fail> {
-    it_holds(rt, Look::Entries)
+    assert!(rt; holds(&rt, rt.alloc(), Look::Entries)?);
+    Ok(())
 }
 
 #[test]
 fn a_guard_shows_its_front(rt: HostRuntime) -> Result<(), Fail> {
-    it_holds(rt, Look::Guards)
+    assert!(rt; holds(&rt, rt.alloc(), Look::Guards)?);
+    Ok(())
 }
 
 #[test]
 fn each_write_is_published(rt: HostRuntime) -> Result<(), Fail> {
-    it_holds(rt, Look::EachWrite)
+    assert!(rt; holds(&rt, rt.alloc(), Look::EachWrite)?);
+    Ok(())
 }
 
 #[test]
 fn marked_keys_go_at_the_next_publish(rt: HostRuntime) -> Result<(), Fail> {
-    it_holds(rt, Look::MarkedKeys)
+    assert!(rt; holds(&rt, rt.alloc(), Look::MarkedKeys)?);
+    Ok(())
 }
 
 #[test]
 fn a_told_reader_reads_the_last_publish(rt: HostRuntime) -> Result<(), Fail> {
-    it_holds(rt, Look::ToldReader)
+    assert!(rt; holds(&rt, rt.alloc(), Look::ToldReader)?);
+    Ok(())
 }
