@@ -1,5 +1,5 @@
 -- Entries at places that were found.
-use Rattle.std.proofs.Common.{◌≡◌, ◌<◌, ℕ, Bool, true, Option, Some, None, MatchOption, IfSome, is_some, refl, sym, ap, ◌∙◌, subst}
+use Rattle.std.proofs.Common.{◌≡◌, ◌<◌, ℕ, Bool, true, Option, Some, None, MatchOption, IfSome, is_some, sym, ap, ◌∙◌, subst}
 use Rattle.std.specs.Option.{IfNone}
 use Rattle.left_right.specs.Sides.{view}
 use Rattle.left_right.specs.declared.reader.Reading.{Reading}

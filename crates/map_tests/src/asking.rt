@@ -1,4 +1,4 @@
-//! What the tests ask of a reader. Entries end in one function, and guards in another.
+//! What the tests ask of a reader. Each guard and each entry ends in a function of its own.
 use evmap_core::{
     EntryRef, KeepAll, MapReadRef, PlainHasher, ReadHandle, ReadHandleFactory, WriteHandle,
 };
@@ -38,40 +38,62 @@ fn look_into(entry: &Entry<'_>) -> Shown {
     }
 }
 
-/// What an entry shows, which ends here.
-fn shown(found: Option<Entry<'_>>) -> Option<Shown> {
-    match found {
+pub(crate) fn at_key(r: &mut Reader, key: u32) -> Option<Shown> {
+    match r.get(&key) {
         Some(entry) => Some(look_into(&entry)),
         None => None,
     }
 }
 
-pub(crate) fn at_key(r: &mut Reader, key: u32) -> Option<Shown> {
-    shown(r.get(&key))
-}
-
 pub(crate) fn one_at_key(r: &mut Reader, key: u32) -> Option<Shown> {
-    shown(r.get_one(&key))
+    match r.get_one(&key) {
+        Some(entry) => Some(look_into(&entry)),
+        None => None,
+    }
 }
 
 pub(crate) fn beside_key(r: &mut Reader, key: u32) -> Option<Shown> {
-    shown(r.meta_get(&key))
+    match r.meta_get(&key) {
+        Some(entry) => Some(look_into(&entry)),
+        None => None,
+    }
 }
 
 pub(crate) fn meta_alone(r: &mut Reader) -> Option<Shown> {
-    shown(r.meta())
+    match r.meta() {
+        Some(entry) => Some(look_into(&entry)),
+        None => None,
+    }
 }
 
-/// Whether a guard shows the one value 5 at the one key 1, and the meta 1, in each way.
-fn shows_five(guard: &Front<'_>) -> bool {
+/// How many entries a guard goes over.
+fn count_pairs(guard: &Front<'_>) -> usize {
     let mut pairs = 0usize;
     for _ in guard {
         pairs = pairs.saturating_add(1);
     }
-    let there = guard.contains_key(&1) && guard.contains_value(&1, &5) && guard.len() == pairs;
-    let one = guard.get_one(&1) == Some(&5) && guard.get(&1).is_some() && *guard.meta() == 1;
-    let listed = guard.keys().next() == Some(&1) && guard.values().next().is_some();
-    there && one && listed && pairs == 1 && !guard.is_empty()
+    pairs
+}
+
+/// Whether a guard has the key 1 and the value 5 there.
+fn has_five(guard: &Front<'_>) -> bool {
+    guard.contains_key(&1) && guard.contains_value(&1, &5) && !guard.is_empty()
+}
+
+/// Whether a guard gives the value 5 at the key 1, and the meta 1.
+fn gives_five(guard: &Front<'_>) -> bool {
+    guard.get_one(&1) == Some(&5) && guard.get(&1).is_some() && *guard.meta() == 1
+}
+
+/// Whether the first key is 1, and there is a first bag.
+fn lists_one(guard: &Front<'_>) -> bool {
+    guard.keys().next() == Some(&1) && guard.values().next().is_some()
+}
+
+/// Whether a guard shows the one value 5 at the one key 1, and the meta 1, in each way.
+fn shows_five(guard: &Front<'_>) -> bool {
+    let one = guard.len() == 1 && count_pairs(guard) == 1;
+    one && has_five(guard) && gives_five(guard) && lists_one(guard)
 }
 
 /// Whether a guard shows five so. `None` where there is no guard.
