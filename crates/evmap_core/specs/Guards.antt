@@ -26,6 +26,10 @@ place_of guard = guard.at
 abbrev pub reading_of : {D R X G A : Type 0} → Guard D R X G A → G
 reading_of guard = guard.reading
 
+-- an entry has this reading, and looks at this place
+abbrev pub HasFound : {D R X G : Type 0} → G → Option ℕ → Guard D R X G (Option ℕ) → Type 0
+HasFound reading place entry = (entry.reading ≡ reading) × (entry.at ≡ place) × (is_some place ≡ true)
+
 -- the map of the front of a guard, as it is stored
 abbrev pub map_shown_by : {K L V M P S H D R X Q Z A : Type 0} → Guard D R X (Reading (Store K V M P S L H) (KnownFronts L V M P) Q Z) A → IndexMap K (Bag V) S
 map_shown_by guard = guard.reading.part.value.inner.map

@@ -5,6 +5,7 @@ use Rattle.std.specs.Arc.{arc_value}
 use Rattle.std.specs.declared.alloc.Global.{Global}
 use Rattle.left_right.specs.Sides.{view}
 use Rattle.left_right.specs.declared.reader.Reader.{Reader}
+use Rattle.left_right.specs.declared.reader.Factory.{Factory}
 use Rattle.atomic_table.specs.Seated.{TableId}
 use Rattle.evmap_core.specs.declared.known_fronts.KnownFronts.{KnownFronts}
 use Rattle.evmap_core.specs.declared.store.Store.{Store}
@@ -26,9 +27,13 @@ module _ {K V M P S L H : Type 0} where
   abbrev pub seat_of : ReadHandle K V M P S L H → Option TableId
   seat_of h = option_map (λ r. r.place.table_id) h.reader
 
+  -- the table at which the readers of a factory sit
+  abbrev pub table_of : Factory (Store K V M P S L H) (KnownFronts L V M P) Published Global → TableId
+  table_of from = (arc_value from.board).shared.table_id
+
   -- which map a factory is of: the table at which its readers sit
   abbrev pub map_of_factory : ReadHandleFactory K V M P S L H → TableId
-  map_of_factory f = (arc_value f.from.board).shared.table_id
+  map_of_factory f = table_of f.from
 
   -- which map a read handle is of: that of the factory that it keeps
   abbrev pub map_of : ReadHandle K V M P S L H → TableId

@@ -9,13 +9,11 @@ ghost use Rattle.left_right.specs.Sides.{view};
 ghost use Rattle.evmap_core.specs.Asked.{IsOneOf, bag_under, times_at, bag_at};
 ghost use Rattle.evmap_core.specs.Guards.{map_shown_by, place_of, reading_of, shown_by};
 
-use crate::published::Published;
+use crate::published::{MapReader, MapReading};
 use crate::reader::put_back;
-use crate::{KnownFronts, ReadHandle, Store};
-use crossbeam_utils::rule::Protocol;
+use crate::{KnownFronts, ReadHandle};
 use evmap_contents::KeyClone;
 use indexmap::map::{Iter, Keys, Values as BagsInOrder};
-use left_right::reader::{Reader, Reading};
 use std::hash::{BuildHasher, Hash};
 use std::marker::PhantomData;
 use value_bags::{Keep, Values};
@@ -38,15 +36,12 @@ impl<
     M: Drop,
     P: Keep<V> + Drop,
     S: BuildHasher + Drop,
-> Leaves<
-    Reader<Store<K, V, M, P, S>, KnownFronts<K::Plain, V, M, P>, Published>,
-    KnownFronts<K::Plain, V, M, P>,
-> for Reading<Store<K, V, M, P, S>, KnownFronts<K::Plain, V, M, P>, Published> {
+> Leaves<MapReader<K, V, M, P, S>, KnownFronts<K::Plain, V, M, P>> for MapReading<K, V, M, P, S> {
     ghost last = { λ r. view r.place };
 
     ghost shows = { λ v r. view r.place ≡ v };
 
-    fn go(self) -> Reader<Store<K, V, M, P, S>, KnownFronts<K::Plain, V, M, P>, Published> {
+    fn go(self) -> MapReader<K, V, M, P, S> {
         self.leave()
     }
 }
@@ -66,16 +61,12 @@ impl<
     M: Drop,
     P: Keep<V> + Drop,
     S: BuildHasher + Drop,
-> Home<Reader<Store<K, V, M, P, S>, KnownFronts<K::Plain, V, M, P>, Published>>
-    for ReadHandle<K, V, M, P, S> {
+> Home<MapReader<K, V, M, P, S>> for ReadHandle<K, V, M, P, S> {
     ghost use Rattle.evmap_core.specs.Known.{reader_of};
 
     ghost has = { λ h r. reader_of h ≡ Some r };
 
-    fn put(
-        &mut self,
-        reader: Reader<Store<K, V, M, P, S>, KnownFronts<K::Plain, V, M, P>, Published>,
-    ) {
+    fn put(&mut self, reader: MapReader<K, V, M, P, S>) {
         put_back(&mut self.reader, Some(reader));
     }
 }
@@ -103,25 +94,21 @@ impl<H: Home<R>, R, X, G: Leaves<R, X>, A: Drop> Drop for Guard<'_, H, R, X, G, 
     }
 }
 
-/// A guard of a reader.
-pub type MapReadRef<'a, K, V, M, P, S> = Guard<
+/// A guard of a reader, which looks at `A` beside the front.
+pub type ReadGuard<'a, K, V, M, P, S, A> = Guard<
     'a,
     ReadHandle<K, V, M, P, S>,
-    Reader<Store<K, V, M, P, S>, KnownFronts<<K as KeyClone>::Plain, V, M, P>, Published>,
+    MapReader<K, V, M, P, S>,
     KnownFronts<<K as KeyClone>::Plain, V, M, P>,
-    Reading<Store<K, V, M, P, S>, KnownFronts<<K as KeyClone>::Plain, V, M, P>, Published>,
-    (),
+    MapReading<K, V, M, P, S>,
+    A,
 >;
 
+/// A guard of a reader.
+pub type MapReadRef<'a, K, V, M, P, S> = ReadGuard<'a, K, V, M, P, S, ()>;
+
 /// A guard of a reader that looks at one key, or at the meta alone. It copies no bag.
-pub type EntryRef<'a, K, V, M, P, S> = Guard<
-    'a,
-    ReadHandle<K, V, M, P, S>,
-    Reader<Store<K, V, M, P, S>, KnownFronts<<K as KeyClone>::Plain, V, M, P>, Published>,
-    KnownFronts<<K as KeyClone>::Plain, V, M, P>,
-    Reading<Store<K, V, M, P, S>, KnownFronts<<K as KeyClone>::Plain, V, M, P>, Published>,
-    Option<usize>,
->;
+pub type EntryRef<'a, K, V, M, P, S> = ReadGuard<'a, K, V, M, P, S, Option<usize>>;
 
 impl<
     K: KeyClone + Drop,
@@ -129,14 +116,7 @@ impl<
     M: Drop,
     P: Keep<V> + Drop,
     S: BuildHasher + Drop,
-> Guard<
-    '_,
-    ReadHandle<K, V, M, P, S>,
-    Reader<Store<K, V, M, P, S>, KnownFronts<K::Plain, V, M, P>, Published>,
-    KnownFronts<K::Plain, V, M, P>,
-    Reading<Store<K, V, M, P, S>, KnownFronts<K::Plain, V, M, P>, Published>,
-    (),
-> {
+> MapReadRef<'_, K, V, M, P, S> {
     /// How many keys there are.
     pub fn len(&self) -> usize
         ensures { result ≡ length (shown_by K.plain self.now).entries }
@@ -218,14 +198,7 @@ impl<
     M: Drop,
     P: Keep<V> + Drop,
     S: BuildHasher + Drop,
-> Guard<
-    '_,
-    ReadHandle<K, V, M, P, S>,
-    Reader<Store<K, V, M, P, S>, KnownFronts<K::Plain, V, M, P>, Published>,
-    KnownFronts<K::Plain, V, M, P>,
-    Reading<Store<K, V, M, P, S>, KnownFronts<K::Plain, V, M, P>, Published>,
-    Option<usize>,
-> {
+> EntryRef<'_, K, V, M, P, S> {
     /// The bag of the key. `None` where the key isn't there, or the meta alone was asked for.
     pub fn values(&self) -> Option<&Values<V>>
         ensures { option_copied result ≡ bag_at (shown_by K.plain self.now) (place_of self.now) }

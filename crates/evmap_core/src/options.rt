@@ -1,8 +1,6 @@
 //! How a map is made.
-ghost use Rattle.std.specs.Prelude.{◌≡◌, ◌<◌, IfOk, IfErr};
-ghost use Rattle.evmap_core.specs.declared.faults.EvmapFault.TheVariants as faults;
-ghost use Rattle.evmap_core.specs.Handles.{IsNew, map_of_writer};
-ghost use Rattle.evmap_core.specs.Known.{IsFresh};
+ghost use Rattle.std.specs.Prelude.{◌≡◌, ◌<◌};
+ghost use Rattle.evmap_core.specs.Handles.{Makes};
 
 use crate::{EvmapFault, ReadHandle, WriteHandle};
 use evmap_contents::KeyClone;
@@ -13,6 +11,12 @@ use value_bags::Keep;
 
 /// How many readers there is room for, where nothing else is asked.
 pub const PLACES: u32 = 64;
+
+/// The hasher of a map where no other is asked for.
+pub type PlainHasher = BuildHasherDefault<FoldHasher>;
+
+/// The writer of a map, and its first reader.
+pub type Handles<K, V, M, P, S> = (WriteHandle<K, V, M, P, S>, ReadHandle<K, V, M, P, S>);
 
 /// How a map is made.
 #[derive(Drop)]
@@ -27,9 +31,9 @@ pub struct Options<M, S> {
     ghost placed: { 0 < places },
 }
 
-impl Options<(), BuildHasherDefault<FoldHasher>> {
+impl Options<(), PlainHasher> {
     /// No meta, room for 64 readers and for no key.
-    pub fn default() -> Options<(), BuildHasherDefault<FoldHasher>>
+    pub fn default() -> Options<(), PlainHasher>
         ensures { (result.capacity ≡ 0) × (result.places ≡ PLACES) }
     {
         Options {
@@ -44,7 +48,8 @@ impl Options<(), BuildHasherDefault<FoldHasher>> {
 impl<M: Drop, S: Drop> Options<M, S> {
     /// With this meta.
     pub fn with_meta<M2>(self, meta: M2) -> Options<M2, S>
-        ensures { (result.meta ≡ meta) × (result.hasher ≡ self.hasher) × (result.capacity ≡ self.capacity) × (result.places ≡ self.places) }
+        ensures { (result.meta ≡ meta) × (result.hasher ≡ self.hasher)
+            × (result.capacity ≡ self.capacity) × (result.places ≡ self.places) }
     {
         Options {
             meta,
@@ -56,7 +61,8 @@ impl<M: Drop, S: Drop> Options<M, S> {
 
     /// With this hasher.
     pub fn with_hasher<S2>(self, hasher: S2) -> Options<M, S2>
-        ensures { (result.meta ≡ self.meta) × (result.hasher ≡ hasher) × (result.capacity ≡ self.capacity) × (result.places ≡ self.places) }
+        ensures { (result.meta ≡ self.meta) × (result.hasher ≡ hasher)
+            × (result.capacity ≡ self.capacity) × (result.places ≡ self.places) }
     {
         Options {
             meta: self.meta,
@@ -68,7 +74,8 @@ impl<M: Drop, S: Drop> Options<M, S> {
 
     /// With room for so many keys.
     pub fn with_capacity(self, capacity: usize) -> Options<M, S>
-        ensures { (result.meta ≡ self.meta) × (result.hasher ≡ self.hasher) × (result.capacity ≡ capacity) × (result.places ≡ self.places) }
+        ensures { (result.meta ≡ self.meta) × (result.hasher ≡ self.hasher)
+            × (result.capacity ≡ capacity) × (result.places ≡ self.places) }
     {
         Options {
             meta: self.meta,
@@ -81,7 +88,8 @@ impl<M: Drop, S: Drop> Options<M, S> {
     /// With room for so many readers.
     pub fn with_places(self, places: u32) -> Options<M, S>
         requires { 0 < places }
-        ensures { (result.meta ≡ self.meta) × (result.hasher ≡ self.hasher) × (result.capacity ≡ self.capacity) × (result.places ≡ places) }
+        ensures { (result.meta ≡ self.meta) × (result.hasher ≡ self.hasher)
+            × (result.capacity ≡ self.capacity) × (result.places ≡ places) }
     {
         Options {
             meta: self.meta,
@@ -90,18 +98,17 @@ impl<M: Drop, S: Drop> Options<M, S> {
             places,
         }
     }
+}
 
+impl<M: Drop, S: BuildHasher + Clone + Drop> Options<M, S> {
     /// An empty map that is not published: its writer, and a reader. It needs `rt`, since a writer whose first reader was
     /// refused has to end. That reads nothing, so it waits for no one.
     pub fn construct<K: KeyClone + Drop, V: Eq + Hash + Drop, P: Keep<V> + Drop, R: Wait>(
         self,
         rt: &R,
         alloc: Global,
-    ) -> Result<(WriteHandle<K, V, M, P, S>, ReadHandle<K, V, M, P, S>), EvmapFault>
-    where
-        S: BuildHasher + Clone,
-        ensures made { IfOk result (λ t. IsNew K.plain t.0 self.meta self.capacity × IsFresh t.1 (map_of_writer t.0)) }
-        ensures err { IfErr result (λ e. e ≡ faults.Memory) }
+    ) -> Result<Handles<K, V, M, P, S>, EvmapFault>
+        ensures { Makes K.plain result self.meta self.capacity }
     {
         let Ok(second) = self.hasher.clone() else {
             return Err(EvmapFault::Memory);
@@ -119,11 +126,8 @@ impl<M: Drop, S: Drop> Options<M, S> {
         self,
         rt: &R,
         alloc: Global,
-    ) -> Result<(WriteHandle<K, V, M, P, S>, ReadHandle<K, V, M, P, S>), EvmapFault>
-    where
-        S: BuildHasher + Clone,
-        ensures made { IfOk result (λ t. IsNew K.plain t.0 self.meta self.capacity × IsFresh t.1 (map_of_writer t.0)) }
-        ensures err { IfErr result (λ e. e ≡ faults.Memory) }
+    ) -> Result<Handles<K, V, M, P, S>, EvmapFault>
+        ensures { Makes K.plain result self.meta self.capacity }
     {
         self.construct(rt, alloc)
     }
@@ -133,15 +137,8 @@ impl<M: Drop, S: Drop> Options<M, S> {
 pub fn new<K: KeyClone + Drop, V: Eq + Hash + Drop, P: Keep<V> + Drop, R: Wait>(
     rt: &R,
     alloc: Global,
-) -> Result<
-    (
-        WriteHandle<K, V, (), P, BuildHasherDefault<FoldHasher>>,
-        ReadHandle<K, V, (), P, BuildHasherDefault<FoldHasher>>,
-    ),
-    EvmapFault,
->
-    ensures made { IfOk result (λ t. IsNew K.plain t.0 tt 0 × IsFresh t.1 (map_of_writer t.0)) }
-    ensures err { IfErr result (λ e. e ≡ faults.Memory) }
+) -> Result<Handles<K, V, (), P, PlainHasher>, EvmapFault>
+    ensures { Makes K.plain result tt 0 }
 {
     Options::default().construct(rt, alloc)
 }
@@ -150,15 +147,8 @@ pub fn new<K: KeyClone + Drop, V: Eq + Hash + Drop, P: Keep<V> + Drop, R: Wait>(
 pub fn new_assert_stable<K: KeyClone + Drop, V: Eq + Hash + Drop, P: Keep<V> + Drop, R: Wait>(
     rt: &R,
     alloc: Global,
-) -> Result<
-    (
-        WriteHandle<K, V, (), P, BuildHasherDefault<FoldHasher>>,
-        ReadHandle<K, V, (), P, BuildHasherDefault<FoldHasher>>,
-    ),
-    EvmapFault,
->
-    ensures made { IfOk result (λ t. IsNew K.plain t.0 tt 0 × IsFresh t.1 (map_of_writer t.0)) }
-    ensures err { IfErr result (λ e. e ≡ faults.Memory) }
+) -> Result<Handles<K, V, (), P, PlainHasher>, EvmapFault>
+    ensures { Makes K.plain result tt 0 }
 {
     new(rt, alloc)
 }
@@ -171,14 +161,8 @@ pub fn with_hasher<
     P: Keep<V> + Drop,
     S: BuildHasher + Clone + Drop,
     R: Wait,
->(
-    rt: &R,
-    alloc: Global,
-    meta: M,
-    hasher: S,
-) -> Result<(WriteHandle<K, V, M, P, S>, ReadHandle<K, V, M, P, S>), EvmapFault>
-    ensures made { IfOk result (λ t. IsNew K.plain t.0 meta 0 × IsFresh t.1 (map_of_writer t.0)) }
-    ensures err { IfErr result (λ e. e ≡ faults.Memory) }
+>(rt: &R, alloc: Global, meta: M, hasher: S) -> Result<Handles<K, V, M, P, S>, EvmapFault>
+    ensures { Makes K.plain result meta 0 }
 {
     Options::default()
         .with_meta(meta)

@@ -1,14 +1,17 @@
 //! What the tests ask of a reader. Each guard and each entry ends in a function of its own.
-use evmap_core::{EntryRef, KeepAll, MapReadRef, ReadHandle, ReadHandleFactory, WriteHandle};
-use std::hash::{BuildHasherDefault, FoldHasher};
+use evmap_core::{
+    EntryRef, KeepAll, MapReadRef, PlainHasher, ReadHandle, ReadHandleFactory, WriteHandle,
+};
 
-pub(crate) type Hasher = BuildHasherDefault<FoldHasher>;
+pub(crate) type Writer = WriteHandle<u32, u32, u32, KeepAll, PlainHasher>;
 
-pub(crate) type Writer = WriteHandle<u32, u32, u32, KeepAll, Hasher>;
+pub(crate) type Reader = ReadHandle<u32, u32, u32, KeepAll, PlainHasher>;
 
-pub(crate) type Reader = ReadHandle<u32, u32, u32, KeepAll, Hasher>;
+pub(crate) type Factory = ReadHandleFactory<u32, u32, u32, KeepAll, PlainHasher>;
 
-pub(crate) type Factory = ReadHandleFactory<u32, u32, u32, KeepAll, Hasher>;
+type Entry<'a> = EntryRef<'a, u32, u32, u32, KeepAll, PlainHasher>;
+
+type Front<'a> = MapReadRef<'a, u32, u32, u32, KeepAll, PlainHasher>;
 
 /// What an entry shows.
 #[derive(Clone, Copy)]
@@ -20,7 +23,7 @@ pub(crate) struct Shown {
     pub(crate) meta: u32,
 }
 
-fn look_into(entry: &EntryRef<'_, u32, u32, u32, KeepAll, Hasher>) -> Shown {
+fn look_into(entry: &Entry<'_>) -> Shown {
     match entry.values() {
         Some(bag) => Shown {
             form: Some((bag.is_short(), bag.len())),
@@ -63,16 +66,34 @@ pub(crate) fn meta_alone(r: &mut Reader) -> Option<Shown> {
     }
 }
 
-/// Whether a guard shows the one value 5 at the one key 1, and the meta 1, in each way.
-fn shows_five(guard: &MapReadRef<'_, u32, u32, u32, KeepAll, Hasher>) -> bool {
+/// How many entries a guard goes over.
+fn count_pairs(guard: &Front<'_>) -> usize {
     let mut pairs = 0usize;
     for _ in guard {
         pairs = pairs.saturating_add(1);
     }
-    let there = guard.contains_key(&1) && guard.contains_value(&1, &5) && guard.len() == pairs;
-    let one = guard.get_one(&1) == Some(&5) && guard.get(&1).is_some() && *guard.meta() == 1;
-    let listed = guard.keys().next() == Some(&1) && guard.values().next().is_some();
-    there && one && listed && pairs == 1 && !guard.is_empty()
+    pairs
+}
+
+/// Whether a guard has the key 1 and the value 5 there.
+fn has_five(guard: &Front<'_>) -> bool {
+    guard.contains_key(&1) && guard.contains_value(&1, &5) && !guard.is_empty()
+}
+
+/// Whether a guard gives the value 5 at the key 1, and the meta 1.
+fn gives_five(guard: &Front<'_>) -> bool {
+    guard.get_one(&1) == Some(&5) && guard.get(&1).is_some() && *guard.meta() == 1
+}
+
+/// Whether the first key is 1, and there is a first bag.
+fn lists_one(guard: &Front<'_>) -> bool {
+    guard.keys().next() == Some(&1) && guard.values().next().is_some()
+}
+
+/// Whether a guard shows the one value 5 at the one key 1, and the meta 1, in each way.
+fn shows_five(guard: &Front<'_>) -> bool {
+    let one = guard.len() == 1 && count_pairs(guard) == 1;
+    one && has_five(guard) && gives_five(guard) && lists_one(guard)
 }
 
 /// Whether a guard shows five so. `None` where there is no guard.

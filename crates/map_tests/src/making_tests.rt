@@ -2,20 +2,18 @@
 ghost use Rattle.std.specs.Prelude.{◌<◌};
 
 use evmap_core::{
-    EvmapFault, KeepAll, Options, ReadHandle, WriteHandle, new, new_assert_stable, with_hasher,
+    EvmapFault, Handles, KeepAll, Options, PlainHasher, ReadHandle, new, new_assert_stable,
+    with_hasher,
 };
-use std::hash::{BuildHasherDefault, FoldHasher};
+use std::hash::BuildHasherDefault;
 use std::sync::Wait;
-use std::test::Fail;
 
-type Hasher = BuildHasherDefault<FoldHasher>;
+type Made = Handles<u32, u32, (), KeepAll, PlainHasher>;
 
-type Writer = WriteHandle<u32, u32, (), KeepAll, Hasher>;
-
-type Reader = ReadHandle<u32, u32, (), KeepAll, Hasher>;
+type Reader = ReadHandle<u32, u32, (), KeepAll, PlainHasher>;
 
 /// Whether a map was made, and how many more readers there is room for, of two.
-fn made<R: Wait>(rt: &R, map: Result<(Writer, Reader), EvmapFault>) -> Option<usize> {
+fn made<R: Wait>(rt: &R, map: Result<Made, EvmapFault>) -> Option<usize> {
     match map {
         Ok((w, r)) => {
             w.end(rt);
@@ -52,7 +50,7 @@ fn each_way_makes_a_map(rt: HostRuntime) {
 }
 
 /// Options with room for so many readers.
-fn with_room(places: u32) -> Options<(), Hasher>
+fn with_room(places: u32) -> Options<(), PlainHasher>
     requires { 0 < places }
 {
     Options::default().with_capacity(9).with_places(places)
