@@ -206,25 +206,14 @@ fn holds(alloc: Global, look: Look) -> Result<bool, Memory> {
 }
 
 #[test]
-fn one_name_names_a_series_of_each_kind(rt: HostRuntime) -> Result<(), Fail> {
-    assert!(rt; holds(rt.alloc(), Look::OneName)?);
-    Ok(())
-}
-
-#[test]
-fn counters_are_kept(rt: HostRuntime) -> Result<(), Fail> {
-    assert!(rt; holds(rt.alloc(), Look::Counters)?);
-    Ok(())
-}
-
-#[test]
-fn gauges_are_kept(rt: HostRuntime) -> Result<(), Fail> {
-    assert!(rt; holds(rt.alloc(), Look::Gauges)?);
-    Ok(())
-}
-
-#[test]
-fn histograms_are_kept(rt: HostRuntime) -> Result<(), Fail> {
-    assert!(rt; holds(rt.alloc(), Look::Histograms)?);
+fn series_of_each_kind_are_kept(rt: HostRuntime) -> Result<(), Fail> {
+    for look in [
+        Look::OneName,
+        Look::Counters,
+        Look::Gauges,
+        Look::Histograms,
+    ] {
+        assert!(rt; holds(rt.alloc(), look)?);
+    }
     Ok(())
 }

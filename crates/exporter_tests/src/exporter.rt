@@ -97,25 +97,14 @@ fn holds(alloc: Global, look: Look) -> Result<bool, Fail> {
 }
 
 #[test]
-fn a_lent_counter_counts(rt: HostRuntime) -> Result<(), Fail> {
-    assert!(rt; holds(rt.alloc(), Look::ALentCounter)?);
-    Ok(())
-}
-
-#[test]
-fn a_page_beside_a_lent_counter(rt: HostRuntime) -> Result<(), Fail> {
-    assert!(rt; holds(rt.alloc(), Look::ACounterThatIsOut)?);
-    Ok(())
-}
-
-#[test]
-fn a_lent_gauge_is_set(rt: HostRuntime) -> Result<(), Fail> {
-    assert!(rt; holds(rt.alloc(), Look::ALentGauge)?);
-    Ok(())
-}
-
-#[test]
-fn a_sink_that_fails_leaves_a_front(rt: HostRuntime) -> Result<(), Fail> {
-    assert!(rt; holds(rt.alloc(), Look::AFailingSink)?);
+fn what_is_lent_counts_and_a_sink_that_fails_has_a_prefix(rt: HostRuntime) -> Result<(), Fail> {
+    for look in [
+        Look::ALentCounter,
+        Look::ACounterThatIsOut,
+        Look::ALentGauge,
+        Look::AFailingSink,
+    ] {
+        assert!(rt; holds(rt.alloc(), look)?);
+    }
     Ok(())
 }

@@ -2,19 +2,7 @@
 
 ghost use Rattle.std.specs.Prelude.{◌≡◌, ◌≢◌, [], map, flat_map, IfOk, MatchOption, IsUtf8, string_bytes};
 ghost use Rattle.prom_format.specs.Pages.{page_text};
-ghost use Rattle.page_relay.specs.Fitting.{
-  IsSound,
-  Start,
-  Fits,
-  FitsBetween,
-  Helped,
-  IsNext,
-  text_so_far,
-  place_of,
-  place_in_rows,
-  so_far,
-  parts_so_far,
-};
+ghost use Rattle.page_relay.specs.Fitting.{IsSound, Start, Fits, FitsBetween, Helped, IsNext, text_so_far, place_of, place_in_rows, so_far, parts_so_far};
 ghost use Rattle.page_relay.specs.Values.{families_of, family_of};
 ghost use Rattle.page_relay.specs.declared.progress.Begun.TheVariants as opened;
 

@@ -2,16 +2,7 @@
 
 ghost use Rattle.std.specs.Prelude.{◌≡◌, IfErr, IfOk, IfSome, OnOk};
 ghost use Rattle.metrics_core.specs.Outside.{Rose};
-ghost use Rattle.script_runs.specs.Answers.{
-  end_status,
-  report_of,
-  HasCause,
-  HasDeviceCause,
-  HasRounds,
-  IsComplete,
-  LeavesPrefix,
-  LeavesUnplayed,
-};
+ghost use Rattle.script_runs.specs.Answers.{end_status, report_of, HasCause, HasDeviceCause, HasRounds, IsComplete, LeavesPrefix, LeavesUnplayed};
 ghost use Rattle.script_runs.specs.Headline.{IsPlayed};
 
 use crate::play::play;
