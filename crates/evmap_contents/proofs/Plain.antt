@@ -6,8 +6,8 @@ use Rattle.std.specs.Map.{keys_of}
 use Rattle.std.specs.Cmp.{IsEquivalence}
 use Rattle.std.proofs.lemmas.List.Sums.{sum_by_push}
 use Rattle.indexmap.specs.IndexMap.{swap_remove_entry}
-use Rattle.value_bags.specs.declared.bag.Bag.{Bag}
-use Rattle.value_bags.specs.declared.bag.Bag.TheVariants.{Short}
+use Rattle.value_bags.specs.declared.bag.BagForm.{BagForm}
+use Rattle.value_bags.specs.declared.bag.BagForm.TheVariants.{Short}
 use Rattle.value_bags.specs.Entries.{change, alter}
 use Rattle.value_bags.specs.Bags.{pushed, removed, cleared, retained, fitted, reserved, roomy, without_first, times, IsProperBag}
 use Rattle.value_bags.proofs.Times as bags
@@ -91,21 +91,21 @@ module _ {A B : Type 0} (R : A → B → Type 0) where
 
 module _ {V : Type 0} (eq : V → V → Bool) where
   -- a change of a bag and of its list
-  abbrev pub Follows : (Bag V → Bag V) → (List V → List V) → Type 0
-  Follows f g = (b : Bag V) (vs : List V) → IsProperBag eq b → ((v : V) → times eq b v ≡ count_by (eq v) vs) → IsProperBag eq (f b) × ((v : V) → times eq (f b) v ≡ count_by (eq v) (g vs))
+  abbrev pub Follows : (BagForm V → BagForm V) → (List V → List V) → Type 0
+  Follows f g = (b : BagForm V) (vs : List V) → IsProperBag eq b → ((v : V) → times eq b v ≡ count_by (eq v) vs) → IsProperBag eq (f b) × ((v : V) → times eq (f b) v ≡ count_by (eq v) (g vs))
 
 module _ {K V : Type 0} (eq : V → V → Bool) where
   -- the same key, a bag as it should be, and each value as often in the bag as in the list
-  abbrev pub Tied : K × Bag V → K × List V → Type 0
+  abbrev pub Tied : K × BagForm V → K × List V → Type 0
   Tied e p = (e.0 ≡ p.0) × (IsProperBag eq e.1) × ((v : V) → times eq e.1 v ≡ count_by (eq v) p.1)
 
-  same_keys : (es : List (K × Bag V)) (ps : List (K × List V)) → AllZip Tied es ps → keys_of es ≡ keys_of ps
+  same_keys : (es : List (K × BagForm V)) (ps : List (K × List V)) → AllZip Tied es ps → keys_of es ≡ keys_of ps
   same_keys [] [] h = refl
   same_keys (e ∷ es) (p ∷ ps) h = λ j. h.0.0 j ∷ same_keys es ps h.1 j
   same_keys [] (p ∷ ps) h = absurd h
   same_keys (e ∷ es) [] h = absurd h
 
-  tied-entry : (test : K → Bool) (es : List (K × Bag V)) (ps : List (K × List V)) → AllZip Tied es ps → AllZip Tied (swap_remove_entry test es) (swap_remove_entry test ps)
+  tied-entry : (test : K → Bool) (es : List (K × BagForm V)) (ps : List (K × List V)) → AllZip Tied es ps → AllZip Tied (swap_remove_entry test es) (swap_remove_entry test ps)
   tied-entry test [] [] h = tt
   tied-entry test (e ∷ es) (p ∷ ps) h =
       subst (λ ks. AllZip Tied (swap_remove_entry test (e ∷ es)) (option_map_or (λ i. swap_remove (p ∷ ps) i p) (position test ks) (p ∷ ps))) (same_keys (e ∷ es) (p ∷ ps) h)
@@ -117,11 +117,11 @@ module _ {K V : Type 0} (eq : V → V → Bool) where
   tied-entry test [] (p ∷ ps) h = absurd h
   tied-entry test (e ∷ es) [] h = absurd h
 
-  module _ (f : Bag V → Bag V) (g : List V → List V) (step : Follows eq f g) (test : K → Bool) where
-    one : (e : K × Bag V) (p : K × List V) → Tied e p → Tied (e.0, f e.1) (p.0, g p.1)
+  module _ (f : BagForm V → BagForm V) (g : List V → List V) (step : Follows eq f g) (test : K → Bool) where
+    one : (e : K × BagForm V) (p : K × List V) → Tied e p → Tied (e.0, f e.1) (p.0, g p.1)
     one e p h = let s = step e.1 p.1 h.1 h.2 in (h.0, s.0, s.1)
 
-    tied-change : (k : K) (made : Bag V) (list : List V) → Tied (k, made) (k, list) → (es : List (K × Bag V)) (ps : List (K × List V)) → AllZip Tied es ps → AllZip Tied (change test k f made es) (change test k g list ps)
+    tied-change : (k : K) (made : BagForm V) (list : List V) → Tied (k, made) (k, list) → (es : List (K × BagForm V)) (ps : List (K × List V)) → AllZip Tied es ps → AllZip Tied (change test k f made es) (change test k g list ps)
     tied-change k made list new [] [] h = (new, tt)
     tied-change k made list new (e ∷ es) (p ∷ ps) h =
         subst (λ t. AllZip Tied (change test k f made (e ∷ es)) (cond t ((p.0, g p.1) ∷ ps) (p ∷ change test k g list ps))) (ap test h.0.0)
@@ -129,7 +129,7 @@ module _ {K V : Type 0} (eq : V → V → Bool) where
     tied-change k made list new [] (p ∷ ps) h = absurd h
     tied-change k made list new (e ∷ es) [] h = absurd h
 
-    tied-alter : (es : List (K × Bag V)) (ps : List (K × List V)) → AllZip Tied es ps → AllZip Tied (alter test f es) (alter test g ps)
+    tied-alter : (es : List (K × BagForm V)) (ps : List (K × List V)) → AllZip Tied es ps → AllZip Tied (alter test f es) (alter test g ps)
     tied-alter [] [] h = tt
     tied-alter (e ∷ es) (p ∷ ps) h =
         subst (λ t. AllZip Tied (alter test f (e ∷ es)) (cond t ((p.0, g p.1) ∷ ps) (p ∷ alter test g ps))) (ap test h.0.0)
@@ -137,21 +137,21 @@ module _ {K V : Type 0} (eq : V → V → Bool) where
     tied-alter [] (p ∷ ps) h = absurd h
     tied-alter (e ∷ es) [] h = absurd h
 
-  module _ (f : Bag V → Bag V) (step : Follows eq f (λ vs. vs)) where
-    tied-left : (test : K → Bool) (es : List (K × Bag V)) (ps : List (K × List V)) → AllZip Tied es ps → AllZip Tied (alter test f es) ps
+  module _ (f : BagForm V → BagForm V) (step : Follows eq f (λ vs. vs)) where
+    tied-left : (test : K → Bool) (es : List (K × BagForm V)) (ps : List (K × List V)) → AllZip Tied es ps → AllZip Tied (alter test f es) ps
     tied-left test [] [] h = tt
     tied-left test (e ∷ es) (p ∷ ps) h =
         pick-left Tied (test e.0) ((e.0, f e.1) ∷ es) (e ∷ alter test f es) (p ∷ ps) ((h.0.0, (step e.1 p.1 h.0.1 h.0.2).0, (step e.1 p.1 h.0.1 h.0.2).1), h.1) (h.0, tied-left test es ps h.1)
     tied-left test [] (p ∷ ps) h = absurd h
     tied-left test (e ∷ es) [] h = absurd h
 
-    tied-all : (es : List (K × Bag V)) (ps : List (K × List V)) → AllZip Tied es ps → AllZip Tied (map (λ e. (e.0, f e.1)) es) ps
+    tied-all : (es : List (K × BagForm V)) (ps : List (K × List V)) → AllZip Tied es ps → AllZip Tied (map (λ e. (e.0, f e.1)) es) ps
     tied-all [] [] h = tt
     tied-all (e ∷ es) (p ∷ ps) h = ((h.0.0, (step e.1 p.1 h.0.1 h.0.2).0, (step e.1 p.1 h.0.1 h.0.2).1), tied-all es ps h.1)
     tied-all [] (p ∷ ps) h = absurd h
     tied-all (e ∷ es) [] h = absurd h
 
-  forgets : (es : List (K × Bag V)) (ps : List (K × List V)) → AllZip Tied es ps → HoldAlike eq es ps
+  forgets : (es : List (K × BagForm V)) (ps : List (K × List V)) → AllZip Tied es ps → HoldAlike eq es ps
   forgets [] [] h = tt
   forgets (e ∷ es) (p ∷ ps) h = ((h.0.0, h.0.2), forgets es ps h.1)
   forgets [] (p ∷ ps) h = absurd h
@@ -162,7 +162,7 @@ fits eq laws b vs h t = (bags.proper-fitted eq laws b h, λ w. bags.times-fitted
 
 module _ {K V M P : Type 0} (same : K → K → Bool) (eq : V → V → Bool) (keeps : P → V → Bool) (laws : IsEquivalence eq) (kept : (p : P) (a b : V) → eq a b ≡ true → keeps p a ≡ keeps p b) where
   -- one write
-  step : (w : Write K V M P) (es : List (K × Bag V)) (ps : List (K × List V)) → AllZip (Tied eq) es ps → AllZip (Tied eq) (entries_after same eq keeps es w) (plain_after same eq keeps ps w)
+  step : (w : Write K V M P) (es : List (K × BagForm V)) (ps : List (K × List V)) → AllZip (Tied eq) es ps → AllZip (Tied eq) (entries_after same eq keeps es w) (plain_after same eq keeps ps w)
   step (Insert k v) es ps h =
       tied-change eq (λ b. pushed eq b v) (λ vs. vs ++ v ∷ []) (λ b vs p t. (bags.proper-pushed eq laws b v p, λ w. bags.times-pushed eq laws b v w ∙ ap (λ n. n + cond (eq w v) 1 0) (t w) ∙ sym (sum_by_push (λ (y : V). cond (eq w y) 1 0) vs v)))
       (same k) k (Short (v ∷ [])) (v ∷ []) (refl, tt, λ w. refl) es ps h

@@ -2,8 +2,8 @@
 use Rattle.std.specs.Prelude.{ℕ, Bool, true, false, List, [], ◌∷◌, map, fold, slice_get, swap_remove}
 use Rattle.std.specs.Option.{option_map_or}
 use Rattle.indexmap.specs.IndexMap.{swap_remove_entry}
-use Rattle.value_bags.specs.declared.bag.Bag.{Bag}
-use Rattle.value_bags.specs.declared.bag.Bag.TheVariants.{Short}
+use Rattle.value_bags.specs.declared.bag.BagForm.{BagForm}
+use Rattle.value_bags.specs.declared.bag.BagForm.TheVariants.{Short}
 use Rattle.value_bags.specs.Entries.{change, alter}
 use Rattle.value_bags.specs.Bags.{pushed, removed, cleared, retained, fitted, reserved, roomy}
 use Rattle.evmap_contents.specs.declared.write.Write.{Write}
@@ -21,7 +21,7 @@ without_place xs i = option_map_or (λ x. swap_remove xs i x) (slice_get xs i) x
 -- `same` says which keys are equal, `eq` which values are, and `keeps` which values a test keeps
 module _ {K V M P : Type 0} (same : K → K → Bool) (eq : V → V → Bool) (keeps : P → V → Bool) where
   -- the entries after one write
-  abbrev pub entries_after : List (K × Bag V) → Write K V M P → List (K × Bag V)
+  abbrev pub entries_after : List (K × BagForm V) → Write K V M P → List (K × BagForm V)
   entries_after es (Insert k v) = change (same k) k (λ bag. pushed eq bag v) (Short (v ∷ [])) es
   entries_after es (Update k v) = change (same k) k (λ _. Short (v ∷ [])) (Short (v ∷ [])) es
   entries_after es (Clear k) = change (same k) k cleared (Short []) es

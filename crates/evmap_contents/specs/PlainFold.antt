@@ -2,7 +2,7 @@
 use Rattle.std.specs.Prelude.{◌≡◌, Bool, List, [], ◌∷◌, ◌++◌, fold, filter, count_by}
 use Rattle.std.specs.List.{AllZip}
 use Rattle.indexmap.specs.IndexMap.{swap_remove_entry}
-use Rattle.value_bags.specs.declared.bag.Bag.{Bag}
+use Rattle.value_bags.specs.declared.bag.BagForm.{BagForm}
 use Rattle.value_bags.specs.Entries.{change, alter}
 use Rattle.value_bags.specs.Bags.{without_first, times}
 use Rattle.evmap_contents.specs.declared.write.Write.{Write}
@@ -31,5 +31,5 @@ module _ {K V M P : Type 0} (same : K → K → Bool) (eq : V → V → Bool) (k
   plain_after_all ws = fold plain_after [] ws
 
 -- the same keys in the same order, and each key's bag holds each value as often as its list does
-abbrev pub HoldAlike : {K V : Type 0} → (V → V → Bool) → List (K × Bag V) → List (K × List V) → Type 0
+abbrev pub HoldAlike : {K V : Type 0} → (V → V → Bool) → List (K × BagForm V) → List (K × List V) → Type 0
 HoldAlike {V = V} eq es ps = AllZip (λ e p. (e.0 ≡ p.0) × ((v : V) → times eq e.1 v ≡ count_by (eq v) p.1)) es ps

@@ -1,13 +1,13 @@
 -- Worked rows.
 use Rattle.std.specs.Prelude.{◌≡◌, ℕ, nat_eq, true, List, [], ◌∷◌, refl}
-use Rattle.value_bags.specs.declared.bag.Bag.{Bag}
-use Rattle.value_bags.specs.declared.bag.Bag.TheVariants.{Short, Long}
+use Rattle.value_bags.specs.declared.bag.BagForm.{BagForm}
+use Rattle.value_bags.specs.declared.bag.BagForm.TheVariants.{Short, Long}
 use Rattle.evmap_contents.specs.declared.write.Write.{Write}
 use Rattle.evmap_contents.specs.declared.write.Write.TheVariants.{Insert, Update, Clear, RemoveValue, RemoveEntry, FitAll, Reserve, RemovePlaces}
 use Rattle.evmap_contents.specs.Fold.{made_with, after_all}
 
 -- the entries after these writes
-abbrev left : List (Write ℕ ℕ ℕ ℕ) → List (ℕ × Bag ℕ)
+abbrev left : List (Write ℕ ℕ ℕ ℕ) → List (ℕ × BagForm ℕ)
 left ws = (after_all nat_eq nat_eq (λ _ _. true) (made_with 0) ws).entries
 
 -- the last key takes the place of one that goes

@@ -2,7 +2,7 @@
 ghost use Rattle.std.specs.Prelude.{◌≡◌, None, [], ◌∷◌, ◌++◌, fold, OnOk, OnErr};
 ghost use Rattle.std.specs.Arc.{arc_value};
 ghost use Rattle.indexmap.specs.IndexMap.{get, swap_remove_entry};
-ghost use Rattle.value_bags.specs.declared.bag.Bag.TheVariants.{Short};
+ghost use Rattle.value_bags.specs.declared.bag.BagForm.TheVariants.{Short};
 ghost use Rattle.value_bags.specs.Bags as bags;
 ghost use Rattle.value_bags.specs.Entries.{change, alter, with_keys};
 ghost use Rattle.evmap_contents.specs.Fold.{without_place};

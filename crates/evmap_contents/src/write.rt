@@ -1,6 +1,6 @@
 //! What a writer may write, and what the writes leave.
 use std::collections::LinkedList;
-use value_bags::Bag;
+use value_bags::BagForm;
 
 /// One write. A list of writes has plain keys and values, and a log of them shares the values.
 #[derive(Drop)]
@@ -37,7 +37,7 @@ pub enum Write<K, V, M, P> {
 /// What a list of writes leaves. No value of it is made: a clause reads a linked list as a list.
 pub struct Contents<K, V, M> {
     /// The keys in order, each with its bag.
-    pub entries: LinkedList<(K, Bag<V>)>,
+    pub entries: LinkedList<(K, BagForm<V>)>,
     pub meta: M,
     /// Whether the map was published.
     pub ready: bool,

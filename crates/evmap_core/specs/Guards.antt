@@ -2,7 +2,7 @@
 use Rattle.std.specs.Prelude.{◌≡◌, ◌<◌, ℕ, Bool, true, Option, is_some}
 use Rattle.std.specs.Borrow.{GName}
 use Rattle.indexmap.specs.IndexMap.{IndexMap}
-use Rattle.value_bags.specs.declared.bag.Bag.{Bag}
+use Rattle.value_bags.specs.declared.bag.BagForm.{BagForm}
 use Rattle.left_right.specs.Sides.{view}
 use Rattle.left_right.specs.declared.reader.Reading.{Reading}
 use Rattle.evmap_contents.specs.declared.write.Write.{Write}
@@ -31,7 +31,7 @@ abbrev pub HasFound : {D R X G : Type 0} → G → Option ℕ → Guard D R X G 
 HasFound reading place entry = (entry.reading ≡ reading) × (entry.at ≡ place) × (is_some place ≡ true)
 
 -- the map of the front of a guard, as it is stored
-abbrev pub map_shown_by : {K L V M P S H D R X Q Z A : Type 0} → Guard D R X (Reading (Store K V M P S L H) (KnownFronts L V M P) Q Z) A → IndexMap K (Bag V) S
+abbrev pub map_shown_by : {K L V M P S H D R X Q Z A : Type 0} → Guard D R X (Reading (Store K V M P S L H) (KnownFronts L V M P) Q Z) A → IndexMap K (BagForm V) S
 map_shown_by guard = guard.reading.part.value.inner.map
 
 module _ {K L V M P S H D R X Q Z A : Type 0} (plain : K → L) where

@@ -2,7 +2,7 @@
 ghost use Rattle.std.specs.Prelude.{◌≡◌, ◌<◌, ◌↔◌, Some, length, is_some, nat_eq, IsTrue};
 ghost use Rattle.std.specs.Map.Iter.{ShowsInOrder, deref, deref_pair};
 ghost use Rattle.indexmap.specs.IndexMap.{keys, values};
-ghost use Rattle.value_bags.specs.declared.bag.Bag.{Bag};
+ghost use Rattle.value_bags.specs.declared.bag.BagForm.{BagForm};
 ghost use Rattle.value_bags.specs.Entries.{with_keys};
 ghost use Rattle.std.specs.Option.{option_copied};
 ghost use Rattle.left_right.specs.Sides.{view};
@@ -170,7 +170,7 @@ impl<
     /// The keys with their bags, in order.
     pub fn iter(&self) -> Iter<'_, K, Values<V>>
         ensures rest { with_keys K.plain result ≡ (shown_by K.plain self.now).entries }
-        ensures runs { ShowsInOrder (deref_pair {K = K} {X = Bag V}) }
+        ensures runs { ShowsInOrder (deref_pair {K = K} {X = BagForm V}) }
     {
         self.reading.get().inner.map.iter()
     }
@@ -186,7 +186,7 @@ impl<
     /// The bags, in the order of their keys.
     pub fn values(&self) -> BagsInOrder<'_, K, Values<V>>
         ensures rest { result ≡ values (map_shown_by self.now) }
-        ensures runs { ShowsInOrder (deref {X = Bag V}) }
+        ensures runs { ShowsInOrder (deref {X = BagForm V}) }
     {
         self.reading.get().inner.map.values()
     }

@@ -11,8 +11,8 @@ use Rattle.std.proofs.lemmas.List.Sorted.{IsPermutation-map, All-permutation, su
 use Rattle.std.proofs.lemmas.Map.Keys.{IsDistinct-tail, IsDistinct-IsPermutation}
 use Rattle.std.proofs.lemmas.Map.Made.{IsDistinct-keys_filter}
 use Rattle.indexmap.specs.IndexMap.{swap_remove_entry}
-use Rattle.value_bags.specs.declared.bag.Bag.{Bag}
-use Rattle.value_bags.specs.declared.bag.Bag.TheVariants.{Short, Long}
+use Rattle.value_bags.specs.declared.bag.BagForm.{BagForm}
+use Rattle.value_bags.specs.declared.bag.BagForm.TheVariants.{Short, Long}
 use Rattle.value_bags.specs.Entries.{alter}
 use Rattle.value_bags.specs.Bags.{total, repeated, values_of, cleared, retained, fitted, roomy, without_first, count_up, count_down, counted, counted_times, pushed, removed, reserved, times, IsProper, IsProperBag, long_length}
 use Rattle.value_bags.proofs.Removed.{goes}
@@ -192,7 +192,7 @@ module _ {V : Type 0} (eq : V → V → Bool) (laws : IsEquivalence eq) where
       ∙ (λ j. (sum_by-replicate (λ (y : V). cond (eq w y) 1 0) c.1 c.0 ∙ chosen (eq w c.0) c.1) j + count-repeated counts w j)
       ∙ sym (times-cons eq c counts w)
 
-  pub count-values : (bag : Bag V) (w : V) → count_by (eq w) (values_of bag) ≡ times eq bag w
+  pub count-values : (bag : BagForm V) (w : V) → count_by (eq w) (values_of bag) ≡ times eq bag w
   count-values (Short vs) w = refl
   count-values (Long counts) w = count-repeated counts w
 
@@ -237,11 +237,11 @@ module _ {V : Type 0} (eq : V → V → Bool) (laws : IsEquivalence eq) where
         step true = count-cons x (filter keeps vs) w
         step false = refl
 
-    pub times-retained : (bag : Bag V) (w : V) → times eq (retained keeps bag) w ≡ cond (keeps w) (times eq bag w) 0
+    pub times-retained : (bag : BagForm V) (w : V) → times eq (retained keeps bag) w ≡ cond (keeps w) (times eq bag w) 0
     times-retained (Short vs) w = count-filter vs w
     times-retained (Long counts) w = times-filter counts w
 
-  pub times-pushed : (bag : Bag V) (v w : V) → times eq (pushed eq bag v) w ≡ times eq bag w + cond (eq w v) 1 0
+  pub times-pushed : (bag : BagForm V) (v w : V) → times eq (pushed eq bag v) w ≡ times eq bag w + cond (eq w v) 1 0
   times-pushed (Short vs) v w = by (nat_lt (length vs + 1) long_length)
     where
       by : (b : Bool) → times eq (cond b (Short (vs ++ v ∷ [])) (Long (count_up eq (counted eq vs) v))) w ≡ count_by (eq w) vs + cond (eq w v) 1 0
@@ -249,11 +249,11 @@ module _ {V : Type 0} (eq : V → V → Bool) (laws : IsEquivalence eq) where
       by false = times-count_up eq laws (counted eq vs) v w ∙ ap (λ n. n + cond (eq w v) 1 0) (times-counted eq laws vs w)
   times-pushed (Long counts) v w = times-count_up eq laws counts v w
 
-  pub times-removed : (bag : Bag V) (v w : V) → IsProperBag eq bag → times eq (removed eq bag v) w ≡ times eq bag w - cond (eq w v) 1 0
+  pub times-removed : (bag : BagForm V) (v w : V) → IsProperBag eq bag → times eq (removed eq bag v) w ≡ times eq bag w - cond (eq w v) 1 0
   times-removed (Short vs) v w h = times-without_first vs v w
   times-removed (Long counts) v w h = times-count_down counts v w h
 
-  pub times-cleared : (bag : Bag V) (w : V) → times eq (cleared bag) w ≡ 0
+  pub times-cleared : (bag : BagForm V) (w : V) → times eq (cleared bag) w ≡ 0
   times-cleared (Short vs) w = refl
   times-cleared (Long counts) w = refl
 
@@ -261,7 +261,7 @@ module _ {V : Type 0} (eq : V → V → Bool) (laws : IsEquivalence eq) where
   both true b h = h
   both false b h = absurd (true≢false (sym h))
 
-  pub times-fitted : (bag : Bag V) (w : V) → IsProperBag eq bag → times eq (fitted bag) w ≡ times eq bag w
+  pub times-fitted : (bag : BagForm V) (w : V) → IsProperBag eq bag → times eq (fitted bag) w ≡ times eq bag w
   times-fitted (Short vs) w h = refl
   times-fitted (Long counts) w h = by (nat_lt (total counts) long_length && nat_eq (length counts) (total counts)) refl
     where
@@ -269,7 +269,7 @@ module _ {V : Type 0} (eq : V → V → Bool) (laws : IsEquivalence eq) where
       by true t = times-once counts w h.0 (eqb-true (length counts) (total counts) (both (nat_lt (total counts) long_length) (nat_eq (length counts) (total counts)) t))
       by false t = refl
 
-  pub times-reserved : (n : ℕ) (bag : Bag V) (w : V) → times eq (reserved eq n bag) w ≡ times eq bag w
+  pub times-reserved : (n : ℕ) (bag : BagForm V) (w : V) → times eq (reserved eq n bag) w ≡ times eq bag w
   times-reserved n (Short vs) w = by (nat_lt (length vs + n) long_length)
     where
       by : (b : Bool) → times eq (cond b (Short vs) (Long (counted eq vs))) w ≡ count_by (eq w) vs
@@ -278,7 +278,7 @@ module _ {V : Type 0} (eq : V → V → Bool) (laws : IsEquivalence eq) where
   times-reserved n (Long counts) w = refl
 
   -- what keeps a bag as it should be
-  pub proper-pushed : (bag : Bag V) (v : V) → IsProperBag eq bag → IsProperBag eq (pushed eq bag v)
+  pub proper-pushed : (bag : BagForm V) (v : V) → IsProperBag eq bag → IsProperBag eq (pushed eq bag v)
   proper-pushed (Short vs) v h = by (nat_lt (length vs + 1) long_length)
     where
       by : (b : Bool) → IsProperBag eq (cond b (Short (vs ++ v ∷ [])) (Long (count_up eq (counted eq vs) v)))
@@ -286,19 +286,19 @@ module _ {V : Type 0} (eq : V → V → Bool) (laws : IsEquivalence eq) where
       by false = proper-count_up eq laws (counted eq vs) v (proper-counted eq laws vs)
   proper-pushed (Long counts) v h = proper-count_up eq laws counts v h
 
-  pub proper-removed : (bag : Bag V) (v : V) → IsProperBag eq bag → IsProperBag eq (removed eq bag v)
+  pub proper-removed : (bag : BagForm V) (v : V) → IsProperBag eq bag → IsProperBag eq (removed eq bag v)
   proper-removed (Short vs) v h = tt
   proper-removed (Long counts) v h = proper-count_down counts v h
 
-  pub proper-cleared : (bag : Bag V) → IsProperBag eq (cleared bag)
+  pub proper-cleared : (bag : BagForm V) → IsProperBag eq (cleared bag)
   proper-cleared (Short vs) = tt
   proper-cleared (Long counts) = proper-nil eq laws
 
-  pub proper-retained : (keeps : V → Bool) (bag : Bag V) → IsProperBag eq bag → IsProperBag eq (retained keeps bag)
+  pub proper-retained : (keeps : V → Bool) (bag : BagForm V) → IsProperBag eq bag → IsProperBag eq (retained keeps bag)
   proper-retained keeps (Short vs) h = tt
   proper-retained keeps (Long counts) h = (All-filter (λ c. keeps c.0) (λ c. 0 < c.1) counts h.0, IsDistinct-keys_filter eq (λ c. keeps c.0) counts h.1)
 
-  pub proper-fitted : (bag : Bag V) → IsProperBag eq bag → IsProperBag eq (fitted bag)
+  pub proper-fitted : (bag : BagForm V) → IsProperBag eq bag → IsProperBag eq (fitted bag)
   proper-fitted (Short vs) h = tt
   proper-fitted (Long counts) h = by (nat_lt (total counts) long_length && nat_eq (length counts) (total counts))
     where
@@ -306,7 +306,7 @@ module _ {V : Type 0} (eq : V → V → Bool) (laws : IsEquivalence eq) where
       by true = tt
       by false = h
 
-  pub proper-reserved : (n : ℕ) (bag : Bag V) → IsProperBag eq bag → IsProperBag eq (reserved eq n bag)
+  pub proper-reserved : (n : ℕ) (bag : BagForm V) → IsProperBag eq bag → IsProperBag eq (reserved eq n bag)
   proper-reserved n (Short vs) h = by (nat_lt (length vs + n) long_length)
     where
       by : (b : Bool) → IsProperBag eq (cond b (Short vs) (Long (counted eq vs)))

@@ -5,8 +5,8 @@ use Rattle.std.specs.List.{All}
 use Rattle.std.proofs.lemmas.List.Elements.{All-head, All-tail}
 use Rattle.value_bags.specs.Entries.{with_keys}
 use Rattle.std.proofs.lemmas.List.{length-append, length-replicate}
-use Rattle.value_bags.specs.declared.bag.Bag.{Bag}
-use Rattle.value_bags.specs.declared.bag.Bag.TheVariants.{Short, Long}
+use Rattle.value_bags.specs.declared.bag.BagForm.{BagForm}
+use Rattle.value_bags.specs.declared.bag.BagForm.TheVariants.{Short, Long}
 use Rattle.value_bags.proofs.Counted.{total-cons}
 use Rattle.value_bags.specs.Bags.{total, bag_len, values_of, repeated}
 use Rattle.value_bags.specs.Listing.{again_of}
@@ -42,6 +42,6 @@ length-repeated (c ∷ counts) =
     let own = length-replicate c.1 c.0 in
     omega arith
 
-pub length-values : {V : Type 0} (bag : Bag V) → bag_len bag ≡ length (values_of bag)
+pub length-values : {V : Type 0} (bag : BagForm V) → bag_len bag ≡ length (values_of bag)
 length-values (Short vs) = refl
 length-values (Long counts) = length-repeated counts

@@ -4,8 +4,8 @@ use Rattle.std.specs.Option.{option_map_or}
 use Rattle.std.specs.Map.{lookup, keys_of}
 use Rattle.std.specs.List.{IsDistinct}
 use Rattle.indexmap.specs.IndexMap.{swap_remove_entry}
-use Rattle.value_bags.specs.declared.bag.Bag.{Bag}
-use Rattle.value_bags.specs.declared.bag.Bag.TheVariants.{Short, Long}
+use Rattle.value_bags.specs.declared.bag.BagForm.{BagForm}
+use Rattle.value_bags.specs.declared.bag.BagForm.TheVariants.{Short, Long}
 use Rattle.value_bags.specs.Entries.{change, alter}
 
 -- a bag of this many values is long
@@ -18,11 +18,11 @@ module _ {V : Type 0} where
   total counts = sum_by (λ c. c.1) counts
 
   -- how many values there are
-  abbrev pub bag_len : Bag V → ℕ
+  abbrev pub bag_len : BagForm V → ℕ
   bag_len (Short vs) = length vs
   bag_len (Long counts) = total counts
 
-  abbrev pub is_short : Bag V → Bool
+  abbrev pub is_short : BagForm V → Bool
   is_short (Short vs) = true
   is_short (Long counts) = false
 
@@ -32,27 +32,27 @@ module _ {V : Type 0} where
   repeated (c ∷ counts) = replicate c.1 c.0 ++ repeated counts
 
   -- all values of a bag
-  abbrev pub values_of : Bag V → List V
+  abbrev pub values_of : BagForm V → List V
   values_of (Short vs) = vs
   values_of (Long counts) = repeated counts
 
   -- a bag without values keeps its form
-  abbrev pub cleared : Bag V → Bag V
+  abbrev pub cleared : BagForm V → BagForm V
   cleared (Short vs) = Short []
   cleared (Long counts) = Long []
 
   -- the values that pass the test
-  abbrev pub retained : (V → Bool) → Bag V → Bag V
+  abbrev pub retained : (V → Bool) → BagForm V → BagForm V
   retained keeps (Short vs) = Short (filter keeps vs)
   retained keeps (Long counts) = Long (filter (λ c. keeps c.0) counts)
 
   -- a long bag with fewer than 32 values and no doubles becomes short
-  abbrev pub fitted : Bag V → Bag V
+  abbrev pub fitted : BagForm V → BagForm V
   fitted (Short vs) = Short vs
   fitted (Long counts) = if nat_lt (total counts) long_length && nat_eq (length counts) (total counts) then Short (keys_of counts) else Long counts
 
   -- the bag that `reserve` makes for a key that is not there
-  abbrev pub roomy : ℕ → Bag V
+  abbrev pub roomy : ℕ → BagForm V
   roomy additional = if nat_lt long_length additional then Long [] else Short []
 
   -- the list without the first that passes the test
@@ -74,22 +74,22 @@ module _ {V : Type 0} (eq : V → V → Bool) where
   counted vs = fold count_up [] vs
 
   -- the counts of a short bag that so many more values make long
-  abbrev pub lengthened : ℕ → Bag V → Option (List (V × ℕ))
+  abbrev pub lengthened : ℕ → BagForm V → Option (List (V × ℕ))
   lengthened additional (Short vs) = if nat_lt (length vs + additional) long_length then None else Some (counted vs)
   lengthened additional (Long counts) = None
 
   -- a bag becomes long when a push brings its length to 32
-  abbrev pub pushed : Bag V → V → Bag V
+  abbrev pub pushed : BagForm V → V → BagForm V
   pushed (Short vs) v = if nat_lt (length vs + 1) long_length then Short (vs ++ v ∷ []) else Long (count_up (counted vs) v)
   pushed (Long counts) v = Long (count_up counts v)
 
   -- one occurrence is taken out where there is one: of a short bag the first
-  abbrev pub removed : Bag V → V → Bag V
+  abbrev pub removed : BagForm V → V → BagForm V
   removed (Short vs) v = Short (without_first (eq v) vs)
   removed (Long counts) v = Long (count_down counts v)
 
   -- a bag becomes long when a `reserve` brings its length and the reserved number to 32
-  abbrev pub reserved : ℕ → Bag V → Bag V
+  abbrev pub reserved : ℕ → BagForm V → BagForm V
   reserved additional (Short vs) = if nat_lt (length vs + additional) long_length then Short vs else Long (counted vs)
   reserved additional (Long counts) = Long counts
 
@@ -97,7 +97,7 @@ module _ {V : Type 0} (eq : V → V → Bool) where
   abbrev pub IsProper : List (V × ℕ) → Type 0
   IsProper counts = All (λ c. 0 < c.1) counts × IsDistinct eq (keys_of counts)
 
-  abbrev pub IsProperBag : Bag V → Type 0
+  abbrev pub IsProperBag : BagForm V → Type 0
   IsProperBag (Short vs) = Unit {0}
   IsProperBag (Long counts) = IsProper counts
 
@@ -106,6 +106,6 @@ module _ {V : Type 0} (eq : V → V → Bool) where
   counted_times counts v = sum_by (λ c. if eq v c.0 then c.1 else 0) counts
 
   -- how often a value is in a bag
-  abbrev pub times : Bag V → V → ℕ
+  abbrev pub times : BagForm V → V → ℕ
   times (Short vs) v = count_by (eq v) vs
   times (Long counts) v = counted_times counts v

@@ -1,12 +1,12 @@
 -- Worked rows.
 use Rattle.std.specs.Prelude.{◌≡◌, ℕ, nat_eq, true, false, [], ◌∷◌, fold, refl}
 use Rattle.std.specs.List.{range_with_len}
-use Rattle.value_bags.specs.declared.bag.Bag.{Bag}
-use Rattle.value_bags.specs.declared.bag.Bag.TheVariants.{Short, Long}
+use Rattle.value_bags.specs.declared.bag.BagForm.{BagForm}
+use Rattle.value_bags.specs.declared.bag.BagForm.TheVariants.{Short, Long}
 use Rattle.value_bags.specs.Bags.{is_short, bag_len, fitted, roomy, pushed, removed, reserved}
 
 -- a bag of so many different values
-abbrev different : ℕ → Bag ℕ
+abbrev different : ℕ → BagForm ℕ
 different n = fold (pushed nat_eq) (Short []) (range_with_len 0 n)
 
 few : is_short (different 31) ≡ true

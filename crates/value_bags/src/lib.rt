@@ -14,7 +14,7 @@ mod laws;
 mod listing;
 mod values;
 
-pub use bag::Bag;
+pub use bag::BagForm;
 pub use keep::{Keep, KeepAll};
 pub use laws::counts_of_values;
 pub use listing::ValuesIter;

@@ -2,7 +2,7 @@
 ghost use Rattle.std.specs.Prelude.{◌≡◌, ◌+◌, ◌^◌, ◌<◌, ◌≤◌, ◌↔◌, [], ◌∷◌, IsNone, IsErr, IsTrue, IfOk, IfSome, OnOk, OnErr, Contains};
 ghost use Rattle.std.specs.Option.{unwrap_or};
 ghost use Rattle.std.specs.Arc.{arc_value};
-ghost use Rattle.value_bags.specs.declared.bag.Bag.TheVariants.{Short};
+ghost use Rattle.value_bags.specs.declared.bag.BagForm.TheVariants.{Short};
 ghost use Rattle.value_bags.specs.Bags as bags;
 
 use crate::Keep;
@@ -40,10 +40,10 @@ impl<V: Eq + Hash + Drop> Drop for Values<V> {
 }
 
 impl<V: Eq + Hash> Model for Values<V> {
-    ghost use Rattle.value_bags.specs.declared.bag.Bag.{Bag};
+    ghost use Rattle.value_bags.specs.declared.bag.BagForm.{BagForm};
     ghost use Rattle.value_bags.specs.Stored.{bag_of};
 
-    ghost Value = { Bag V };
+    ghost Value = { BagForm V };
 
     ghost view = { λ it. bag_of it.form };
 }

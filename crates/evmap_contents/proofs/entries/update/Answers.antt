@@ -1,7 +1,7 @@
 use Rattle.std.proofs.Common.{[], ◌∷◌, sym, ap, ◌∙◌}
 use Rattle.std.specs.Arc.{arc_value}
 use Rattle.std.specs.Option.{option_copied_mut}
-use Rattle.value_bags.specs.declared.bag.Bag.TheVariants.{Short}
+use Rattle.value_bags.specs.declared.bag.BagForm.TheVariants.{Short}
 use Rattle.value_bags.proofs.Changes.{written, added}
 use Rattle.evmap_contents.proofs.entries.update.Goals as goal
 

@@ -1,7 +1,7 @@
 use Rattle.std.proofs.Common.{rules, sym, ap, ◌∙◌, map}
 use Rattle.std.specs.Arc.{arc_value}
 use Rattle.std.proofs.lemmas.Fn.{filter_same}
-use Rattle.value_bags.specs.declared.bag.Bag.TheVariants.{Short, Long}
+use Rattle.value_bags.specs.declared.bag.BagForm.TheVariants.{Short, Long}
 use Rattle.value_bags.specs.Stored.{bag_of}
 use Rattle.value_bags.specs.Bags.{retained}
 use Rattle.value_bags.proofs.Listed.{filter-seen}
