@@ -2,6 +2,7 @@
 
 ghost use Rattle.std.specs.Prelude.{◌≡◌, find, IfOk, IfErr, Ok};
 ghost use Rattle.std.specs.Str.{trim};
+ghost use Rattle.metrics_core.specs.declared.levels.LevelFault.TheVariants as faults;
 ghost use Rattle.metrics_core.specs.Levels.{has_word};
 
 use crate::Memory;
@@ -40,7 +41,7 @@ pub enum LevelFault {
 fn level_among(levels: &[Level], word: &str) -> Option<Level>
     ensures { result ≡ find (has_word word.now) levels.now }
 {
-    levels.iter().copied().find(|level| level.lower_word() == word || level.upper_word() == word)
+    levels.iter().copied().find(|level| level.has_word(word))
 }
 
 impl Level {
@@ -62,28 +63,26 @@ impl Level {
     /// The level for what went wrong.
     pub const ERROR: Level = Level::Error;
 
-    fn lower_word(self) -> &'static str
-        ensures { result.now ≡ lower_word self }
+    /// The word of the level in lower case, and in upper case.
+    fn words(self) -> (&'static str, &'static str)
+        ensures lower { result.0.now ≡ lower_word self }
+        ensures upper { result.1.now ≡ upper_word self }
     {
         match self {
-            Level::Trace => "trace",
-            Level::Debug => "debug",
-            Level::Info => "info",
-            Level::Warn => "warn",
-            Level::Error => "error",
+            Level::Trace => ("trace", "TRACE"),
+            Level::Debug => ("debug", "DEBUG"),
+            Level::Info => ("info", "INFO"),
+            Level::Warn => ("warn", "WARN"),
+            Level::Error => ("error", "ERROR"),
         }
     }
 
-    fn upper_word(self) -> &'static str
-        ensures { result.now ≡ upper_word self }
+    /// Whether a text is a word of the level.
+    fn has_word(self, word: &str) -> bool
+        ensures { result ≡ has_word word.now self }
     {
-        match self {
-            Level::Trace => "TRACE",
-            Level::Debug => "DEBUG",
-            Level::Info => "INFO",
-            Level::Warn => "WARN",
-            Level::Error => "ERROR",
-        }
+        let (lower, upper) = self.words();
+        lower == word || upper == word
     }
 
     /// The level that a text names in lower case or in upper case. White space around the word is left out.
@@ -101,9 +100,6 @@ impl Level {
 }
 
 impl From<AllocError> for LevelFault {
-    ghost use Rattle.std.specs.Prelude.{◌≡◌};
-    ghost use Rattle.metrics_core.specs.declared.levels.LevelFault.TheVariants as faults;
-
     ghost from_gives = { λ _ fault. fault ≡ faults.Memory };
 
     fn from(_refused: AllocError) -> LevelFault {
@@ -112,9 +108,6 @@ impl From<AllocError> for LevelFault {
 }
 
 impl From<Memory> for LevelFault {
-    ghost use Rattle.std.specs.Prelude.{◌≡◌};
-    ghost use Rattle.metrics_core.specs.declared.levels.LevelFault.TheVariants as faults;
-
     ghost from_gives = { λ _ fault. fault ≡ faults.Memory };
 
     fn from(_refused: Memory) -> LevelFault {
