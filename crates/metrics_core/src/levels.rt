@@ -46,7 +46,7 @@ fn level_among(levels: &[Level], word: &str) -> Option<Level>
 
 impl Level {
     ghost use Rattle.metrics_core.specs.declared.levels.Level.{Level as LevelOf};
-    ghost use Rattle.metrics_core.specs.Levels.{lower_word, upper_word, IsWordOf, NamesWord};
+    ghost use Rattle.metrics_core.specs.Levels.{IsWordOf, NamesWord};
 
     /// The level of the most detail.
     pub const TRACE: Level = Level::Trace;
@@ -63,25 +63,17 @@ impl Level {
     /// The level for what went wrong.
     pub const ERROR: Level = Level::Error;
 
-    /// The word of the level in lower case, and in upper case.
-    fn words(self) -> (&'static str, &'static str)
-        ensures lower { result.0.now ≡ lower_word self }
-        ensures upper { result.1.now ≡ upper_word self }
+    /// Whether a text is the word of the level in lower case or in upper case.
+    fn has_word(self, word: &str) -> bool
+        ensures { result ≡ has_word word.now self }
     {
-        match self {
+        let (lower, upper) = match self {
             Level::Trace => ("trace", "TRACE"),
             Level::Debug => ("debug", "DEBUG"),
             Level::Info => ("info", "INFO"),
             Level::Warn => ("warn", "WARN"),
             Level::Error => ("error", "ERROR"),
-        }
-    }
-
-    /// Whether a text is a word of the level.
-    fn has_word(self, word: &str) -> bool
-        ensures { result ≡ has_word word.now self }
-    {
-        let (lower, upper) = self.words();
+        };
         lower == word || upper == word
     }
 
