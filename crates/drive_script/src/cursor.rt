@@ -239,12 +239,10 @@ impl<'a> Cursor<'a> {
             (λ kind. registered_kind_at self.old.rest.now ≡ Some (kind, self.new.rest.now)) }
     {
         if self.literal(b"register counter ").is_some() {
-            Some(MetricKind::Counter)
-        } else if self.literal(b"register gauge ").is_some() {
-            Some(MetricKind::Gauge)
-        } else {
-            None
+            return Some(MetricKind::Counter);
         }
+        self.literal(b"register gauge ")?;
+        Some(MetricKind::Gauge)
     }
 
     /// Takes the argument of a call line.

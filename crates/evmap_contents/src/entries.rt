@@ -85,24 +85,6 @@ pub(crate) fn clear<K: KeyClone + Drop, V: Eq + Hash + Drop, S: BuildHasher>(
     Ok(())
 }
 
-/// Makes room in the bag of a key, and makes the bag where there is none.
-pub(crate) fn reserve<K: KeyClone + Drop, V: Eq + Hash + Drop, S: BuildHasher>(
-    map: &mut IndexMap<K, Values<V>, S>,
-    key: &K,
-    additional: usize,
-) -> Result<(), AllocError>
-    ensures reserved { OnOk result (with_keys K.plain map.new.entries ≡ change (K.same (K.plain key.now)) (K.plain key.now) (bags.reserved V.eq additional) (bags.roomy additional) (with_keys K.plain map.old.entries)) }
-    ensures refused { OnErr result (map.new.entries ≡ map.old.entries) }
-{
-    if let Some(bag) = map.get_mut(key) {
-        bag.reserve(additional)?;
-        return Ok(());
-    }
-    let bag = Values::with_room(*map.allocator(), additional)?;
-    add_key(map, key, bag)?;
-    Ok(())
-}
-
 /// Takes one occurrence of a value out of the bag of a key.
 pub(crate) fn remove_value<K: KeyClone + Drop, V: Eq + Hash + Drop, S: BuildHasher>(
     map: &mut IndexMap<K, Values<V>, S>,
@@ -129,20 +111,6 @@ pub(crate) fn retain<K: KeyClone + Drop, V: Eq + Hash + Drop, S: BuildHasher, P:
     }
 }
 
-/// Gives back memory that the bag of a key doesn't need.
-pub(crate) fn fit<K: KeyClone + Drop, V: Eq + Hash + Drop, S: BuildHasher>(
-    map: &mut IndexMap<K, Values<V>, S>,
-    key: &K,
-) -> Result<(), AllocError>
-    ensures fitted { OnOk result (with_keys K.plain map.new.entries ≡ alter (K.same (K.plain key.now)) bags.fitted (with_keys K.plain map.old.entries)) }
-    ensures refused { OnErr result (map.new.entries ≡ map.old.entries) }
-{
-    if let Some(bag) = map.get_mut(key) {
-        bag.fit()?;
-    }
-    Ok(())
-}
-
 /// Removes a key. The last takes its place.
 pub(crate) fn remove_entry<K: KeyClone + Drop, V: Eq + Hash + Drop, S: BuildHasher>(
     map: &mut IndexMap<K, Values<V>, S>,
@@ -163,4 +131,36 @@ pub(crate) fn remove_places<K: KeyClone + Drop, V: Eq + Hash + Drop, S: BuildHas
     for place in places {
         map.swap_remove_index(*place);
     }
+}
+
+/// Gives back memory that the bag of a key doesn't need.
+pub(crate) fn fit<K: KeyClone + Drop, V: Eq + Hash + Drop, S: BuildHasher>(
+    map: &mut IndexMap<K, Values<V>, S>,
+    key: &K,
+) -> Result<(), AllocError>
+    ensures fitted { OnOk result (with_keys K.plain map.new.entries ≡ alter (K.same (K.plain key.now)) bags.fitted (with_keys K.plain map.old.entries)) }
+    ensures refused { OnErr result (map.new.entries ≡ map.old.entries) }
+{
+    if let Some(bag) = map.get_mut(key) {
+        bag.fit()?;
+    }
+    Ok(())
+}
+
+/// Makes room in the bag of a key, and makes the bag where there is none.
+pub(crate) fn reserve<K: KeyClone + Drop, V: Eq + Hash + Drop, S: BuildHasher>(
+    map: &mut IndexMap<K, Values<V>, S>,
+    key: &K,
+    additional: usize,
+) -> Result<(), AllocError>
+    ensures reserved { OnOk result (with_keys K.plain map.new.entries ≡ change (K.same (K.plain key.now)) (K.plain key.now) (bags.reserved V.eq additional) (bags.roomy additional) (with_keys K.plain map.old.entries)) }
+    ensures refused { OnErr result (map.new.entries ≡ map.old.entries) }
+{
+    if let Some(bag) = map.get_mut(key) {
+        bag.reserve(additional)?;
+        return Ok(());
+    }
+    let bag = Values::with_room(*map.allocator(), additional)?;
+    add_key(map, key, bag)?;
+    Ok(())
 }

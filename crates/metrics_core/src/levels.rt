@@ -2,6 +2,7 @@
 
 ghost use Rattle.std.specs.Prelude.{◌≡◌, find, IfOk, IfErr, Ok};
 ghost use Rattle.std.specs.Str.{trim};
+ghost use Rattle.metrics_core.specs.declared.levels.LevelFault.TheVariants as faults;
 ghost use Rattle.metrics_core.specs.Levels.{has_word};
 
 use crate::Memory;
@@ -40,12 +41,12 @@ pub enum LevelFault {
 fn level_among(levels: &[Level], word: &str) -> Option<Level>
     ensures { result ≡ find (has_word word.now) levels.now }
 {
-    levels.iter().copied().find(|level| level.lower_word() == word || level.upper_word() == word)
+    levels.iter().copied().find(|level| level.has_word(word))
 }
 
 impl Level {
     ghost use Rattle.metrics_core.specs.declared.levels.Level.{Level as LevelOf};
-    ghost use Rattle.metrics_core.specs.Levels.{lower_word, upper_word, IsWordOf, NamesWord};
+    ghost use Rattle.metrics_core.specs.Levels.{IsWordOf, NamesWord};
 
     /// The level of the most detail.
     pub const TRACE: Level = Level::Trace;
@@ -62,28 +63,18 @@ impl Level {
     /// The level for what went wrong.
     pub const ERROR: Level = Level::Error;
 
-    fn lower_word(self) -> &'static str
-        ensures { result.now ≡ lower_word self }
+    /// Whether a text is the word of the level in lower case or in upper case.
+    fn has_word(self, word: &str) -> bool
+        ensures { result ≡ has_word word.now self }
     {
-        match self {
-            Level::Trace => "trace",
-            Level::Debug => "debug",
-            Level::Info => "info",
-            Level::Warn => "warn",
-            Level::Error => "error",
-        }
-    }
-
-    fn upper_word(self) -> &'static str
-        ensures { result.now ≡ upper_word self }
-    {
-        match self {
-            Level::Trace => "TRACE",
-            Level::Debug => "DEBUG",
-            Level::Info => "INFO",
-            Level::Warn => "WARN",
-            Level::Error => "ERROR",
-        }
+        let (lower, upper) = match self {
+            Level::Trace => ("trace", "TRACE"),
+            Level::Debug => ("debug", "DEBUG"),
+            Level::Info => ("info", "INFO"),
+            Level::Warn => ("warn", "WARN"),
+            Level::Error => ("error", "ERROR"),
+        };
+        lower == word || upper == word
     }
 
     /// The level that a text names in lower case or in upper case. White space around the word is left out.
@@ -101,9 +92,6 @@ impl Level {
 }
 
 impl From<AllocError> for LevelFault {
-    ghost use Rattle.std.specs.Prelude.{◌≡◌};
-    ghost use Rattle.metrics_core.specs.declared.levels.LevelFault.TheVariants as faults;
-
     ghost from_gives = { λ _ fault. fault ≡ faults.Memory };
 
     fn from(_refused: AllocError) -> LevelFault {
@@ -112,9 +100,6 @@ impl From<AllocError> for LevelFault {
 }
 
 impl From<Memory> for LevelFault {
-    ghost use Rattle.std.specs.Prelude.{◌≡◌};
-    ghost use Rattle.metrics_core.specs.declared.levels.LevelFault.TheVariants as faults;
-
     ghost from_gives = { λ _ fault. fault ≡ faults.Memory };
 
     fn from(_refused: Memory) -> LevelFault {

@@ -62,54 +62,44 @@ fn unit_among(units: &[Unit], text: &str) -> Option<Unit>
 }
 
 impl Unit {
+    /// The name of the unit, and its short label.
+    fn texts(self) -> (&'static str, &'static str)
+        ensures name { result.0.now ≡ unit_text self }
+        ensures label { result.1.now ≡ unit_label self }
+    {
+        match self {
+            Unit::Count => ("count", ""),
+            Unit::Percent => ("percent", "%"),
+            Unit::Seconds => ("seconds", "s"),
+            Unit::Milliseconds => ("milliseconds", "ms"),
+            Unit::Microseconds => ("microseconds", "μs"),
+            Unit::Nanoseconds => ("nanoseconds", "ns"),
+            Unit::Tebibytes => ("tebibytes", "TiB"),
+            Unit::Gibibytes => ("gibibytes", "GiB"),
+            Unit::Mebibytes => ("mebibytes", "MiB"),
+            Unit::Kibibytes => ("kibibytes", "KiB"),
+            Unit::Bytes => ("bytes", "B"),
+            Unit::TerabitsPerSecond => ("terabits_per_second", "Tbps"),
+            Unit::GigabitsPerSecond => ("gigabits_per_second", "Gbps"),
+            Unit::MegabitsPerSecond => ("megabits_per_second", "Mbps"),
+            Unit::KilobitsPerSecond => ("kilobits_per_second", "kbps"),
+            Unit::BitsPerSecond => ("bits_per_second", "bps"),
+            Unit::CountPerSecond => ("count_per_second", "/s"),
+        }
+    }
+
     /// The name of the unit, as `seconds`.
     pub fn as_str(&self) -> &'static str
         ensures text { result.now ≡ unit_text self.now }
     {
-        match self {
-            Unit::Count => "count",
-            Unit::Percent => "percent",
-            Unit::Seconds => "seconds",
-            Unit::Milliseconds => "milliseconds",
-            Unit::Microseconds => "microseconds",
-            Unit::Nanoseconds => "nanoseconds",
-            Unit::Tebibytes => "tebibytes",
-            Unit::Gibibytes => "gibibytes",
-            Unit::Mebibytes => "mebibytes",
-            Unit::Kibibytes => "kibibytes",
-            Unit::Bytes => "bytes",
-            Unit::TerabitsPerSecond => "terabits_per_second",
-            Unit::GigabitsPerSecond => "gigabits_per_second",
-            Unit::MegabitsPerSecond => "megabits_per_second",
-            Unit::KilobitsPerSecond => "kilobits_per_second",
-            Unit::BitsPerSecond => "bits_per_second",
-            Unit::CountPerSecond => "count_per_second",
-        }
+        self.texts().0
     }
 
     /// The short label of the unit, as `s` for seconds. It is empty where the unit has none.
     pub fn as_canonical_label(&self) -> &'static str
         ensures text { result.now ≡ unit_label self.now }
     {
-        match self {
-            Unit::Count => "",
-            Unit::Percent => "%",
-            Unit::Seconds => "s",
-            Unit::Milliseconds => "ms",
-            Unit::Microseconds => "μs",
-            Unit::Nanoseconds => "ns",
-            Unit::Tebibytes => "TiB",
-            Unit::Gibibytes => "GiB",
-            Unit::Mebibytes => "MiB",
-            Unit::Kibibytes => "KiB",
-            Unit::Bytes => "B",
-            Unit::TerabitsPerSecond => "Tbps",
-            Unit::GigabitsPerSecond => "Gbps",
-            Unit::MegabitsPerSecond => "Mbps",
-            Unit::KilobitsPerSecond => "kbps",
-            Unit::BitsPerSecond => "bps",
-            Unit::CountPerSecond => "/s",
-        }
+        self.texts().1
     }
 
     /// The unit of a name, as [`Unit::as_str`] gives it. No other text has a unit.

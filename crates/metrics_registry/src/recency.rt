@@ -38,22 +38,19 @@ impl MetricKindMask {
     /// Counters alone.
     pub const COUNTER: MetricKindMask = MetricKindMask {
         counters: true,
-        gauges: false,
-        histograms: false,
+        ..MetricKindMask::NONE
     };
 
     /// Gauges alone.
     pub const GAUGE: MetricKindMask = MetricKindMask {
-        counters: false,
         gauges: true,
-        histograms: false,
+        ..MetricKindMask::NONE
     };
 
     /// Histograms alone.
     pub const HISTOGRAM: MetricKindMask = MetricKindMask {
-        counters: false,
-        gauges: false,
         histograms: true,
+        ..MetricKindMask::NONE
     };
 
     /// Every kind.

@@ -56,9 +56,9 @@ impl Buckets {
             OnErr result (IsTrue (opens_beside config.now old.depth old.positive old.negative value.0)) }
     {
         let threshold = config.zero_threshold().0;
+        let most = config.max_buckets();
         if value.0 > threshold {
             let index = index_of(self.depth, value.0.unsigned_abs());
-            let most = config.max_buckets();
             place(
                 alloc,
                 &mut self.depth,
@@ -70,7 +70,6 @@ impl Buckets {
             )
         } else if value.0 < -threshold {
             let index = index_of(self.depth, value.0.unsigned_abs());
-            let most = config.max_buckets();
             place(
                 alloc,
                 &mut self.depth,

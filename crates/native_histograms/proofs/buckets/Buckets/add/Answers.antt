@@ -55,7 +55,7 @@ returns-then-value-threshold-2-clause-added c =
     on_ok_weaker c.place-then-value-threshold-2.result (λ placed.
     adds_negative config range v n fits c.requires at_most is old new c.args.self.now.zeros
     (subst (λ k. Places config.max_buckets old (k, n) new) index
-    (subst (λ m. Places m old (cast_signed w32 (cast_unsigned w32 c.index_of-index-then-value-threshold-2.result), n) new) c.max_buckets-most-then-value-threshold-2.ensures placed)))
+    (subst (λ m. Places m old (cast_signed w32 (cast_unsigned w32 c.index_of-index-then-value-threshold-2.result), n) new) c.max_buckets-most.ensures placed)))
     c.place-then-value-threshold-2.ensures.placed
 
 pub returns-else-value-threshold-2-clause-added : goal.returns-else-value-threshold-2-clause-added
