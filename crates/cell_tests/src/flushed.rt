@@ -23,6 +23,15 @@ fn counted<R: Wait>(
     answered(rt, alloc, &mut DsdCounter::owned(alloc)?, calls)
 }
 
+/// What a new gauge answers.
+fn moved<R: Wait>(
+    rt: &R,
+    alloc: Global,
+    calls: &[Option<GaugeChange>],
+) -> Result<Vec<(Fixed, u64)>, Memory> {
+    answered(rt, alloc, &mut DsdGauge::owned(alloc)?, calls)
+}
+
 #[test]
 fn counters_answer_their_rows(rt: HostRuntime) -> Result<(), Fail> {
     use CounterChange::{Absolute, Increment};
@@ -68,15 +77,6 @@ fn counters_answer_their_rows(rt: HostRuntime) -> Result<(), Fail> {
         assert_eq!(rt; counted(&rt, rt.alloc(), calls)?.as_slice(), answers);
     }
     Ok(())
-}
-
-/// What a new gauge answers.
-fn moved<R: Wait>(
-    rt: &R,
-    alloc: Global,
-    calls: &[Option<GaugeChange>],
-) -> Result<Vec<(Fixed, u64)>, Memory> {
-    answered(rt, alloc, &mut DsdGauge::owned(alloc)?, calls)
 }
 
 #[test]

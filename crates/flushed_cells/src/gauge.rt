@@ -100,6 +100,15 @@ impl DsdGauge {
         Ok((DsdGauge { cell }, DsdPass { seat, root: true }))
     }
 
+    /// Changes the value.
+    pub fn update<R: Wait>(&self, rt: &R, pass: &mut GaugePass, update: GaugeValue)
+        requires { IsGaugePass self.now pass.old }
+        ensures pass { IsGaugePass self.now pass.new }
+        ensures call { Called (Update update) (view_of pass.old) (view_of pass.new) }
+    {
+        self.turn(rt, &mut pass.seat, GaugeChange::Update(update));
+    }
+
     /// Adds to the gauge, modulo 2^64 billionths.
     pub fn increment<R: Wait>(&self, rt: &R, pass: &mut GaugePass, value: Fixed)
         requires { IsGaugePass self.now pass.old }
@@ -125,15 +134,6 @@ impl DsdGauge {
         ensures call { Called (Update (Absolute value)) (view_of pass.old) (view_of pass.new) }
     {
         self.update(rt, pass, GaugeValue::Absolute(value));
-    }
-
-    /// Changes the value.
-    pub fn update<R: Wait>(&self, rt: &R, pass: &mut GaugePass, update: GaugeValue)
-        requires { IsGaugePass self.now pass.old }
-        ensures pass { IsGaugePass self.now pass.new }
-        ensures call { Called (Update update) (view_of pass.old) (view_of pass.new) }
-    {
-        self.turn(rt, &mut pass.seat, GaugeChange::Update(update));
     }
 
     /// Hands out the value, and the number of updates since the last flush, both of one point.

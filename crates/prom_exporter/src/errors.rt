@@ -1,5 +1,8 @@
 //! What the exporter refuses.
 
+ghost use Rattle.std.specs.Prelude.{◌≡◌};
+ghost use Rattle.prom_exporter.specs.declared.errors.BuildError.TheVariants as errors;
+
 use metrics_core::{Failed, Memory};
 use thiserror::Error;
 
@@ -15,9 +18,6 @@ pub enum BuildError {
 }
 
 impl From<Memory> for BuildError {
-    ghost use Rattle.std.specs.Prelude.{◌≡◌};
-    ghost use Rattle.prom_exporter.specs.declared.errors.BuildError.TheVariants as errors;
-
     ghost from_gives = { λ _ error. error ≡ errors.Memory };
 
     fn from(_refused: Memory) -> BuildError {
@@ -26,9 +26,6 @@ impl From<Memory> for BuildError {
 }
 
 impl From<Failed> for BuildError {
-    ghost use Rattle.std.specs.Prelude.{◌≡◌};
-    ghost use Rattle.prom_exporter.specs.declared.errors.BuildError.TheVariants as errors;
-
     ghost from_gives = { λ _ error. error ≡ errors.WriteFault };
 
     fn from(_failed: Failed) -> BuildError {

@@ -48,25 +48,25 @@ impl LanePass {
 impl Lenders for PrometheusState {
     ghost use Rattle.prom_exporter.specs.LanePasses.{things_of, frame_of, pass_known, IsPassOf, TakesCall, StandsAsItself};
 
-    type Lent = LanePass;
-
-    type Call = SeriesCall;
-
-    type Entry = SeriesCall;
-
-    type Lasting = SeriesCell;
-
     type Frame = PrometheusState;
 
     ghost things = { things_of };
 
     ghost frame = { frame_of };
 
+    type Lent = LanePass;
+
     ghost knows = { pass_known };
+
+    type Lasting = SeriesCell;
 
     ghost owns = { IsPassOf };
 
+    type Call = SeriesCall;
+
     ghost takes = { TakesCall };
+
+    type Entry = SeriesCall;
 
     ghost stands_as = { StandsAsItself };
 

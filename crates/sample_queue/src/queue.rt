@@ -92,10 +92,10 @@ impl<T: Drop> SampleQueue<T> {
         requires pass { IsSamplePass self.now pass.old }
         requires root { (view_of pass.old).number ≡ 0 }
         ensures pass { IsSamplePass self.now pass.new }
+        ensures refused { OnErr result (view_of pass.new ≡ view_of pass.old) }
         ensures lent { IfOk result (IsSamplePass self.now) }
         ensures child { IfOk result (λ lent. view_of lent ≡ child (view_of pass.old)) }
         ensures root { OnOk result (view_of pass.new ≡ lender (view_of pass.old)) }
-        ensures refused { OnErr result (view_of pass.new ≡ view_of pass.old) }
     {
         let seat = self.queue.another::<Loan>(&mut pass.seat);
         Ok(SamplePass { seat, root: false })

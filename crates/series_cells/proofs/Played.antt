@@ -21,8 +21,7 @@ module _ (makes : SeriesCall → List SeriesCall) where
       → (order : List ℕ) × IsOrder order (λ l. all_as makes (asked l)) × (reading ≡ value_of (calls before.seen ++ taken order (λ l. all_as makes (asked l))))
   value_after value_of asked before reading after =
       let same : after.lists ≡ (λ l. all_as makes (asked l)) = λ i l. stand_all (asked l) (after.lists l) (after.stand l) i in
-      let shows = after.reads_it in
-      (
+      let shows = after.reads_it in (
         after.order,
         subst (IsOrder after.order) same after.is_order,
         shows.2 ∙ (ap (λ log. value_of (calls log)) (shows.1.whole after.root after.home).0

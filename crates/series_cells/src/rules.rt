@@ -1,5 +1,10 @@
 //! The rules of the two words of a counter and of a gauge, and what each step tells the pass that makes it.
 
+ghost use Rattle.std.specs.Prelude.{pos};
+ghost use Rattle.series_cells.specs.Cell.{Kept, Made, Looked, Counted, CountRead, Told, opening_view, cell_lender, cell_child, cell_taker, cell_nobody};
+ghost use Rattle.series_cells.specs.Values.{counter_step, itself, gauge_step, signed, billionths};
+ghost use Rattle.metrics_core.specs.declared.calls.SeriesCall.TheVariants.{Increment, Absolute, Add, Subtract, Set};
+
 use crate::views::CellView;
 use atomic_table::{Join, Play, Split, TableRule};
 
@@ -7,9 +12,6 @@ use atomic_table::{Join, Play, Split, TableRule};
 pub struct CounterWords;
 
 impl TableRule<(), CellView, ()> for CounterWords {
-    ghost use Rattle.series_cells.specs.Cell.{Kept, opening_view};
-    ghost use Rattle.series_cells.specs.Values.{counter_step, itself};
-
     ghost holds = { λ _ s. Kept counter_step 0 itself s.words s.views };
 
     ghost first = { λ _. opening_view };
@@ -19,10 +21,6 @@ impl TableRule<(), CellView, ()> for CounterWords {
 pub struct GaugeWords;
 
 impl TableRule<(), CellView, ()> for GaugeWords {
-    ghost use Rattle.std.specs.Prelude.{pos};
-    ghost use Rattle.series_cells.specs.Cell.{Kept, opening_view};
-    ghost use Rattle.series_cells.specs.Values.{gauge_step, signed};
-
     ghost holds = { λ _ s. Kept gauge_step (pos 0) signed s.words s.views };
 
     ghost first = { λ _. opening_view };
@@ -32,9 +30,6 @@ impl TableRule<(), CellView, ()> for GaugeWords {
 pub struct Increments;
 
 impl Play<(), CellView> for Increments {
-    ghost use Rattle.series_cells.specs.Cell.{Made};
-    ghost use Rattle.metrics_core.specs.declared.calls.SeriesCall.TheVariants.{Increment};
-
     ghost then = { λ s m _ w. Made (Increment s.first) m w };
 }
 
@@ -42,9 +37,6 @@ impl Play<(), CellView> for Increments {
 pub struct Raises;
 
 impl Play<(), CellView> for Raises {
-    ghost use Rattle.series_cells.specs.Cell.{Made};
-    ghost use Rattle.metrics_core.specs.declared.calls.SeriesCall.TheVariants.{Absolute};
-
     ghost then = { λ s m _ w. Made (Absolute s.first) m w };
 }
 
@@ -52,10 +44,6 @@ impl Play<(), CellView> for Raises {
 pub struct Adds;
 
 impl Play<(), CellView> for Adds {
-    ghost use Rattle.series_cells.specs.Cell.{Made};
-    ghost use Rattle.series_cells.specs.Values.{billionths};
-    ghost use Rattle.metrics_core.specs.declared.calls.SeriesCall.TheVariants.{Add};
-
     ghost then = { λ s m _ w. Made (Add (billionths s.first)) m w };
 }
 
@@ -63,10 +51,6 @@ impl Play<(), CellView> for Adds {
 pub struct Subtracts;
 
 impl Play<(), CellView> for Subtracts {
-    ghost use Rattle.series_cells.specs.Cell.{Made};
-    ghost use Rattle.series_cells.specs.Values.{billionths};
-    ghost use Rattle.metrics_core.specs.declared.calls.SeriesCall.TheVariants.{Subtract};
-
     ghost then = { λ s m _ w. Made (Subtract (billionths s.first)) m w };
 }
 
@@ -74,10 +58,6 @@ impl Play<(), CellView> for Subtracts {
 pub struct Sets;
 
 impl Play<(), CellView> for Sets {
-    ghost use Rattle.series_cells.specs.Cell.{Made};
-    ghost use Rattle.series_cells.specs.Values.{billionths};
-    ghost use Rattle.metrics_core.specs.declared.calls.SeriesCall.TheVariants.{Set};
-
     ghost then = { λ s m _ w. Made (Set (billionths s.first)) m w };
 }
 
@@ -85,9 +65,6 @@ impl Play<(), CellView> for Sets {
 pub struct ReadsCounter;
 
 impl Play<(), CellView> for ReadsCounter {
-    ghost use Rattle.series_cells.specs.Cell.{Looked};
-    ghost use Rattle.series_cells.specs.Values.{counter_step, itself};
-
     ghost then = { λ _ m n w. Looked counter_step 0 itself m n w };
 }
 
@@ -95,10 +72,6 @@ impl Play<(), CellView> for ReadsCounter {
 pub struct ReadsGauge;
 
 impl Play<(), CellView> for ReadsGauge {
-    ghost use Rattle.std.specs.Prelude.{pos};
-    ghost use Rattle.series_cells.specs.Cell.{Looked};
-    ghost use Rattle.series_cells.specs.Values.{gauge_step, signed};
-
     ghost then = { λ _ m n w. Looked gauge_step (pos 0) signed m n w };
 }
 
@@ -106,8 +79,6 @@ impl Play<(), CellView> for ReadsGauge {
 pub struct Counts;
 
 impl Play<(), CellView> for Counts {
-    ghost use Rattle.series_cells.specs.Cell.{Counted};
-
     ghost then = { λ _ m _ w. Counted m w };
 }
 
@@ -115,8 +86,6 @@ impl Play<(), CellView> for Counts {
 pub struct ReadsCount;
 
 impl Play<(), CellView> for ReadsCount {
-    ghost use Rattle.series_cells.specs.Cell.{CountRead};
-
     ghost then = { λ _ m n w. CountRead m n w };
 }
 
@@ -124,8 +93,6 @@ impl Play<(), CellView> for ReadsCount {
 pub struct Peeks;
 
 impl Play<(), CellView> for Peeks {
-    ghost use Rattle.series_cells.specs.Cell.{Told};
-
     ghost then = { λ _ m _ w. Told m w };
 }
 
@@ -133,16 +100,12 @@ impl Play<(), CellView> for Peeks {
 pub struct Loan;
 
 impl Split<CellView> for Loan {
-    ghost use Rattle.series_cells.specs.Cell.{cell_lender, cell_child};
-
     ghost left = { cell_lender };
 
     ghost right = { cell_child };
 }
 
 impl Join<CellView> for Loan {
-    ghost use Rattle.series_cells.specs.Cell.{cell_taker, cell_nobody};
-
     ghost both = { cell_taker };
 
     ghost spent = { cell_nobody };
