@@ -114,24 +114,34 @@ fn drop_old(kept: &mut Vec<Bucket>, span: u64, now: u64)
     kept.retain(|bucket| is_in_window(span, now, bucket.begin));
 }
 
+/// The window of the buckets that are kept at a moment.
+#[derive(Clone, Copy)]
+struct Window {
+    /// How many buckets are kept.
+    limit: u32,
+    /// How long a bucket is.
+    width: u64,
+    /// The moment.
+    now: u64,
+}
+
 /// Drops the buckets out of the window, and begins one with a value so many times, unless the moment is before the newest
 /// begin that is left.
 fn begin_bucket(
     alloc: Global,
     kept: &mut Vec<Bucket>,
-    limit: u32,
-    width: u64,
+    window: Window,
     value: Fixed,
-    now: u64,
     count: u32,
 ) -> Result<(), Memory>
-    requires some { 0 < limit }
-    requires wide { 0 < width }
-    requires fits { limit * width < 2 ^ 64 }
-    ensures begun { let left = kept_in_window (limit * width) now kept.old.items in
-        OnOk result (kept.new.items ≡ begun limit width now (replicate count value.0) left) }
+    requires some { 0 < window.limit }
+    requires wide { 0 < window.width }
+    requires fits { window.limit * window.width < 2 ^ 64 }
+    ensures begun { let left = kept_in_window (window.limit * window.width) window.now kept.old.items in
+        OnOk result (kept.new.items ≡ begun window.limit window.width window.now (replicate count value.0) left) }
     ensures refused { OnErr result (kept.new.items ≡ kept.old.items) }
 {
+    let Window { limit, width, now } = window;
     let span = u64::from(limit) * width;
     let newest = newest_in_window(kept.as_slice(), span, now);
     if let Some(begin) = begin_of_new(newest, width, now) {
@@ -163,7 +173,7 @@ pub fn put(
 {
     match taker_place(kept.as_slice(), width, now) {
         Some(place) => join(kept.as_mut_slice(), place, value, count),
-        None => begin_bucket(alloc, kept, limit, width, value, now, count),
+        None => begin_bucket(alloc, kept, Window { limit, width, now }, value, count),
     }
 }
 
