@@ -80,13 +80,13 @@ fn begin_line(
     ensures bytes { OnOk result (bytes.new.items ≡ bytes.old.items ++ item.now.name ++ 58 ∷ text.now) }
     ensures bytes_len { let taken = length item.now.name + 1 + length text.now in
         OnOk result (vec_len bytes.new ≡ vec_len bytes.old + taken) }
+    ensures bytes_room { OnOk result (vec_len bytes.new + frame.ending ≤ vec_capacity bytes.new) }
+    ensures lengths_room { OnOk result (vec_len lengths.new < vec_capacity lengths.new) }
     ensures err_bytes { OnErr result (bytes.new.items ≡ bytes.old.items) }
     ensures lengths { lengths.new.items ≡ lengths.old.items }
     ensures lengths_len { vec_len lengths.new ≡ vec_len lengths.old }
     ensures bytes_capacity { vec_capacity bytes.old ≤ vec_capacity bytes.new }
     ensures lengths_capacity { vec_capacity lengths.old ≤ vec_capacity lengths.new }
-    ensures bytes_room { OnOk result (vec_len bytes.new + frame.ending ≤ vec_capacity bytes.new) }
-    ensures lengths_room { OnOk result (vec_len lengths.new < vec_capacity lengths.new) }
     ensures no_memory { vec_len bytes.old + 1 + length text.now + frame.bare ≤ vec_capacity bytes.old
         → vec_len lengths.old < vec_capacity lengths.old → IsOk result }
 {
