@@ -168,14 +168,14 @@ fn fill(
     values: &[Fixed],
 ) -> Result<u64, Memory>
     requires { limit ≤ 4294967295 }
+    ensures kept_bytes { take (length bytes.old.items) bytes.new.items ≡ bytes.old.items }
+    ensures kept_lengths { take (length lengths.old.items) lengths.new.items ≡ lengths.old.items }
     ensures bytes { let lines = lines_of limit item.now (spelled_values values.now) in
         OnOk result (bytes.new.items ≡ bytes.old.items ++ joined lines) }
     ensures lengths { let lines = lines_of limit item.now (spelled_values values.now) in
         OnOk result (lengths.new.items ≡ lengths.old.items ++ map length lines) }
     ensures left_out { let out = left_out_values limit item.now (spelled_values values.now) in
         IfOk result (λ left_out. left_out ≡ length out) }
-    ensures kept_bytes { take (length bytes.old.items) bytes.new.items ≡ bytes.old.items }
-    ensures kept_lengths { take (length lengths.old.items) lengths.new.items ≡ lengths.old.items }
     ensures bytes_capacity { vec_capacity bytes.old ≤ vec_capacity bytes.new }
     ensures lengths_capacity { vec_capacity lengths.old ≤ vec_capacity lengths.new }
     ensures no_memory { let lines = lines_of limit item.now (spelled_values values.now) in
