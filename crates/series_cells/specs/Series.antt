@@ -1,5 +1,5 @@
 -- Counters and gauges as a state keeps them and lends them to lanes.
-use Rattle.std.specs.Prelude.{◌≡◌, ℕ, List, [], ◌∷◌, ◌++◌, ℤ}
+use Rattle.std.specs.Prelude.{◌≡◌, ℕ, List, [], ◌∷◌, ◌++◌}
 use Rattle.legal_history.specs.declared.history.View.{View}
 use Rattle.legal_history.specs.History.{calls}
 use Rattle.legal_history.specs.Order.{taken, IsOrder}

@@ -1,4 +1,3 @@
-use Rattle.series_cells.specs.Pass.{view_of}
 use Rattle.series_cells.proofs.Passes.{gauge_shows}
 use Rattle.series_cells.proofs.shared.PromGaugeSharedCell.read.Goals as goal
 
