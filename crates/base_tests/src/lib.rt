@@ -1,5 +1,5 @@
 //! Tests of the crates from addresses up to pages and scripts: what no clause says of them. Each call is made once at
-//! concrete types and with ample memory, and is compared with vectors from outside.
+//! concrete types and with ample memory, and is compared with vectors from outside. Laws over their clauses stand here too.
 #![tactic(auto)]
 
 #[cfg(test)]
@@ -12,6 +12,7 @@ mod distributions;
 mod handles;
 #[cfg(test)]
 mod keys;
+pub mod laws;
 #[cfg(test)]
 mod pages;
 #[cfg(test)]

@@ -1,0 +1,7 @@
+use Rattle.cell_lanes.specs.Things.{root_of}
+use Rattle.series_cells.specs.Series.{as_gauge, gauged}
+use Rattle.cell_tests.proofs.FinishedRounds.{played}
+use Rattle.cell_tests.proofs.laws.a_finished_round_is_gauged.Goals as goal
+
+pub returns : goal.returns
+returns c = played as_gauge root_of gauged
