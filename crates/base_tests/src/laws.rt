@@ -12,14 +12,20 @@ use metrics_core::{CowSlice, CowStr};
 use std::fmt;
 
 /// `{:?}` of a text writes the literal of its bytes, whatever holds them.
-pub fn text_prints_as_a_literal<W: fmt::Write>(text: &CowStr<'_>, f: &mut fmt::Formatter<W>) -> fmt::Result
+pub fn text_prints_as_a_literal<W: fmt::Write>(
+    text: &CowStr<'_>,
+    f: &mut fmt::Formatter<W>,
+) -> fmt::Result
     ensures { DisplaysOnOk W.write_str_gives f.old result (debug_str (cow_text text.now)) f.new }
 {
     fmt::Debug::fmt(text, f)
 }
 
 /// `{:?}` of a list writes its items in order, whatever holds them.
-pub fn list_prints_as_its_items<T: fmt::Debug, W: fmt::Write>(list: &CowSlice<'_, T>, f: &mut fmt::Formatter<W>) -> fmt::Result
+pub fn list_prints_as_its_items<T: fmt::Debug, W: fmt::Write>(
+    list: &CowSlice<'_, T>,
+    f: &mut fmt::Formatter<W>,
+) -> fmt::Result
     ensures { DisplaysOnOk W.write_str_gives f.old result (debug_list T.debug_output (cow_items list.now)) f.new }
 {
     fmt::Debug::fmt(list, f)
