@@ -284,11 +284,17 @@ impl Key {
         )
     }
 
+    /// The allocator of the labels of one of two keys, where either has one.
+    fn allocator_beside(&self, other: &Key) -> Option<Global> {
+        self.labels.allocator().or(other.labels.allocator())
+    }
+
     /// Whether the names are equal, and the labels in any order.
     fn equals(&self, other: &Key) -> bool
         ensures { result ≡ key_eq self.now other.now }
     {
-        self.name == other.name && are_same(self.labels.as_slice(), other.labels.as_slice())
+        let alloc = self.allocator_beside(other);
+        self.name == other.name && are_same(self.labels.as_slice(), other.labels.as_slice(), alloc)
     }
 }
 
@@ -309,6 +315,9 @@ impl From<(KeyName, Vec<Label>)> for Key {
     }
 }
 
+/// A comparison is a pass over both keys, and takes no memory, where the labels are in the same order or differ in
+/// number or hash. Otherwise it takes n log n for n labels, and memory for a reference to each. Where that is refused,
+/// or where the labels of both keys live as long as the program, it takes the square of n, with the same answer.
 impl PartialEq for Key {
     ghost eq = { key_eq };
 
@@ -336,7 +345,8 @@ impl PartialOrd for Key {
     }
 }
 
-/// Keys are ordered by name, then by the number of labels, then by the labels, each list in the order of labels.
+/// Keys are ordered by name, then by the number of labels, then by the labels, each list in the order of labels. Lists
+/// of as many labels that aren't equal as they stand are put in order, at the cost that a test for equality has then.
 impl Ord for Key {
     ghost cmp = { key_cmp };
 
@@ -352,7 +362,9 @@ impl Ord for Key {
         let others = other.labels.as_slice();
         match self.name.cmp(&other.name) {
             Ordering::Equal => match labels.len().cmp(&others.len()) {
-                Ordering::Equal => compare_in_order(labels, others),
+                Ordering::Equal => {
+                    compare_in_order(labels, others, self.allocator_beside(other))
+                }
                 by_number => by_number,
             },
             by_name => by_name,

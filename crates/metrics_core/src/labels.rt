@@ -1,7 +1,6 @@
 //! Labels: pairs of texts that tell the series of one name apart.
 
-ghost use Rattle.std.specs.Prelude.{◌≡◌, ◌+◌, ◌++◌, length, IfOk, Some, option_copied, fold, true, nat_eq, sum_by, refl};
-ghost use Rattle.std.specs.List.{list_all};
+ghost use Rattle.std.specs.Prelude.{◌≡◌, ◌+◌, ◌++◌, length, IfOk, Some, option_copied, fold, map, true, sum_by, refl};
 ghost use Rattle.std.specs.Hash as fed;
 ghost use Rattle.std.specs.Cmp.Lexicographic.{slice_cmp};
 ghost use Rattle.std.specs.Cmp.{partial_equiv_from_equiv, partial_order_from_agreeing_total};
@@ -165,38 +164,33 @@ impl Hash for Label {
     }
 }
 
+/// Up to this many labels two lists are compared by counting, which takes no memory.
+const FEW_LABELS: usize = 8;
+
+/// The labels of a list, put in order.
+fn in_order(labels: &[Label], alloc: Global) -> Result<Vec<&Label>, Memory>
+    ensures { IfOk result (λ sorted. map (λ label. label.now) sorted.items ≡ sorted_by label_cmp labels.now) }
+{
+    let mut sorted: Vec<&Label> = labels.iter().collect(alloc)?;
+    sorted.sort_unstable();
+    Ok(sorted)
+}
+
+/// How two lists compare, each put in order, where there is memory for that.
+fn compare_sorted(labels: &[Label], others: &[Label], alloc: Global) -> Result<Ordering, Memory>
+    ensures { IfOk result (λ order. order
+        ≡ slice_cmp label_cmp (sorted_by label_cmp labels.now) (sorted_by label_cmp others.now)) }
+{
+    let labels = in_order(labels, alloc)?;
+    let others = in_order(others, alloc)?;
+    Ok(labels.as_slice().cmp(&others.as_slice()))
+}
+
 /// How often a label stands in a list.
 fn count(labels: &[Label], label: &Label) -> usize
     ensures { result ≡ occurrences labels.now label.now }
 {
     labels.iter().filter(|other| *label == **other).count()
-}
-
-/// Whether each of some labels stands as often in the one list as in the other.
-fn counts_agree(labels: &[Label], others: &[Label], among: &[Label]) -> bool
-    ensures { result ≡ list_all (λ l. nat_eq (occurrences labels.now l) (occurrences others.now l)) among.now }
-{
-    among
-        .iter()
-        .all(|label| count(labels, label) == count(others, label))
-}
-
-/// Whether two lists may have the same labels: they have as many, and the same hash.
-fn may_be_same(labels: &[Label], others: &[Label]) -> bool
-    ensures { same_multiset labels.now others.now ≡ true → result ≡ true }
-{
-    labels.len() == others.len() && add_hashes(0, labels) == add_hashes(0, others)
-}
-
-/// Whether each label stands as often in the one list as in the other. It takes no memory. Lists in the same order, of
-/// another length or with another hash cost a pass over both; the others a pass over both for each label.
-pub(crate) fn are_same(labels: &[Label], others: &[Label]) -> bool
-    ensures { result ≡ same_multiset labels.now others.now }
-{
-    labels == others
-        || may_be_same(labels, others)
-            && counts_agree(labels, others, labels)
-            && counts_agree(labels, others, others)
 }
 
 /// The label found so far that is least among those that don't stand as often in the one list as in the other, after
@@ -237,19 +231,65 @@ fn least_differing<'a>(
 }
 
 /// How two lists of as many labels compare, each in order. It takes no memory: the first label in order that they don't
-/// have equally often decides.
-pub(crate) fn compare_in_order(labels: &[Label], others: &[Label]) -> Ordering
+/// have equally often decides, and for each label both lists are gone over.
+fn compare_counts<'a>(labels: &'a [Label], others: &'a [Label]) -> Ordering
+    requires { length labels.now ≡ length others.now }
+    ensures { result ≡ slice_cmp label_cmp (sorted_by label_cmp labels.now) (sorted_by label_cmp others.now) }
+{
+    let found = least_differing(labels, others, labels, None);
+    match least_differing(labels, others, others, found) {
+        None => Ordering::Equal,
+        Some(label) => count(others, label).cmp(&count(labels, label)),
+    }
+}
+
+/// How two lists of as many labels compare, each in order: by putting both in order where they are long and there is
+/// memory for that, and otherwise by counting.
+fn compare_unlike(labels: &[Label], others: &[Label], alloc: Option<Global>) -> Ordering
+    requires { length labels.now ≡ length others.now }
+    ensures { result ≡ slice_cmp label_cmp (sorted_by label_cmp labels.now) (sorted_by label_cmp others.now) }
+{
+    if labels.len() > FEW_LABELS
+        && let Some(alloc) = alloc
+        && let Ok(order) = compare_sorted(labels, others, alloc)
+    {
+        return order;
+    }
+    compare_counts(labels, others)
+}
+
+/// Whether two lists may have the same labels: they have as many, and the same hash.
+fn may_be_same(labels: &[Label], others: &[Label]) -> bool
+    ensures same { same_multiset labels.now others.now ≡ true → result ≡ true }
+    ensures len { result ≡ true → length labels.now ≡ length others.now }
+{
+    labels.len() == others.len() && add_hashes(0, labels) == add_hashes(0, others)
+}
+
+/// Whether each label stands as often in the one list as in the other. Lists in the same order, of another length or
+/// with another hash cost a pass over both, and take no memory. Others cost n log n for n labels, and memory for a
+/// reference to each; a few, or any number without an allocator or when memory is refused, cost a pass over both lists
+/// for each label.
+pub(crate) fn are_same(labels: &[Label], others: &[Label], alloc: Option<Global>) -> bool
+    ensures { result ≡ same_multiset labels.now others.now }
+{
+    labels == others || may_be_same(labels, others) && compare_unlike(labels, others, alloc).is_eq()
+}
+
+/// How two lists of as many labels compare, each in order. Lists that are equal as they stand cost a pass over both,
+/// and take no memory. Others cost what they do in [`are_same`].
+pub(crate) fn compare_in_order(
+    labels: &[Label],
+    others: &[Label],
+    alloc: Option<Global>,
+) -> Ordering
     requires { length labels.now ≡ length others.now }
     ensures { result ≡ slice_cmp label_cmp (sorted_by label_cmp labels.now) (sorted_by label_cmp others.now) }
 {
     if labels == others {
         return Ordering::Equal;
     }
-    let found = least_differing(labels, others, labels, None);
-    match least_differing(labels, others, others, found) {
-        None => Ordering::Equal,
-        Some(label) => count(others, label).cmp(&count(labels, label)),
-    }
+    compare_unlike(labels, others, alloc)
 }
 
 /// Copies of the labels, in their order.

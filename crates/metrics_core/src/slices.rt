@@ -1,6 +1,6 @@
 //! Lists that are owned, borrowed or shared.
 
-ghost use Rattle.std.specs.Prelude.{◌≡◌, ◌⊎◌, [], IfOk, IsOk};
+ghost use Rattle.std.specs.Prelude.{◌≡◌, ◌⊎◌, ◌↔◌, [], IfOk, IsOk, IsNone};
 ghost use Rattle.std.specs.Arc.{arc_value};
 ghost use Rattle.std.specs.Cow.{cow_slice_items};
 ghost use Rattle.std.specs.Fmt.{debug_list};
@@ -92,6 +92,17 @@ impl<'a, T> CowSlice<'a, T> {
             CowSlice::Owned(items) => items.as_slice(),
             CowSlice::Borrowed(items) => items,
             CowSlice::Shared(items) => items.as_slice(),
+        }
+    }
+
+    /// The allocator of the items, where they are not borrowed.
+    pub(crate) fn allocator(&self) -> Option<Global>
+        ensures { IsNone result ↔ (holding_of_items self.now ≡ Lent) }
+    {
+        match self {
+            CowSlice::Owned(items) => Some(*items.allocator()),
+            CowSlice::Borrowed(_) => None,
+            CowSlice::Shared(items) => Some(*items.allocator()),
         }
     }
 }
