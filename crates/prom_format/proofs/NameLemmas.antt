@@ -1,5 +1,5 @@
 -- How a walk over the characters of a text makes a name.
-use Rattle.std.proofs.Common.{◌≡◌, ℕ, List, [], ◌∷◌, ◌++◌, map, refl, sym, ap, ◌∙◌, subst, chars}
+use Rattle.std.proofs.Common.{true, ◌≡◌, ℕ, List, [], ◌∷◌, ◌++◌, map, refl, sym, ap, ◌∙◌, subst, chars}
 use Rattle.std.specs.Prelude.{Option, Some, None, unwrap_or}
 use Rattle.std.specs.Char.{encode_utf8}
 use Rattle.std.specs.Str.{IsUtf8}
@@ -9,8 +9,9 @@ use Rattle.std.proofs.lemmas.List.{nil_from_length}
 use Rattle.std.proofs.lemmas.Str.{chars-nil, chars_past_char, IsUtf8-past_char, IsUtf8-nil}
 use Rattle.prom_format.specs.declared.names.NameKind.{NameKind}
 use Rattle.prom_format.specs.declared.names.NameKind.TheVariants.{Metric, Label}
-use Rattle.prom_format.specs.Names.{sanitized_characters, kept_or_underscore}
+use Rattle.prom_format.specs.Names.{is_name, sanitized_characters, kept_or_underscore}
 use Rattle.prom_format.specs.NameKinds.{begins, continues}
+use Rattle.prom_format.proofs.NameLaws.{sanitized_metric_name-of_name, sanitized_label_name-of_name}
 
 -- an empty text makes `_`
 empty_name : (kind : NameKind) (text : List ℕ) → text ≡ [] → kept_or_underscore (begins kind) 95 ∷ map (kept_or_underscore (continues kind)) (chars text) ≡ sanitized_characters (begins kind) (chars text)
@@ -40,3 +41,8 @@ first_made kind s t (Some c) text (split, _, _) = (
 pub later_made : (kind : NameKind) (text rest : List ℕ) (c : ℕ) → IsUtf8 text → text ≡ encode_utf8 c ++ rest →
     map (kept_or_underscore (continues kind)) (chars text) ≡ kept_or_underscore (continues kind) c ∷ map (kept_or_underscore (continues kind)) (chars rest)
 later_made kind text rest c whole split = ap (map (kept_or_underscore (continues kind))) (chars_past_char text rest c whole split)
+
+-- a name of a kind stays as it is
+pub name_kept : (kind : NameKind) (text : List ℕ) → is_name (begins kind) text ≡ true → sanitized_characters (begins kind) (chars text) ≡ text
+name_kept Metric text named = sanitized_metric_name-of_name text named
+name_kept Label text named = sanitized_label_name-of_name text named

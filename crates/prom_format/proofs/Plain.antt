@@ -4,9 +4,10 @@ use Rattle.std.proofs.lemmas.Bool.Decides.{nat_tests}
 use Rattle.std.specs.Prelude.{nat_lt, ◌==◌, ◌&&◌, not, flat_map, if◌then◌else◌}
 use Rattle.std.specs.Char.{encode_utf8}
 use Rattle.std.proofs.lemmas.Str.{length-encode, len_utf8_bounds}
-use Rattle.std.specs.List.{AllByRecursion}
+use Rattle.std.specs.List.{AllByRecursion, list_all}
+use Rattle.std.proofs.lemmas.Bool.{and_parts}
 use Rattle.metrics_core.specs.Characters.{newline, quote, backslash}
-use Rattle.prom_format.specs.Printed.{escaped_character, printed_text}
+use Rattle.prom_format.specs.Printed.{escaped_character, is_plain, printed_text}
 use Rattle.prom_format.proofs.Walk.{walked, settled_is_walked}
 
 -- no byte of the list is ASCII
@@ -98,3 +99,17 @@ printed_walk-plain in_label w c text plain = by (encode_cases c)
         let P : List ℕ → Type 0 = λ bytes. printed_walk in_label w (bytes ++ text) ≡ printed_waiting w ++ (bytes ++ printed_walk in_label false text) in
         subst P (sym one) (plain_byte in_label w c text plain)
     by (inr high) = high_first in_label w (encode_utf8 c) text (omega (arith, length-encode c, len_utf8_bounds c)) high
+
+-- ---- texts that are printed as they are
+
+plain_from_test : (in_label : Bool) (c : ℕ) → is_plain in_label c ≡ true → IsPlain in_label c
+plain_from_test in_label c passes = (grind (arith, nat_tests, passes), grind (arith, nat_tests, passes), grind (arith, nat_tests, passes))
+
+plain_stays : (in_label : Bool) (text : List ℕ) → list_all (is_plain in_label) text ≡ true → printed_walk in_label false text ≡ text
+plain_stays in_label [] all = refl
+plain_stays in_label (c ∷ text) all =
+    let parts = and_parts (is_plain in_label c) (list_all (is_plain in_label) text) all in
+    plain_byte in_label false c text (plain_from_test in_label c parts.0) ∙ ap (λ t. c ∷ t) (plain_stays in_label text parts.1)
+
+pub printed_text-plain : (in_label : Bool) (text : List ℕ) → list_all (is_plain in_label) text ≡ true → printed_text in_label text ≡ text
+printed_text-plain in_label text all = sym (printed_walk-start in_label text) ∙ plain_stays in_label text all

@@ -1,5 +1,5 @@
 -- The labels of a row as they are meant, and the lines of a page (Prometheus text exposition format, "Line format").
-use Rattle.std.specs.Prelude.{ℕ, List, [], ◌∷◌, ◌++◌, map, flat_map, Option, Some, None, option_map, codes}
+use Rattle.std.specs.Prelude.{ℕ, Bool, true, if◌then◌else◌, List, [], ◌∷◌, ◌++◌, map, flat_map, Option, Some, None, option_map, codes}
 use Rattle.std.specs.Borrow.{Bor}
 use Rattle.metrics_core.specs.Characters.{line}
 use Rattle.metrics_core.specs.Keys.{LabelText, label_set}
@@ -38,6 +38,20 @@ behind_commas texts = flat_map (λ text. codes "," ++ text) texts
 abbrev pub braced : List (List ℕ) → List ℕ
 braced [] = []
 braced (first ∷ others) = codes "{" ++ first ++ behind_commas others ++ codes "}"
+
+-- the same piece by piece: texts of labels, each behind a comma, but the first behind a brace where none stands before it
+abbrev pub separated : Bool → List (List ℕ) → List ℕ
+separated any [] = []
+separated any (text ∷ texts) = (if any then codes "," else codes "{") ++ text ++ separated true texts
+
+-- whether any label stands there once these stand behind what was there
+abbrev pub any_behind : Bool → List (List ℕ) → Bool
+any_behind any [] = any
+any_behind any (text ∷ texts) = true
+
+-- the brace behind labels
+abbrev pub closing : Bool → List ℕ
+closing any = if any then codes "}" else []
 
 -- the labels of a row, each as it is printed
 abbrev pub label_texts : List LabelText → List (List ℕ)

@@ -72,6 +72,13 @@ impl LabelSet {
         self.labels.is_empty()
     }
 
+    /// The labels as a map holds them, each under its key.
+    pub(crate) fn entries(&self) -> &IndexMap<String, String>
+        ensures { labels_of result.now.entries ≡ self.now }
+    {
+        &self.labels
+    }
+
     /// The labels as they are printed, one after another.
     pub fn to_strings(&self) -> LabelStrings<'_>
         ensures { result ≡ self.now }

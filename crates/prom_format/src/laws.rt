@@ -2,10 +2,11 @@
 
 ghost use Rattle.std.specs.Prelude.{◌≡◌, ◌↔◌, ℕ, List, [], ◌∷◌, Option, IfSome, All, codes};
 ghost use Rattle.metrics_core.specs.declared.units.Unit.{Unit as UnitOf};
-ghost use Rattle.metrics_core.specs.Keys.{LabelText};
-ghost use Rattle.prom_format.specs.Lines.{head_text};
+ghost use Rattle.metrics_core.specs.Keys.{KeyText, LabelText};
+ghost use Rattle.prom_format.specs.Lines.{head_text, shown_label_set};
 ghost use Rattle.prom_format.specs.Names.{IsMetricName, IsLabelName, sanitized_metric_name, sanitized_label_name, full_name};
 ghost use Rattle.prom_format.specs.Pages.{Family, AreInRange, IsBody, IsPage, IsPrintable, body_text, page_text};
+ghost use Rattle.prom_format.specs.PlainKeys.{PrintsPlainly};
 ghost use Rattle.prom_format.specs.Printed.{canonical_label_value, canonical_description, escaped_label_value, escaped_description, printed_label_value, printed_description};
 
 /// What sanitizing makes of any text is a name.
@@ -46,6 +47,13 @@ pub fn heads_tell_names_and_labels()
     ensures { (x y : List ℕ) (xs ys : List LabelText) → IsMetricName x → IsMetricName y
         → All (λ label. IsLabelName label.key) xs → All (λ label. IsLabelName label.key) ys
         → head_text x xs ≡ head_text y ys → (x ≡ y) × (xs ≡ ys) }
+{}
+
+/// Keys that print plainly under the same global labels are told by what their rows begin with.
+pub fn plain_keys_are_told_by_their_heads()
+    ensures { (globals : List LabelText) (x y : KeyText) → PrintsPlainly globals x → PrintsPlainly globals y
+        → sanitized_metric_name x.name ≡ sanitized_metric_name y.name
+        → shown_label_set globals x.labels ≡ shown_label_set globals y.labels → x ≡ y }
 {}
 
 /// Families have one text, as a body and as a page: what the grammar reads as these families is that text, and where the

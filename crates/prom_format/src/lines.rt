@@ -1,18 +1,16 @@
 //! The lines of a page, each appended whole or not at all (Prometheus text exposition format, "Line format").
 
-ghost use Rattle.std.specs.Prelude.{◌≡◌, ◌++◌, codes, if◌then◌else◌, ◌==◌, length, IfOk, OnErr, OnOk, string_bytes};
+ghost use Rattle.std.specs.Prelude.{◌≡◌, ◌++◌, OnErr, OnOk, string_bytes};
 ghost use Rattle.std.specs.Option.{option_copied};
-ghost use Rattle.prom_format.specs.LabelSets.{labels_of};
-ghost use Rattle.prom_format.specs.Lines.{help_line, type_line, metric_line, braced, head_text, label_texts, shown_label_set, lent_label, additional_text};
-ghost use Rattle.prom_format.specs.Names.{sanitized_metric_name};
+ghost use Rattle.prom_format.specs.Lines.{help_line, type_line, metric_line, braced, label_texts, lent_label, additional_text};
+ghost use Rattle.prom_format.specs.Texts.{Begins};
 
+use crate::braces::{close_braces, push_additional, push_entries};
 use crate::labels::LabelSet;
-use crate::names::sanitize_metric_name;
-use crate::printed::sanitize_description;
-use crate::suffixes::full_name;
-use indexmap::IndexMap;
-use metrics_core::{Key, Memory, Unit};
-use std::alloc::Global;
+use crate::printed::push_description;
+use crate::suffixes::push_full_name;
+use crate::undo::undo_refused;
+use metrics_core::{Memory, Unit};
 
 /// Appends `# TYPE`, the full name and the type. The name and the type are taken as they are.
 pub fn write_type_line(
@@ -26,10 +24,28 @@ pub fn write_type_line(
         ≡ string_bytes buffer.old ++ type_line name.now unit (option_copied suffix.entry) metric_type.now) }
     ensures err { OnErr result (string_bytes buffer.new ≡ string_bytes buffer.old) }
 {
-    let alloc = *buffer.allocator();
-    let full_name = full_name(alloc, name, unit, suffix)?;
-    let line = format!(in alloc; "# TYPE {full_name} {metric_type}\n")?;
-    buffer.push_str(line.as_str())?;
+    let length = buffer.len();
+    let outcome = push_type_line(buffer, name, unit, suffix, metric_type);
+    undo_refused(buffer, length, outcome)
+}
+
+/// Appends the parts of a type line. After a refused call some may be missing.
+fn push_type_line(
+    buffer: &mut String,
+    name: &str,
+    unit: Option<Unit>,
+    suffix: Option<&'static str>,
+    metric_type: &str,
+) -> Result<(), Memory>
+    ensures ok { OnOk result (string_bytes buffer.new
+        ≡ string_bytes buffer.old ++ type_line name.now unit (option_copied suffix.entry) metric_type.now) }
+    ensures kept { Begins (string_bytes buffer.old) (string_bytes buffer.new) }
+{
+    buffer.push_str("# TYPE ")?;
+    push_full_name(buffer, name, unit, suffix)?;
+    buffer.push_str(" ")?;
+    buffer.push_str(metric_type)?;
+    buffer.push_str("\n")?;
     Ok(())
 }
 
@@ -45,11 +61,28 @@ pub fn write_help_line(
         ≡ string_bytes buffer.old ++ help_line name.now unit (option_copied suffix.entry) desc.now) }
     ensures err { OnErr result (string_bytes buffer.new ≡ string_bytes buffer.old) }
 {
-    let alloc = *buffer.allocator();
-    let full_name = full_name(alloc, name, unit, suffix)?;
-    let description = sanitize_description(alloc, desc)?;
-    let line = format!(in alloc; "# HELP {full_name} {description}\n")?;
-    buffer.push_str(line.as_str())?;
+    let length = buffer.len();
+    let outcome = push_help_line(buffer, name, unit, suffix, desc);
+    undo_refused(buffer, length, outcome)
+}
+
+/// Appends the parts of a help line. After a refused call some may be missing.
+fn push_help_line(
+    buffer: &mut String,
+    name: &str,
+    unit: Option<Unit>,
+    suffix: Option<&'static str>,
+    desc: &str,
+) -> Result<(), Memory>
+    ensures ok { OnOk result (string_bytes buffer.new
+        ≡ string_bytes buffer.old ++ help_line name.now unit (option_copied suffix.entry) desc.now) }
+    ensures kept { Begins (string_bytes buffer.old) (string_bytes buffer.new) }
+{
+    buffer.push_str("# HELP ")?;
+    push_full_name(buffer, name, unit, suffix)?;
+    buffer.push_str(" ")?;
+    push_description(buffer, desc)?;
+    buffer.push_str("\n")?;
     Ok(())
 }
 
@@ -68,61 +101,45 @@ pub fn write_metric_line(
         ++ metric_line name.now (option_copied suffix.entry) labels.now (lent_label additional_label.entry) value.now unit) }
     ensures err { OnErr result (string_bytes buffer.new ≡ string_bytes buffer.old) }
 {
-    let alloc = *buffer.allocator();
-    let full_name = full_name(alloc, name, unit, suffix)?;
-    let labels = braced_labels(alloc, labels, additional_label)?;
-    let line = format!(in alloc; "{full_name}{labels} {value}\n")?;
-    buffer.push_str(line.as_str())?;
+    let length = buffer.len();
+    let outcome = push_metric_line(buffer, name, suffix, labels, additional_label, value, unit);
+    undo_refused(buffer, length, outcome)
+}
+
+/// Appends the parts of a row. After a refused call some may be missing.
+fn push_metric_line(
+    buffer: &mut String,
+    name: &str,
+    suffix: Option<&'static str>,
+    labels: &LabelSet,
+    additional_label: Option<(&'static str, &str)>,
+    value: &str,
+    unit: Option<Unit>,
+) -> Result<(), Memory>
+    ensures ok { OnOk result (string_bytes buffer.new ≡ string_bytes buffer.old
+        ++ metric_line name.now (option_copied suffix.entry) labels.now (lent_label additional_label.entry) value.now unit) }
+    ensures kept { Begins (string_bytes buffer.old) (string_bytes buffer.new) }
+{
+    push_full_name(buffer, name, unit, suffix)?;
+    push_braced_labels(buffer, labels, additional_label)?;
+    buffer.push_str(" ")?;
+    buffer.push_str(value)?;
+    buffer.push_str("\n")?;
     Ok(())
 }
 
-/// What each row of a series with this key begins with: its metric name, and the labels in braces. Series with the same
-/// one print alike.
-pub fn row_head(
-    alloc: Global,
-    key: &Key,
-    global: &IndexMap<String, String>,
-) -> Result<String, Memory>
-    ensures head { IfOk result (λ text. string_bytes text
-        ≡ head_text (sanitized_metric_name key.now.name) (shown_label_set (labels_of global.now.entries) key.now.labels)) }
-{
-    let name = sanitize_metric_name(alloc, key.name())?;
-    let labels = LabelSet::from_key_and_global(alloc, key, global)?;
-    let labels = braced_labels(alloc, &labels, None)?;
-    Ok(format!(in alloc; "{name}{labels}")?)
-}
-
-/// The labels in braces, joined by commas, and nothing where there is none.
-fn braced_labels(
-    alloc: Global,
+/// Appends the labels in braces, and nothing where there is none. After a refused call some may be missing.
+fn push_braced_labels(
+    buffer: &mut String,
     labels: &LabelSet,
     additional_label: Option<(&'static str, &str)>,
-) -> Result<String, Memory>
-    ensures { IfOk result (λ text. string_bytes text
-        ≡ braced (label_texts labels.now ++ additional_text (lent_label additional_label.entry))) }
+) -> Result<(), Memory>
+    ensures ok { OnOk result (string_bytes buffer.new ≡ string_bytes buffer.old
+        ++ braced (label_texts labels.now ++ additional_text (lent_label additional_label.entry))) }
+    ensures kept { Begins (string_bytes buffer.old) (string_bytes buffer.new) }
 {
-    let mut text = String::new(alloc);
-    let mut strings = labels.to_strings();
-    while let Some(label) = strings.next_string(alloc) {
-        push_label(&mut text, label?.as_str())?;
-    }
-    if let Some((name, value)) = additional_label {
-        let label = format!(in alloc; "{name}=\"{value}\"")?;
-        push_label(&mut text, label.as_str())?;
-    }
-    if !text.is_empty() {
-        text.push('}')?;
-    }
-    Ok(text)
-}
-
-/// Appends a label: the first one behind a brace, and each later one behind a comma.
-fn push_label(text: &mut String, label: &str) -> Result<(), Memory>
-    ensures { OnOk result (string_bytes text.new
-        ≡ (if length (string_bytes text.old) == 0 then codes "{" else string_bytes text.old ++ codes ",") ++ label.now) }
-{
-    let before = if text.is_empty() { '{' } else { ',' };
-    text.push(before)?;
-    text.push_str(label)?;
+    let any = push_entries(buffer, false, labels.entries())?;
+    let any = push_additional(buffer, any, additional_label)?;
+    close_braces(buffer, any)?;
     Ok(())
 }

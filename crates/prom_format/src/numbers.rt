@@ -2,7 +2,9 @@
 
 ghost use Rattle.std.specs.Prelude.{◌≡◌, ◌<◌, ◌≤◌, [], ◌++◌, OnErr, OnOk, decimal, string_bytes};
 ghost use Rattle.metrics_core.specs.Numbers.{page_number, fraction_text, whole};
+ghost use Rattle.prom_format.specs.Texts.{Begins};
 
+use crate::undo::undo_refused;
 use itoa::Buffer;
 use metrics_core::{BILLIONTHS, Memory};
 
@@ -13,21 +15,30 @@ pub fn push_fixed(buffer: &mut String, billionths: i128) -> Result<(), Memory>
     ensures ok { OnOk result (string_bytes buffer.new ≡ string_bytes buffer.old ++ page_number billionths) }
     ensures err { OnErr result (string_bytes buffer.new ≡ string_bytes buffer.old) }
 {
-    let magnitude = billionths.unsigned_abs();
-    let mut text = String::new(*buffer.allocator());
-    if billionths < 0 {
-        text.push('-')?;
-    }
-    text.push_str(Buffer::new().format(magnitude / ONE))?;
-    push_fraction(&mut text, magnitude % ONE)?;
-    buffer.push_str(text.as_str())?;
-    Ok(())
+    let length = buffer.len();
+    let outcome = push_parts(buffer, billionths);
+    undo_refused(buffer, length, outcome)
 }
 
-/// Appends a point and the digits of a fraction of billionths, and nothing where the fraction is zero.
+/// Appends the sign, the whole part and the fraction of a value of billionths. After a refused call some may be missing.
+fn push_parts(buffer: &mut String, billionths: i128) -> Result<(), Memory>
+    ensures ok { OnOk result (string_bytes buffer.new ≡ string_bytes buffer.old ++ page_number billionths) }
+    ensures kept { Begins (string_bytes buffer.old) (string_bytes buffer.new) }
+{
+    let magnitude = billionths.unsigned_abs();
+    if billionths < 0 {
+        buffer.push_str("-")?;
+    }
+    buffer.push_str(Buffer::new().format(magnitude / ONE))?;
+    push_fraction(buffer, magnitude % ONE)
+}
+
+/// Appends a point and the digits of a fraction of billionths, and nothing where the fraction is zero. After a refused
+/// call the point may stand alone.
 fn push_fraction(text: &mut String, fraction: u128) -> Result<(), Memory>
     requires { fraction < 1000000000 }
-    ensures { OnOk result (string_bytes text.new ≡ string_bytes text.old ++ fraction_text [] fraction) }
+    ensures ok { OnOk result (string_bytes text.new ≡ string_bytes text.old ++ fraction_text [] fraction) }
+    ensures kept { Begins (string_bytes text.old) (string_bytes text.new) }
 {
     if fraction == 0 {
         return Ok(());

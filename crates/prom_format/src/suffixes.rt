@@ -1,49 +1,60 @@
 //! The full name of a row: a metric name with its unit and its suffix.
 
-ghost use Rattle.std.specs.Prelude.{◌≡◌, IfOk, OnOk, string_bytes};
+ghost use Rattle.std.specs.Prelude.{◌≡◌, [], ◌∷◌, ◌++◌, if◌then◌else◌, OnOk, string_bytes};
 ghost use Rattle.std.specs.Option.{option_copied};
+ghost use Rattle.metrics_core.specs.Characters.{underscore};
 ghost use Rattle.prom_format.specs.Names as names;
+ghost use Rattle.prom_format.specs.Texts.{Begins};
 
 use metrics_core::{Memory, Unit};
-use std::alloc::Global;
 
-/// The metric name, then the unit, then the suffix. The name is taken as it is.
-pub(crate) fn full_name(
-    alloc: Global,
+/// Appends the metric name, then the unit, then the suffix. The name is taken as it is. After a refused call some may be
+/// missing.
+pub(crate) fn push_full_name(
+    buffer: &mut String,
     name: &str,
     unit: Option<Unit>,
     suffix: Option<&'static str>,
-) -> Result<String, Memory>
-    ensures { IfOk result (λ text. string_bytes text ≡ names.full_name name.now unit (option_copied suffix.entry)) }
+) -> Result<(), Memory>
+    ensures ok { OnOk result (string_bytes buffer.new
+        ≡ string_bytes buffer.old ++ names.full_name name.now unit (option_copied suffix.entry)) }
+    ensures kept { Begins (string_bytes buffer.old) (string_bytes buffer.new) }
 {
-    let mut text = name_with_unit(alloc, name, unit)?;
+    let start = buffer.len();
+    push_name_with_unit(buffer, name, unit)?;
     if let Some(word) = suffix {
-        push_word(&mut text, word)?;
+        let ends_so = ends_in(&buffer[start..], word);
+        push_word(buffer, ends_so, word)?;
     }
-    Ok(text)
+    Ok(())
 }
 
-/// The metric name with the word of a unit before its standing suffix.
-fn name_with_unit(alloc: Global, name: &str, unit: Option<Unit>) -> Result<String, Memory>
-    ensures { IfOk result (λ text. string_bytes text ≡ names.with_unit name.now unit) }
+/// Appends the metric name with the word of a unit before its standing suffix. After a refused call some may be missing.
+fn push_name_with_unit(buffer: &mut String, name: &str, unit: Option<Unit>) -> Result<(), Memory>
+    ensures ok { OnOk result (string_bytes buffer.new ≡ string_bytes buffer.old ++ names.with_unit name.now unit) }
+    ensures kept { Begins (string_bytes buffer.old) (string_bytes buffer.new) }
 {
     let Some(word) = unit.and_then(unit_word) else {
-        return Ok(String::from_str(alloc, name)?);
+        buffer.push_str(name)?;
+        return Ok(());
     };
     let suffix = standing_suffix(name);
-    let mut text = String::from_str(alloc, &name[..name.len() - suffix.len()])?;
-    push_word(&mut text, word)?;
-    text.push_str(suffix)?;
-    Ok(text)
+    let front = &name[..name.len() - suffix.len()];
+    buffer.push_str(front)?;
+    push_word(buffer, ends_in(front, word), word)?;
+    buffer.push_str(suffix)?;
+    Ok(())
 }
 
-/// Puts `_` and a word behind a text, unless the text ends with the word already.
-fn push_word(text: &mut String, word: &str) -> Result<(), Memory>
-    ensures { OnOk result (string_bytes text.new ≡ names.with_word (string_bytes text.old) word.now) }
+/// Appends `_` and a word, unless the text ends with the word already. After a refused call the `_` may stand alone.
+fn push_word(buffer: &mut String, ends_so: bool, word: &str) -> Result<(), Memory>
+    ensures ok { OnOk result (string_bytes buffer.new
+        ≡ string_bytes buffer.old ++ (if ends_so then [] else underscore ∷ word.now)) }
+    ensures kept { Begins (string_bytes buffer.old) (string_bytes buffer.new) }
 {
-    if !ends_in(text.as_str(), word) {
-        text.push('_')?;
-        text.push_str(word)?;
+    if !ends_so {
+        buffer.push_str("_")?;
+        buffer.push_str(word)?;
     }
     Ok(())
 }

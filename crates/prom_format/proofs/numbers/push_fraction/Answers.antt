@@ -11,8 +11,8 @@ range_from-padded-requires c =
     let longer = ap length text in
     λ _. (omega arith, λ _ high. absurd (omega (arith, high, c.format.ensures.ascii 1)))
 
-pub returns : goal.returns
-returns c =
+pub returns-clause-ok : goal.returns-clause-ok
+returns-clause-ok c =
     let before = c.args.text.now in
     let text = c.format.ensures.text ∙ decimal-one_before c.args.fraction c.requires in
     let digits = c.range_from-padded.ensures.value ∙ ap (drop 1) text in

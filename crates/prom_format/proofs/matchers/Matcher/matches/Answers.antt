@@ -1,4 +1,4 @@
-use Rattle.std.proofs.Common.{◌≡◌, ap, sym, ◌∙◌, nat_eq}
+use Rattle.std.proofs.Common.{ap, sym, ◌∙◌, nat_eq}
 use Rattle.std.specs.List.{starts_with, ends_with}
 use Rattle.std.proofs.lemmas.Str.Pattern.{starts_text, ends_text}
 use Rattle.prom_format.specs.Matchers.{fits}
