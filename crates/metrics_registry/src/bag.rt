@@ -1,6 +1,7 @@
 //! Bags of values, for quantiles.
 
-ghost use Rattle.std.specs.Prelude.{◌≡◌, ℤ, ◌+◌, ◌-◌, ◌^◌, ◌≤◌, ◌<◌, [], ◌++◌, length, replicate, slice_get, option_map, IsErr, IfOk, OnOk, OnErr, if◌then◌else◌};
+ghost use Rattle.std.specs.Prelude.{◌≡◌, ℤ, ◌+◌, ◌-◌, ◌^◌, ◌≤◌, ◌<◌, [], ◌++◌, length, map, replicate, slice_get, option_map, IsErr, IfOk, OnOk, OnErr, if◌then◌else◌};
+ghost use Rattle.std.specs.List.{All};
 ghost use Rattle.std.specs.Ordering.{int_cmp, int_eq};
 ghost use Rattle.std.specs.BTreeMap.{IsOrdered};
 ghost use Rattle.metrics_core.specs.Fixed.{of_billionths};
@@ -9,6 +10,7 @@ ghost use Rattle.metrics_registry.specs.Quantiles.{ascending, rank, nearest_rank
 ghost use Rattle.metrics_registry.specs.Bags.{copies, repeated};
 
 use crate::Quantile;
+use crate::ranks::values_at;
 use metrics_core::{BILLIONTHS, Fixed, Memory};
 use std::alloc::Global;
 use std::collections::BTreeMap;
@@ -83,8 +85,9 @@ impl Bag {
         Ok(())
     }
 
-    /// The bag with all values of another bag added in place. It takes time linear in the other bag's distinct values, and
-    /// memory for those that are new. It is refused, and the bag is gone, also where it would hold 2^64 values or more.
+    /// The bag with all values of another bag added in place. It takes time linear in the other bag's distinct values, each
+    /// with one descent of the tree, and memory for those that are new. It is refused, and the bag is gone, also where it
+    /// would hold 2^64 values or more.
     pub fn merged_with(self, other: &Bag) -> Result<Bag, Memory>
         ensures merged { IfOk result (λ bag. bag ≡ ascending (self ++ other.now)) }
         ensures full { 2 ^ 64 ≤ length self + length other.now → IsErr result }
@@ -119,6 +122,20 @@ impl Bag {
     {
         value_at(&self.counts, rank_of(q.billionths(), self.count))
     }
+
+    /// The values at several quantiles, in any order, each as `quantile` answers it, in one walk over the distinct values. It
+    /// takes time linear in these, and in the quantiles with their logarithm, and memory for the quantiles alone.
+    pub fn quantiles(
+        &self,
+        alloc: Global,
+        quantiles: &[Quantile],
+    ) -> Result<Vec<Option<Fixed>>, Memory>
+        ensures { IfOk result (λ values. values.items
+            ≡ map (λ q. option_map of_billionths (nearest_rank q self.now)) quantiles.now) }
+    {
+        let ranks = ranks_of(alloc, quantiles, self.count)?;
+        values_at(alloc, &self.counts, ranks.as_slice())
+    }
 }
 
 /// The rank of a quantile, in billionths, among so many values.
@@ -130,25 +147,28 @@ fn rank_of(billionths: u32, count: u64) -> u64
     (rounded as u64).max(1)
 }
 
-/// Raises the count of a value.
+/// The ranks of quantiles among so many values.
+fn ranks_of(alloc: Global, quantiles: &[Quantile], count: u64) -> Result<Vec<u64>, Memory>
+    ensures ranks { IfOk result (λ ranks. ranks.items ≡ map (λ q. rank q count) quantiles.now) }
+    ensures least { IfOk result (λ ranks. All (λ rank. 1 ≤ rank) ranks.items) }
+{
+    Ok(
+        quantiles
+            .iter()
+            .map(|q| rank_of(q.billionths(), count))
+            .collect(alloc)?,
+    )
+}
+
+/// Raises the count of a value, in one descent of the tree.
 fn raise(counts: &mut BTreeMap<i64, u64>, value: i64, count: u64) -> Result<(), Memory>
     requires { copies value counts.old.entries + count < 2 ^ 64 }
     ensures raised { OnOk result ((v : ℤ) → copies v counts.new.entries
         ≡ copies v counts.old.entries + (if int_eq v value then count else 0)) }
     ensures refused { OnErr result (counts.new.entries ≡ counts.old.entries) }
 {
-    let held = copies_of(counts, &value);
-    counts.insert(value, held + count)?;
+    *counts.entry(value)?.or_insert(0) += count;
     Ok(())
-}
-
-/// How often a value is there.
-fn copies_of(counts: &BTreeMap<i64, u64>, value: &i64) -> u64
-    ensures { result ≡ copies value.now counts.now.entries }
-{
-    // `len` is called for its clause that the map is in order, which the proof cites.
-    let _len = counts.len();
-    counts.get(value).copied().unwrap_or(0)
 }
 
 /// Adds all counts of one map to those of another. After a refusal some of them were added.

@@ -185,7 +185,7 @@ below-limit width (suc k) (suc limit) less =
     let fewer : k < limit = below-limit width k limit (omega arith) in
     omega arith
 
-aligned-after : (width b t : ℕ) → 0 < width → b + width ≤ t → b + width ≤ aligned width b t
+pub aligned-after : (width b t : ℕ) → 0 < width → b + width ≤ t → b + width ≤ aligned width b t
 aligned-after width b t wide past =
     let d = t - b in
     let parts : d / width * width + d % width ≡ d = omega arith in

@@ -2,3 +2,4 @@ pub mod Kept
 pub mod Held
 pub mod Landed
 pub mod Cuts
+pub mod Ordered

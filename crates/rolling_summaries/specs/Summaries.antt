@@ -1,5 +1,6 @@
 -- What a rolling summary keeps, sample by sample, at any moments (this project's rule).
 use Rattle.std.specs.Prelude.{ℕ, zero, suc, ◌+◌, ◌^◌, ◌<◌, ◌≤◌, length, ◌-◌, ◌*◌, ◌/◌, ◌&&◌, ◌||◌, Bool, false, nat_lt, nat_le, List, [], ◌∷◌, ◌++◌, take, filter, flat_map, replicate, position, slice_get, ℤ, Option, Some, None, option_map, unwrap_or, if◌then◌else◌}
+use Rattle.std.specs.List.{All}
 use Rattle.metrics_core.specs.Numbers.{in_64_bits}
 use Rattle.metrics_registry.specs.Quantiles.{ascending}
 use Rattle.rolling_summaries.specs.declared.buckets.Bucket.{Bucket}
@@ -94,10 +95,16 @@ abbrev pub snapshot_at : ℕ → Summary → List ℤ
 snapshot_at t summary =
     ascending (flat_map (λ bucket. bucket.values) (kept_in_window (summary.limit * summary.width) t summary.kept))
 
+-- each bucket begins at least a width after the older ones
+abbrev pub Apart : ℕ → List Bucket → Type 0
+Apart width [] = Unit {0}
+Apart width (bucket ∷ older) = All (λ o. o.begin + width ≤ bucket.begin) older × Apart width older
+
 -- what every summary keeps: it has a bucket at least, a width and a span of 64 bits, and no more buckets than it was
--- built for
+-- built for, which are apart
 pub record IsBuilt (limit width : ℕ) (kept : List Bucket) : Type 0 where
   pub some : 0 < limit
   pub wide : 0 < width
   pub fits : limit * width < 2 ^ 64
   pub within : length kept ≤ limit
+  pub apart : Apart width kept

@@ -1,12 +1,13 @@
 //! The buckets of a summary: which of them takes a sample, where a new one begins, and which are in a window.
 
-ghost use Rattle.std.specs.Prelude.{◌≡◌, ◌<◌, ◌≤◌, ◌*◌, ◌^◌, [], length, flat_map, replicate, IfOk, IsOk, IfSome, OnOk, OnErr, position};
+ghost use Rattle.std.specs.Prelude.{◌≡◌, ◌<◌, ◌≤◌, ◌*◌, ◌^◌, [], length, flat_map, replicate, None, IfOk, IsOk, IfSome, OnOk, OnErr};
 ghost use Rattle.metrics_registry.specs.Quantiles.{ascending};
-ghost use Rattle.rolling_summaries.specs.Summaries.{in_window, takes, ends_search, taker, joined, newest_begin, new_begin, begun, kept_in_window, kept_after};
+ghost use Rattle.rolling_summaries.specs.Summaries.{in_window, takes, taker, joined, newest_begin, new_begin, begun, kept_in_window, kept_after, Apart};
 
 use metrics_core::{Fixed, Memory};
 use metrics_registry::Bag;
 use std::alloc::Global;
+use std::collections::VecDeque;
 
 /// The values of the samples that fall into one bucket of time. A contract sees the buckets that a summary keeps as a list
 /// of these.
@@ -35,38 +36,42 @@ impl Bucket {
     {
         self.begin <= now && now - self.begin < width
     }
+}
 
-    /// Whether the search for the bucket of a sample ends at it.
-    fn ends_search(&self, width: u64, now: u64) -> bool
-        ensures { result ≡ ends_search width now self.now }
+/// The window at a moment of buckets that are kept.
+#[derive(Clone, Copy)]
+pub struct Window {
+    /// How many buckets are kept.
+    pub limit: u32,
+    /// How long a bucket is.
+    pub width: u64,
+    /// The moment.
+    pub now: u64,
+}
+
+impl Window {
+    /// Whether a begin is in it.
+    fn holds(self, begin: u64) -> bool
+        requires { self.limit * self.width < 2 ^ 64 }
+        ensures { result ≡ in_window (self.limit * self.width) self.now begin }
     {
-        (self.begin <= now && width < now - self.begin) || self.takes(width, now)
+        let span = u64::from(self.limit) * self.width;
+        self.now < span || self.now - span < begin
     }
 }
 
-/// Whether a begin is in the window at a moment.
-pub fn is_in_window(span: u64, now: u64, begin: u64) -> bool
-    ensures { result ≡ in_window span now begin }
+/// The place of the bucket that takes a sample at a moment. The newest is tried first, and then the begins are halved.
+fn taker_place(kept: &VecDeque<Bucket>, width: u64, now: u64) -> Option<usize>
+    requires wide { 0 < width }
+    requires apart { Apart width kept.now.items }
+    ensures taker { result ≡ taker width now kept.now.items }
+    ensures within { IfSome result (λ place. place < length kept.now.items) }
 {
-    now < span || now - span < begin
-}
-
-/// The place at which the search for the bucket of a sample ends.
-fn search_end(kept: &[Bucket], width: u64, now: u64) -> Option<usize>
-    ensures end { result ≡ position (ends_search width now) kept.now }
-    ensures within { IfSome result (λ place. place < length kept.now) }
-{
-    kept.iter()
-        .position(|bucket| bucket.ends_search(width, now))
-}
-
-/// The place of the bucket that takes a sample at a moment.
-fn taker_place(kept: &[Bucket], width: u64, now: u64) -> Option<usize>
-    ensures taker { result ≡ taker width now kept.now }
-    ensures within { IfSome result (λ place. place < length kept.now) }
-{
-    let place = search_end(kept, width, now)?;
-    if kept[place].takes(width, now) {
+    if kept.front()?.takes(width, now) {
+        return Some(0);
+    }
+    let place = kept.partition_point(|bucket| now < bucket.begin);
+    if kept.get(place)?.takes(width, now) {
         Some(place)
     } else {
         None
@@ -74,25 +79,27 @@ fn taker_place(kept: &[Bucket], width: u64, now: u64) -> Option<usize>
 }
 
 /// Puts a value so many times to the bucket at a place.
-fn join(kept: &mut [Bucket], place: usize, value: Fixed, count: u32) -> Result<(), Memory>
-    requires { place < length kept.old }
-    ensures joined { OnOk result (kept.new ≡ joined (replicate count value.0) place kept.old) }
-    ensures refused { OnErr result (kept.new ≡ kept.old) }
+fn join(kept: &mut VecDeque<Bucket>, place: usize, value: Fixed, count: u32) -> Result<(), Memory>
+    requires { place < length kept.old.items }
+    ensures joined { OnOk result (kept.new.items ≡ joined (replicate count value.0) place kept.old.items) }
+    ensures refused { OnErr result (kept.new.items ≡ kept.old.items) }
 {
     let bucket = &mut kept[place];
     bucket.values.add(value, u64::from(count))
 }
 
-/// The newest begin in the window at a moment.
-fn newest_in_window(kept: &[Bucket], span: u64, now: u64) -> Option<u64>
-    ensures { result ≡ newest_begin (kept_in_window span now kept.now) }
+/// The newest begin in the window.
+fn newest_in_window(kept: &VecDeque<Bucket>, window: Window) -> Option<u64>
+    requires fits { window.limit * window.width < 2 ^ 64 }
+    requires apart { Apart window.width kept.now.items }
+    ensures { result ≡ newest_begin (kept_in_window (window.limit * window.width) window.now kept.now.items) }
 {
-    for newest in kept {
-        if is_in_window(span, now, newest.begin) {
-            return Some(newest.begin);
-        }
+    let newest = kept.front()?;
+    if window.holds(newest.begin) {
+        Some(newest.begin)
+    } else {
+        None
     }
-    None
 }
 
 /// Where a bucket begins for a sample that no bucket takes, behind the newest begin that is left.
@@ -107,29 +114,25 @@ fn begin_of_new(newest: Option<u64>, width: u64, now: u64) -> Option<u64>
     }
 }
 
-/// Drops the buckets that are out of the window at a moment.
-fn drop_old(kept: &mut Vec<Bucket>, span: u64, now: u64)
-    ensures { kept.new.items ≡ kept_in_window span now kept.old.items }
+/// Drops the buckets that are out of the window. They are the oldest, so it takes time for what it drops alone.
+fn drop_old(kept: &mut VecDeque<Bucket>, window: Window)
+    requires fits { window.limit * window.width < 2 ^ 64 }
+    requires apart { Apart window.width kept.old.items }
+    ensures { kept.new.items ≡ kept_in_window (window.limit * window.width) window.now kept.old.items }
 {
-    kept.retain(|bucket| is_in_window(span, now, bucket.begin));
-}
-
-/// The window of the buckets that are kept at a moment.
-#[derive(Clone, Copy)]
-struct Window {
-    /// How many buckets are kept.
-    limit: u32,
-    /// How long a bucket is.
-    width: u64,
-    /// The moment.
-    now: u64,
+    while let Some(oldest) = kept.back() {
+        if window.holds(oldest.begin) {
+            return;
+        }
+        let _out = kept.pop_back();
+    }
 }
 
 /// Drops the buckets out of the window, and begins one with a value so many times, unless the moment is before the newest
 /// begin that is left.
 fn begin_bucket(
     alloc: Global,
-    kept: &mut Vec<Bucket>,
+    kept: &mut VecDeque<Bucket>,
     window: Window,
     value: Fixed,
     count: u32,
@@ -137,57 +140,64 @@ fn begin_bucket(
     requires some { 0 < window.limit }
     requires wide { 0 < window.width }
     requires fits { window.limit * window.width < 2 ^ 64 }
+    requires apart { Apart window.width kept.old.items }
+    requires none { taker window.width window.now kept.old.items ≡ None }
     ensures begun { let left = kept_in_window (window.limit * window.width) window.now kept.old.items in
         OnOk result (kept.new.items ≡ begun window.limit window.width window.now (replicate count value.0) left) }
     ensures refused { OnErr result (kept.new.items ≡ kept.old.items) }
 {
-    let Window { limit, width, now } = window;
-    let span = u64::from(limit) * width;
-    let newest = newest_in_window(kept.as_slice(), span, now);
-    if let Some(begin) = begin_of_new(newest, width, now) {
+    let newest = newest_in_window(kept, window);
+    if let Some(begin) = begin_of_new(newest, window.width, window.now) {
         let bucket = Bucket::of(alloc, begin, value, count)?;
-        kept.insert(0, bucket)?;
-        drop_old(kept, span, now);
-        kept.truncate(limit as usize);
+        kept.push_front(bucket)?;
+        drop_old(kept, window);
+        kept.truncate(window.limit as usize);
     } else {
-        drop_old(kept, span, now);
+        drop_old(kept, window);
     }
     Ok(())
 }
 
-/// Puts a value so many times to the buckets at a moment: into the one that takes it, or else into a new one.
+/// Puts a value so many times to the buckets: into the one that takes it, or else into a new one.
 pub fn put(
     alloc: Global,
-    kept: &mut Vec<Bucket>,
-    limit: u32,
-    width: u64,
+    kept: &mut VecDeque<Bucket>,
+    window: Window,
     value: Fixed,
-    now: u64,
     count: u32,
 ) -> Result<(), Memory>
-    requires some { 0 < limit }
-    requires wide { 0 < width }
-    requires fits { limit * width < 2 ^ 64 }
-    ensures put { OnOk result (kept.new.items ≡ kept_after limit width now (replicate count value.0) kept.old.items) }
+    requires some { 0 < window.limit }
+    requires wide { 0 < window.width }
+    requires fits { window.limit * window.width < 2 ^ 64 }
+    requires apart { Apart window.width kept.old.items }
+    ensures put { OnOk result (kept.new.items
+        ≡ kept_after window.limit window.width window.now (replicate count value.0) kept.old.items) }
     ensures refused { OnErr result (kept.new.items ≡ kept.old.items) }
 {
-    match taker_place(kept.as_slice(), width, now) {
-        Some(place) => join(kept.as_mut_slice(), place, value, count),
-        None => begin_bucket(alloc, kept, Window { limit, width, now }, value, count),
+    match taker_place(kept, window.width, window.now) {
+        Some(place) => join(kept, place, value, count),
+        None => begin_bucket(alloc, kept, window, value, count),
     }
 }
 
-/// The values of the buckets in the window at a moment.
-pub fn values_in_window(alloc: Global, kept: &[Bucket], span: u64, now: u64) -> Result<Bag, Memory>
-    ensures none { kept.now ≡ [] → IsOk result }
-    ensures values { let shown = flat_map (λ bucket. bucket.values) (kept_in_window span now kept.now) in
+/// The values of the buckets in the window, which are the newest.
+pub fn values_in_window(
+    alloc: Global,
+    kept: &VecDeque<Bucket>,
+    window: Window,
+) -> Result<Bag, Memory>
+    requires fits { window.limit * window.width < 2 ^ 64 }
+    requires apart { Apart window.width kept.now.items }
+    ensures none { kept.now.items ≡ [] → IsOk result }
+    ensures values { let shown = flat_map (λ bucket. bucket.values) (kept_in_window (window.limit * window.width) window.now kept.now.items) in
         IfOk result (λ bag. bag ≡ ascending shown) }
 {
     let mut bag = Bag::new(alloc);
     for bucket in kept {
-        if is_in_window(span, now, bucket.begin) {
-            bag = bag.merged_with(&bucket.values)?;
+        if !window.holds(bucket.begin) {
+            break;
         }
+        bag = bag.merged_with(&bucket.values)?;
     }
     Ok(bag)
 }

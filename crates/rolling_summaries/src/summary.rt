@@ -6,10 +6,11 @@ ghost use Rattle.rolling_summaries.specs.Summaries.{empty_summary, added, snapsh
 ghost use Rattle.rolling_summaries.specs.Standing.{StandsFor, StandsForMore, ShowsWindow, same_samples};
 
 use crate::Bucket;
-use crate::buckets::{put, values_in_window};
+use crate::buckets::{Window, put, values_in_window};
 use metrics_core::{Fixed, Memory};
 use metrics_registry::Bag;
 use std::alloc::Global;
+use std::collections::VecDeque;
 use std::marker::Model;
 use std::num::NonZeroU32;
 
@@ -30,7 +31,7 @@ pub struct RollingSummary {
     limit: u32,
     width: u64,
     /// The newest bucket first.
-    kept: Vec<Bucket>,
+    kept: VecDeque<Bucket>,
     count: u64,
 }
 
@@ -60,7 +61,7 @@ impl RollingSummary {
         RollingSummary {
             limit: buckets.get(),
             width: bucket_duration,
-            kept: Vec::new(alloc),
+            kept: VecDeque::new(alloc),
             count: 0,
         }
     }
@@ -73,7 +74,7 @@ impl RollingSummary {
         RollingSummary {
             limit: DEFAULT_BUCKETS,
             width: DEFAULT_BUCKET_DURATION,
-            kept: Vec::new(alloc),
+            kept: VecDeque::new(alloc),
             count: 0,
         }
     }
@@ -82,7 +83,8 @@ impl RollingSummary {
     /// nothing. It comes also where the sample's bucket would hold 2^64 values or more.
     ///
     /// A sample before the newest bucket joins the one that it falls into, if that is kept. Otherwise it is counted and
-    /// forgotten.
+    /// forgotten. The newest bucket is tried first, and another is found in time by the logarithm of the buckets. A bucket
+    /// begins, and leaves, in constant time, amortized.
     pub fn add(&mut self, alloc: Global, value: Fixed, now: u64, count: u32) -> Result<(), Memory>
         ensures added { OnOk result (self.new ≡ added now value.0 count self.old) }
         ensures refused { OnErr result (self.new ≡ self.old) }
@@ -92,28 +94,29 @@ impl RollingSummary {
         if count == 0 {
             return Ok(());
         }
-        put(
-            alloc,
-            &mut self.kept,
-            self.limit,
-            self.width,
-            value,
+        let window = Window {
+            limit: self.limit,
+            width: self.width,
             now,
-            count,
-        )?;
+        };
+        put(alloc, &mut self.kept, window, value, count)?;
         self.count = self.count.wrapping_add(u64::from(count));
         Ok(())
     }
 
-    /// The values of the window at a moment. It takes memory for the distinct values of the window, and time by their number
-    /// and its logarithm. Where no bucket is kept, it is never refused.
+    /// The values of the window at a moment. It takes memory for the distinct values of the window, and time by those of its
+    /// buckets, with their logarithm. Buckets out of the window take none. Where no bucket is kept, it is never refused.
     pub fn snapshot(&self, alloc: Global, now: u64) -> Result<Bag, Memory>
         ensures none { self.now.kept ≡ [] → IsOk result }
         ensures snapshot { IfOk result (λ bag. bag ≡ snapshot_at now self.now) }
         ensures window { IfOk result (ShowsWindow self.now now) }
     {
-        let span = u64::from(self.limit) * self.width;
-        values_in_window(alloc, self.kept.as_slice(), span, now)
+        let window = Window {
+            limit: self.limit,
+            width: self.width,
+            now,
+        };
+        values_in_window(alloc, &self.kept, window)
     }
 
     /// Whether there was no sample so far. Since the number of samples is kept modulo 2^64, it is so too after each 2^64

@@ -1,4 +1,4 @@
-use Rattle.std.proofs.Common.{◌++◌, get_or, ap, ◌∙◌}
+use Rattle.std.proofs.Common.{◌++◌, ap, ◌∙◌}
 use Rattle.std.specs.Prelude.{replicate}
 use Rattle.std.proofs.lemmas.Result.{on_ok_weaker}
 use Rattle.metrics_registry.specs.Quantiles.{ascending}
@@ -7,10 +7,10 @@ use Rattle.rolling_summaries.proofs.buckets.join.Goals as goal
 
 pub returns-clause-joined : goal.returns-clause-joined
 returns-clause-joined c =
-    let kept = c.args.kept.now in
-    let here = get_or kept c.args.place c.index-kept-place.result in
+    let kept = c.args.kept.now.items in
+    let bucket = c.index_mut-bucket.result.now in
     on_ok_weaker c.add.result
     (λ added.
-    joined-at (replicate c.args.count c.args.value.0) c.add.new.self c.args.place kept c.index-kept-place.result c.requires
-    (added ∙ ap (λ n. ascending (here.values ++ replicate n c.args.value.0)) c.from.ensures))
+    joined-at (replicate c.args.count c.args.value.0) c.add.new.self c.args.place kept bucket c.requires c.index_mut-bucket.ensures.value
+    (added ∙ ap (λ n. ascending (bucket.values ++ replicate n c.args.value.0)) c.from.ensures))
     c.add.ensures.added

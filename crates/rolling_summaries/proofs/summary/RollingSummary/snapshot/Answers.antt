@@ -1,8 +1,6 @@
-use Rattle.std.proofs.Common.{◌*◌, ap, ◌∙◌}
+use Rattle.std.proofs.Common.{ap, ◌∙◌}
 use Rattle.std.proofs.lemmas.Result.{IfOk-weaker}
-use Rattle.metrics_registry.specs.Quantiles.{ascending}
-use Rattle.rolling_summaries.specs.Summaries.{kept_in_window, snapshot_at}
-use Rattle.rolling_summaries.proofs.Kept.{values_of}
+use Rattle.rolling_summaries.specs.Summaries.{snapshot_at}
 use Rattle.rolling_summaries.proofs.Held.{snapshot-window}
 use Rattle.rolling_summaries.proofs.summary.RollingSummary.snapshot.Goals as goal
 
@@ -11,7 +9,6 @@ returns-clause-window c =
     IfOk-weaker c.values_in_window.result _ _
     (λ bag is samples stands before.
     is
-    ∙ (λ j. ascending (values_of (kept_in_window (c.from.ensures j * c.self.inside.width) c.args.now (c.as_slice.ensures.value j))))
     ∙ ap (snapshot_at c.args.now) c.self.view_is
     ∙ snapshot-window c.args.self.now c.args.now samples stands before)
     c.values_in_window.ensures.values
