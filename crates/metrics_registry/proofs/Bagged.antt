@@ -1,6 +1,6 @@
 -- Bags as maps from values to counts.
 use Rattle.std.proofs.Common.{◌≡◌, ℕ, zero, suc, ◌+◌, ◌-◌, ◌*◌, ◌<◌, ◌≤◌, Bool, true, false, cond, List, [], ◌∷◌, ◌++◌, length, Some, refl, sym, ap, ◌∙◌, arith, zero-add}
-use Rattle.std.specs.Prelude.{ℤ, count_by, replicate, slice_get, unwrap_or}
+use Rattle.std.specs.Prelude.{ℤ, Option, count_by, replicate, slice_get, unwrap_or}
 use Rattle.std.specs.List.{AllByRecursion}
 use Rattle.std.specs.List.Sorted.{IsStrictlySortedBy}
 use Rattle.std.specs.Map.{lookup, keys_of}
@@ -34,7 +34,7 @@ copies-above k (e ∷ es) above =
     ∙ copies-above k es above.1
 
 -- in order, the copies of a value are what is found at it
-pub copies-found : (v : ℤ) (es : List (ℤ × ℕ)) → IsStrictlySortedBy int_cmp (keys_of es) → copies v es ≡ unwrap_or (lookup (λ k. int_eq v k) es) 0
+copies-found : (v : ℤ) (es : List (ℤ × ℕ)) → IsStrictlySortedBy int_cmp (keys_of es) → copies v es ≡ unwrap_or (lookup (λ k. int_eq v k) es) 0
 unfolding IsStrictlySortedBy
 copies-found v [] ordered = refl
 copies-found v (e ∷ es) ordered =
@@ -44,6 +44,11 @@ copies-found v (e ∷ es) ordered =
         → cond b e.1 0 + copies v es ≡ unwrap_or (cond b (Some e.1) (lookup (λ k. int_eq v k) es)) 0
     by true own rest none = ap (λ m. e.1 + m) (ap (λ k. copies k es) ((signed_Decides v e.0).0 own) ∙ none) ∙ omega arith
     by false own rest none = omega (arith, rest)
+
+-- in another writing of the value
+pub copies-held : (v k : ℤ) (n : ℕ) (o : Option ℕ) (es : List (ℤ × ℕ)) → IsStrictlySortedBy int_cmp (keys_of es) → k ≡ v → n ≡ unwrap_or o 0 → o ≡ lookup (λ l. int_eq k l) es → n ≡ copies v es
+copies-held v k n o es ordered own is found =
+    is ∙ ap (λ o. unwrap_or o 0) (found ∙ ap (λ q. lookup (λ l. int_eq q l) es) own) ∙ sym (copies-found v es ordered)
 
 pub copies-length : (v : ℤ) (es : List (ℤ × ℕ)) → copies v es ≤ length (repeated es)
 copies-length v es = count_by-le-length (int_eq v) (repeated es)

@@ -2,5 +2,6 @@ pub mod Found
 pub mod StoredSeries
 pub mod Observed
 pub mod Bagged
+pub mod Ranked
 pub mod RetainedSeries
 pub mod IdTests

@@ -13,7 +13,7 @@ use Rattle.std.specs.Prelude.{◌||◌}
 use Rattle.std.proofs.Common.{inl, inr}
 use Rattle.std.proofs.lemmas.Bool.{cases_lt}
 use Rattle.std.proofs.lemmas.Bool.Decides.{nat_tests}
-use Rattle.std.proofs.lemmas.Option.{slice_get-get_or, slice_get_read, slice_get_within}
+use Rattle.std.proofs.lemmas.Option.{slice_get-get_or, slice_get_past, slice_get_read, slice_get_within}
 use Rattle.std.proofs.lemmas.List.Folds.{find_at}
 use denote.Enum.Bare.{sameb}
 use Rattle.metrics_core.specs.contracts.kinds.MetricKind.{the_type}
@@ -289,27 +289,34 @@ module _ {X : Type 0} where
       ∙ (λ j. take (long j) (is j))
       ∙ take-append_seam before (last ∷ [])
 
-  -- ---- the cell at a place
+  -- ---- the series at a place
 
-  pub cell-no_key : (ks : List KeyText) (ss : List (Series X)) (i : ℕ) → slice_get ks i ≡ None → option_map (λ series. series.cell) (slice_get (live_of ks ss) i) ≡ None
-  cell-no_key [] ss zero none = refl
-  cell-no_key [] ss (suc i) none = refl
-  cell-no_key (k ∷ ks) [] zero none = refl
-  cell-no_key (k ∷ ks) [] (suc i) none = refl
-  cell-no_key (k ∷ ks) (s ∷ ss) zero none = cc
-  cell-no_key (k ∷ ks) (s ∷ ss) (suc i) none = cell-no_key ks ss i none
+  pub series-no_key : (ks : List KeyText) (ss : List (Series X)) (i : ℕ) → slice_get ks i ≡ None → slice_get (live_of ks ss) i ≡ None
+  series-no_key [] ss zero none = refl
+  series-no_key [] ss (suc i) none = refl
+  series-no_key (k ∷ ks) [] zero none = refl
+  series-no_key (k ∷ ks) [] (suc i) none = refl
+  series-no_key (k ∷ ks) (s ∷ ss) zero none = cc
+  series-no_key (k ∷ ks) (s ∷ ss) (suc i) none = series-no_key ks ss i none
 
-  pub cell-no_series : (ks : List KeyText) (ss : List (Series X)) (i : ℕ) → slice_get ss i ≡ None → option_map (λ series. series.cell) (slice_get (live_of ks ss) i) ≡ None
-  cell-no_series [] ss zero none = refl
-  cell-no_series [] ss (suc i) none = refl
-  cell-no_series (k ∷ ks) [] zero none = refl
-  cell-no_series (k ∷ ks) [] (suc i) none = refl
-  cell-no_series (k ∷ ks) (s ∷ ss) zero none = cc
-  cell-no_series (k ∷ ks) (s ∷ ss) (suc i) none = cell-no_series ks ss i none
+  pub series-no_cell : (ks : List KeyText) (ss : List (Series X)) (i : ℕ) → slice_get ss i ≡ None → slice_get (live_of ks ss) i ≡ None
+  series-no_cell [] ss zero none = refl
+  series-no_cell [] ss (suc i) none = refl
+  series-no_cell (k ∷ ks) [] zero none = refl
+  series-no_cell (k ∷ ks) [] (suc i) none = refl
+  series-no_cell (k ∷ ks) (s ∷ ss) zero none = cc
+  series-no_cell (k ∷ ks) (s ∷ ss) (suc i) none = series-no_cell ks ss i none
 
-  pub cell-both : (ks : List KeyText) (ss : List (Series X)) (i : ℕ) (k : KeyText) (s : Series X) → slice_get ks i ≡ Some k → slice_get ss i ≡ Some s
-      → option_map (λ series. series.cell) (slice_get (live_of ks ss) i) ≡ Some s.cell
-  cell-both [] ss i k s key at = cc
-  cell-both (l ∷ ks) [] i k s key at = cc
-  cell-both (l ∷ ks) (x ∷ ss) zero k s key at = let is : x ≡ s = cc in ap (λ (y : Series X). Some y.cell) is
-  cell-both (l ∷ ks) (x ∷ ss) (suc i) k s key at = cell-both ks ss i k s key at
+  pub series-both : (ks : List KeyText) (ss : List (Series X)) (i : ℕ) (k : KeyText) (s : Series X) → slice_get ks i ≡ Some k → slice_get ss i ≡ Some s
+      → slice_get (live_of ks ss) i ≡ Some (record { id = s.id; key = k; cell = s.cell })
+  series-both [] ss i k s key at = cc
+  series-both (l ∷ ks) [] i k s key at = cc
+  series-both (l ∷ ks) (x ∷ ss) zero k s key at = let is : x ≡ s = cc in let same : l ≡ k = cc in (λ j. Some (record { id = (is j).id; key = same j; cell = (is j).cell }))
+  series-both (l ∷ ks) (x ∷ ss) (suc i) k s key at = series-both ks ss i k s key at
+
+-- the place where a found item stands
+pub stands-at : {Y : Type 0} (ys : List Y) (i : ℕ) (y : Y) → true ≡ nat_lt i (length ys) → y ≡ get_or ys i y → slice_get ys i ≡ Some y
+stands-at ys i y inside is = slice_get-get_or ys i y (let lt : nat_lt i (length ys) ≡ true = sym inside in grind (arith, nat_tests)) ∙ ap Some (sym is)
+
+pub past-end : {Y : Type 0} (ys : List Y) (i : ℕ) → false ≡ nat_lt i (length ys) → slice_get ys i ≡ None
+past-end ys i outside = slice_get_past ys i (let lt : nat_lt i (length ys) ≡ false = sym outside in grind (arith, nat_tests))

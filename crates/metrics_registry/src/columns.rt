@@ -47,8 +47,20 @@ impl<T> Column<T> {
         Some(self.items[place].id)
     }
 
-    /// The place of the series with the id. The ids stand in the order of their numbers.
+    /// The place of the series with the id. The one that was added last is found at once.
     pub(crate) fn place(&self, id: SeriesId) -> Option<usize>
+        ensures { (keys : List KeyText) → AreStored keys self.now.items.items
+            → IsPlace id (live_of keys self.now.items.items) result }
+    {
+        let count = self.items.len();
+        if count > 0 && self.items[count - 1].id == id {
+            return Some(count - 1);
+        }
+        self.searched_place(id)
+    }
+
+    /// The place of the series with the id, by a search: the ids stand in the order of their numbers.
+    fn searched_place(&self, id: SeriesId) -> Option<usize>
         ensures { (keys : List KeyText) → AreStored keys self.now.items.items
             → IsPlace id (live_of keys self.now.items.items) result }
     {
@@ -245,6 +257,15 @@ impl<'a, T> Model for SeriesIter<'a, T> {
 impl<'a, T> SeriesIter<'a, T> {
     ghost use Rattle.std.specs.Prelude.{◌≡◌, slice_get, option_map};
     ghost use Rattle.std.specs.Option.{option_copied};
+
+    /// The key of the series at a place, from 0, if there is one.
+    pub fn key(&self, place: usize) -> Option<&'a Key>
+        ensures { option_copied result ≡ option_map (λ series. series.key) (slice_get self.now place) }
+    {
+        let _series = self.series.get(place)?;
+        let key = self.keys.get(place)?;
+        Some(key)
+    }
 
     /// The cell of the series at a place, from 0, if there is one.
     pub fn cell(&self, place: usize) -> Option<&'a T>

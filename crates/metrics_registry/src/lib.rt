@@ -12,6 +12,7 @@ mod columns;
 mod cumulative;
 mod laws;
 mod quantiles;
+mod ranks;
 mod recency;
 mod registry;
 

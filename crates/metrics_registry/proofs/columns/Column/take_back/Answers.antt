@@ -1,4 +1,4 @@
-use Rattle.std.proofs.Common.{◌≡◌, ◌-◌, length, take, sym, ap, ◌∙◌, arith}
+use Rattle.std.proofs.Common.{◌≡◌, ◌-◌, length, take, ap, ◌∙◌, arith}
 use Rattle.metrics_registry.specs.Stored.{live_of}
 use Rattle.metrics_registry.proofs.StoredSeries.{stored-take, live_of-others}
 use Rattle.metrics_registry.proofs.columns.Column.take_back.Goals as goal

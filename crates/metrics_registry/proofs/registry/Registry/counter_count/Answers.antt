@@ -1,4 +1,4 @@
-use Rattle.std.proofs.Common.{◌≡◌, ◌+◌, ◌<◌, ℕ, List, length, sym, ap, subst, ◌∙◌, arith}
+use Rattle.std.proofs.Common.{sym, ◌∙◌, arith}
 use Rattle.metrics_registry.proofs.StoredSeries.{length-live_of}
 use Rattle.metrics_registry.proofs.registry.Registry.counter_count.Goals as goal
 
