@@ -20,8 +20,9 @@ use Rattle.cell_lanes.specs.declared.lane.Lane.{Lane}
 use Rattle.cell_lanes.specs.declared.lane.Slot.{Slot}
 use Rattle.cell_lanes.specs.declared.lane.Job.{Job}
 use Rattle.cell_lanes.specs.Calls.{StandAs}
-use Rattle.cell_lanes.specs.Lanes.{Each, AtRest, Home, Same, Grew, AllDone, AllFit, LineFit, Lends, Takes, cells_of, is_through, is_on, slot_calls, cell_calls, calls_on, all_calls_on, slot_news, given, lent_on, all_given, done_of, JobsRan}
+use Rattle.cell_lanes.specs.Lanes.{Each, SettledAt, AtRest, Home, Same, Grew, AllDone, AllFit, Named, LineFit, Lends, Takes, cells_of, is_through, is_on, slot_calls, cell_calls, calls_on, all_calls_on, slot_news, given, lent_on, all_given, done_of, JobsRan}
 use Rattle.cell_lanes.proofs.Lists.{at_or, or_at, below_some, take_whole}
+use Rattle.cell_lanes.proofs.Resting.{settled_as}
 use Rattle.cell_lanes.proofs.Running.{take_none}
 
 pub in_at : (xs : List ℕ) (i j : ℕ) → get_elem? xs i ≡ some j → In j xs
@@ -333,6 +334,25 @@ module _ {L M : Type 0} (knows : L → View M) where
     each_lane : (l : ℕ) → StandAs stands (calls_on j ls (done_of jobs) l) (lane_calls (all_given knows j 0 jobs) l)
     each_lane l = dite (dec_le (suc l) (length jobs)) (λ (h : suc l ≤ length jobs). of_lane l (omega arith)) (λ (h : ¬ (suc l ≤ length jobs)). of_none l (omega (arith, lt_of_not-le h)))
 
+    -- a pass that came back is of a cell that a lane names
+    came_named : (x : ℕ × Held M) → Mem x (all_given knows j 0 jobs) → Named j ls
+    came_named x m =
+        let g = all_from j 0 jobs x m in
+        let a = below_some ls g.0 (let b = some_below jobs g.0 g.1 g.2 in omega arith) in
+        let slots = g.1.slots.items in
+        let cell = subst (λ cs. get_elem? cs g.3.0 ≡ some j) (ran g.0 a.0 g.1 a.1 g.2).some_cells (at_cell slots g.3.0 g.3.1 g.3.2 ∙ ap some g.3.3) in
+        (g.0, a.0, a.1, (g.3.0, take_at (length slots) a.0.cells.items g.3.0 j cell))
+
+    -- a root is settled after a round if it was before, once what lanes name is settled
+    settled_of : {S : Type 0} (root : S → View M) (stays : S → S → Type 0) (c0 c1 c2 : S) → Settled (root c0) → Lends root stays (lent_on j jobs) c0 c1 → Takes root stays (all_given knows j 0 jobs) c1 c2 → (Named j ls → Settled (root c2)) → Settled (root c2)
+    settled_of root stays c0 c1 c2 known lends takes named = by_news (all_given knows j 0 jobs) refl
+      where
+        by_news : (news : List (ℕ × Held M)) → news ≡ all_given knows j 0 jobs → Settled (root c2)
+        by_news [] e =
+            let same : root c2 ≡ root c1 = takes.still (sym e) in
+            settled_as (root c0) (root c2) (ap (λ (v : View M). v.seen) same ∙ lends.seen) (ap (λ (v : View M). v.mine) same ∙ lends.mine) (ap (λ (v : View M). v.joined) same ∙ lends.joined) known
+        by_news (x ∷ news) e = named (came_named x (subst (Mem x) e (inl refl)))
+
     -- one thing over a round
     round_of : {S : Type 0} (root : S → View M) (stays : S → S → Type 0) (c0 c1 c2 c3 : S) → Settled (root c0) → Lends root stays (lent_on j jobs) c0 c1 → Takes root stays (all_given knows j 0 jobs) c1 c2 → root c3 ≡ root c2 → Settled (root c3)
         → Grew root stands ls (done_of jobs) j c0 c3
@@ -361,6 +381,14 @@ module _ {L M : Type 0} (knows : L → View M) where
         let a = (lends j q0.0 q1.0 q0.1 q1.1).out in
         let c = (takes j q1.0 p q1.1 e).out in
         omega (arith, all_count j 0 jobs)
+
+    -- once what lanes name is settled, all are at rest
+    pub all_rest : {K : Type 0} (stands : K → List M → Type 0) (count : ℕ) (ls : List (Lane K)) → AllFit count ls → length jobs ≤ length ls → JobsRan knows stands ls jobs → ((j : ℕ) → Named j ls → SettledAt root r2 j) → AtRest root r2
+    all_rest stands count ls fit few ran named j p e =
+        let b : j < length r2 = some_below r2 j p e in
+        let q1 = below_some r1 j (omega arith) in
+        let q0 = below_some r0 j (omega arith) in
+        (all_home j p e, settled_of stands j count ls jobs fit few ran root stays q0.0 q1.0 p (rest j q0.0 q0.1).1 (lends j q0.0 q1.0 q0.1 q1.1) (takes j q1.0 p q1.1 e) (λ n. named j n p e))
 
     pub all_grew : {K : Type 0} (stands : K → List M → Type 0) (count : ℕ) (ls : List (Lane K)) (fit : AllFit count ls) (few : length jobs ≤ length ls) (ran : JobsRan knows stands ls jobs)
         (r3 : List S) → length r3 ≡ length r2 → Each (λ j. Same root stays) r2 r3 → AtRest root r3 → Each (Grew root stands ls (done_of jobs)) r0 r3

@@ -8,7 +8,7 @@ use Rattle.atomic_table.proofs.Lists.{at_set}
 use Rattle.legal_history.specs.declared.history.Entry.{Entry}
 use Rattle.legal_history.specs.declared.history.Held.{Held}
 use Rattle.legal_history.specs.declared.history.View.{View}
-use Rattle.legal_history.specs.History.{In, Among, Joined, after, calls_by, numbers, said, Sees, Settled}
+use Rattle.legal_history.specs.History.{In, Distinct, Among, Joined, after, calls_by, numbers, said, Sees, Settled}
 use Rattle.legal_history.proofs.Steps.{others_stay, own_grow}
 use Rattle.cell_lanes.specs.Lanes.{AtRest, Roots}
 
@@ -16,6 +16,15 @@ module _ {C : Type 0} where
   among_number : (h : Held C) (hs : List (Held C)) → Among h hs → In h.by (numbers hs)
   among_number h [] q = absurd q
   among_number h (x ∷ hs) q = ⊎_elim (λ (e : h ≡ x). inl (ap (λ (k : Held C). k.by) e)) (λ (r : Among h hs). inr (among_number h hs r)) q
+
+  -- one root knows whose each call is where another does that has seen and has made the same, and to which the same was given back
+  pub settled_as : (v w : View C) → w.seen ≡ v.seen → w.mine ≡ v.mine → w.joined ≡ v.joined → Settled v → Settled w
+  settled_as v w seen mine joined s = record {
+    own = ap (calls_by 0) seen ∙ (s.own ∙ sym mine);
+    back = λ h a. ap (calls_by h.by) seen ∙ s.back h (subst (Among h) joined a);
+    cover = λ t. subst (λ (x : List (Entry C) × List (Held C)). (calls_by t x.0 ≡ []) ⊎ ((t ≡ 0) ⊎ Joined t x.1)) (λ i. (sym seen i, sym joined i)) (s.cover t);
+    apart = subst (λ hs. Distinct (0 ∷ numbers hs)) (sym joined) s.apart;
+  }
 
   -- the root knows whose each call is, also with calls of its own
   settled_own : (v : View C) (cs : List C) → v.number ≡ 0 → Settled v → Settled (after v v.seen cs)

@@ -9,7 +9,7 @@ use Rattle.legal_history.specs.declared.history.View.{View}
 use Rattle.legal_history.specs.History.{held, keep, longer}
 use Rattle.legal_history.specs.News.{helds}
 use Rattle.legal_history.proofs.Prefixes.{prefix_self, prefix_trans}
-use Rattle.legal_history.proofs.Steps.{longer_first}
+use Rattle.legal_history.proofs.Steps.{empty_list, longer_first}
 use Rattle.cell_lanes.specs.declared.lane.Slot.{Slot}
 use Rattle.cell_lanes.specs.declared.lane.Job.{Job}
 use Rattle.cell_lanes.specs.Things.{TookBack}
@@ -42,7 +42,7 @@ module _ {S M : Type 0} (root : S → View M) (stays : S → S → Type 0) where
 
 module _ {S M : Type 0} (root : S → View M) (stays : S → S → Type 0) (stays_none : (c : S) → stays c c) (stays_then : (c d e : S) → stays c d → stays d e → stays c e) where
   pub takes_none : (c : S) → Takes root stays [] c c
-  takes_none c = record { kept = stays_none c; number = refl; mine = refl; joined = sym (append-nil (root c).joined); seen = prefix_self (root c).seen; out = omega arith }
+  takes_none c = record { kept = stays_none c; number = refl; mine = refl; joined = sym (append-nil (root c).joined); seen = prefix_self (root c).seen; out = omega arith; still = λ none. refl }
 
   takes_both : (xs ys : List (ℕ × Held M)) (c d e : S) → Takes root stays xs c d → Takes root stays ys d e → Takes root stays (xs ++ ys) c e
   takes_both xs ys c d e a b = record {
@@ -52,6 +52,10 @@ module _ {S M : Type 0} (root : S → View M) (stays : S → S → Type 0) (stay
     joined = b.joined ∙ (ap (λ h. h ++ helds ys) a.joined ∙ (append_assoc (root c).joined (helds xs) (helds ys) ∙ ap (λ h. (root c).joined ++ h) (sym (helds-append xs ys))));
     seen = prefix_trans (root c).seen (root d).seen (root e).seen a.seen b.seen;
     out = let x = a.out in let y = b.out in omega (arith, length-append xs ys);
+    still = λ none.
+        let no_first : length xs ≡ 0 = omega (arith, ap length none, length-append xs ys) in
+        let no_second : length ys ≡ 0 = omega (arith, ap length none, length-append xs ys) in
+        b.still (empty_list ys no_second) ∙ a.still (empty_list xs no_first);
   }
 
   takes_one : {L : Type 0} (knows : L → View M) (l : ℕ) (x : Slot L) (c d : S) → TookBack (root c) (knows x.lent) (root d) → stays c d → Takes root stays (came knows l x ∷ []) c d
@@ -62,6 +66,7 @@ module _ {S M : Type 0} (root : S → View M) (stays : S → S → Type 0) (stay
     joined = took.joined;
     seen = prefix_trans (root c).seen (longer (root c).seen (knows x.lent).seen) (root d).seen (longer_first (root c).seen (knows x.lent).seen) took.seen;
     out = took.out;
+    still = λ none. absurd (let one = ap length none in omega arith);
   }
 
   pub taking_none : (all : ℕ → List (ℕ × Held M)) (j : ℕ) (c : S) → Taking root stays all all j c c

@@ -84,6 +84,10 @@ module _ {K : Type 0} where
   abbrev pub AllInOrder : ℕ → List (Lane K) → Type 0
   AllInOrder count lanes = (l : ℕ) (x : Lane K) → get_elem? lanes l ≡ some x → InOrder count x
 
+  -- a lane names cell j
+  abbrev pub Named : ℕ → List (Lane K) → Type 0
+  Named j lanes = (l : ℕ) × (x : Lane K) × (get_elem? lanes l ≡ some x) × ((s : ℕ) × (get_elem? x.cells.items s ≡ some j))
+
 -- a relation of each one before and after
 abbrev pub Each : {S : Type 0} → (ℕ → S → S → Type 0) → List S → List S → Type 0
 Each {S} R cs ds = (j : ℕ) (c d : S) → get_elem? cs j ≡ some c → get_elem? ds j ≡ some d → R j c d
@@ -136,6 +140,10 @@ module _ {S M : Type 0} (root : S → View M) where
   abbrev pub Home : List S → Type 0
   Home cs = (j : ℕ) (c : S) → get_elem? cs j ≡ some c → (root c).out ≡ 0
 
+  -- the root at this index knows whose each call is
+  abbrev pub SettledAt : List S → ℕ → Type 0
+  SettledAt cs j = (c : S) → get_elem? cs j ≡ some c → Settled (root c)
+
   -- no pass is out, and each root knows whose each call is
   abbrev pub AtRest : List S → Type 0
   AtRest cs = (j : ℕ) (c : S) → get_elem? cs j ≡ some c → ((root c).out ≡ 0) × Settled (root c)
@@ -158,7 +166,7 @@ module _ {S M : Type 0} (root : S → View M) (stays : S → S → Type 0) where
     pub seen : (root d).seen ≡ (root c).seen
     pub out : (root d).out ≡ (root c).out + n
 
-  -- these passes were given back
+  -- these passes were given back; where there are none, the root is as it was
   pub record Takes (news : List (ℕ × Held M)) (c d : S) : Type 0 where
     pub kept : stays c d
     pub number : (root d).number ≡ (root c).number
@@ -166,6 +174,7 @@ module _ {S M : Type 0} (root : S → View M) (stays : S → S → Type 0) where
     pub joined : (root d).joined ≡ (root c).joined ++ helds news
     pub seen : IsPrefix (root c).seen (root d).seen
     pub out : (root d).out ≡ (root c).out - length news
+    pub still : news ≡ [] → root d ≡ root c
 
   -- nothing was lent or given back
   pub record Same (c d : S) : Type 0 where

@@ -1,3 +1,4 @@
 pub mod Calls
 pub mod Things
 pub mod Lanes
+pub mod Owned

@@ -11,9 +11,9 @@ pub trait Lenders: Send {
     ghost use mathlib.Core.Option.{some};
     ghost use lib.ListN.{get_elem?};
     ghost use Rattle.legal_history.specs.declared.history.View.{View};
-    ghost use Rattle.legal_history.specs.History.{Settled, lender, child};
+    ghost use Rattle.legal_history.specs.History.{lender, child};
     ghost use Rattle.cell_lanes.specs.Calls.{Made};
-    ghost use Rattle.cell_lanes.specs.Lanes.{Roots, Home};
+    ghost use Rattle.cell_lanes.specs.Lanes.{SettledAt};
     ghost use Rattle.cell_lanes.specs.Things.{Thing, TookBack, root_of};
 
     /// A pass that is lent, with what it needs to make calls.
@@ -79,12 +79,12 @@ pub trait Lenders: Send {
             → (u : Thing Self.Entry Self.Lasting) × TookBack t.root (knows lent) u.root × (u.fixed ≡ t.fixed) × (things self.new ≡ set (things self.old) index u) }
         ensures frame { frame self.new ≡ frame self.old };
 
-    /// With no pass out, makes sure that each root knows whose each call is.
-    fn settle<R: Wait>(&mut self, rt: &R)
-        requires roots { Roots root_of (things self.old) }
-        requires home { Home root_of (things self.old) }
+    /// With no pass of the thing with this index out, makes sure that its root knows whose each call is.
+    fn settle<R: Wait>(&mut self, rt: &R, index: usize)
+        requires here { index < length (things self.old) }
+        requires home { (t : Thing Self.Entry Self.Lasting) → get_elem? (things self.old) index ≡ some t → (t.root.number ≡ 0) × (t.root.out ≡ 0) }
         ensures same { things self.new ≡ things self.old }
-        ensures settled { (j : ℕ) (t : Thing Self.Entry Self.Lasting) → get_elem? (things self.old) j ≡ some t → Settled t.root }
+        ensures settled { SettledAt root_of (things self.old) index }
         ensures frame { frame self.new ≡ frame self.old };
 }
 
@@ -131,9 +131,7 @@ impl<S: Lender> Lenders for Vec<S> {
         self[index].take_back(lent);
     }
 
-    fn settle<R: Wait>(&mut self, rt: &R) {
-        for j in 0..self.len() {
-            self[j].settle(rt);
-        }
+    fn settle<R: Wait>(&mut self, rt: &R, index: usize) {
+        self[index].settle(rt);
     }
 }

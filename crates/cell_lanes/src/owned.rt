@@ -1,5 +1,6 @@
 //! A cell as a state keeps it, with its root pass, and how it is lent to lanes.
-ghost use Rattle.std.specs.Prelude.{◌≡◌};
+ghost use Rattle.std.specs.Prelude.{◌≡◌, ◌-◌, ℕ, true};
+ghost use Rattle.cell_lanes.specs.Owned.{counts};
 ghost use Rattle.std.specs.Arc.{arc_value};
 
 use crate::cell::{SharedCell, ValueCell};
@@ -14,7 +15,10 @@ use std::sync::{Arc, Wait};
 #[derive(Drop)]
 pub struct OwnedCell<C: SharedCell> {
     cell: Arc<C>,
+    /// How many passes are out; the greatest number stands for any.
+    out: u32,
     root: C::Pass,
+    ghost counted: { counts out (C.view root).out ≡ true },
     ghost own: { C.is_pass (arc_value cell) root } by { C.is_one_fact (arc_value cell) root },
     ghost first: { (C.view root).number ≡ 0 },
 }
@@ -29,7 +33,7 @@ impl<C: SharedCell> Model for OwnedCell<C> {
 }
 
 impl<C: SharedCell> OwnedCell<C> {
-    ghost use Rattle.std.specs.Prelude.{IfOk, OnOk, OnErr};
+    ghost use Rattle.std.specs.Prelude.{IfOk, IsTrue, OnOk, OnErr};
     ghost use Rattle.legal_history.specs.History.{lender, child, taker};
     ghost use Rattle.cell_lanes.specs.Calls.{Made, Found};
 
@@ -37,10 +41,11 @@ impl<C: SharedCell> OwnedCell<C> {
     pub fn new(alloc: Global, cell: C, root: C::Pass) -> Result<OwnedCell<C>, Memory>
         requires pass { C.is_pass cell root }
         requires root { (C.view root).number ≡ 0 }
+        requires home { (C.view root).out ≡ 0 }
         ensures { IfOk result (λ made. made ≡ record { root = C.view root; fixed = cell }) }
     {
         let cell = Arc::new(alloc, cell)?;
-        Ok(OwnedCell { cell, root })
+        Ok(OwnedCell { cell, out: 0, root })
     }
 
     /// The cell itself, once more.
@@ -77,6 +82,7 @@ impl<C: SharedCell> OwnedCell<C> {
     {
         let cell = self.share()?;
         let pass = self.cell.split(alloc, &mut self.root)?;
+        self.out = self.out.saturating_add(1);
         Ok((cell, pass))
     }
 
@@ -87,6 +93,25 @@ impl<C: SharedCell> OwnedCell<C> {
         ensures cell { self.new.fixed ≡ self.old.fixed }
     {
         self.cell.join(&mut self.root, pass);
+        self.out = one_less(self.out);
+    }
+
+    /// Whether no pass is out for sure. Where more than 2^32 - 2 were out at once it is never so again.
+    pub fn is_home(&self) -> bool
+        ensures { IsTrue result → self.now.root.out ≡ 0 }
+    {
+        self.out == 0
+    }
+}
+
+/// The number of passes that are out when one of them came back.
+fn one_less(out: u32) -> u32
+    ensures { (n : ℕ) → counts out n ≡ true → counts result (n - 1) ≡ true }
+{
+    if out == u32::MAX {
+        out
+    } else {
+        out.saturating_sub(1)
     }
 }
 
@@ -129,6 +154,7 @@ impl<C: SharedCell> Lender for OwnedCell<C> {
     fn lend(&mut self, alloc: Global) -> Result<LentCell<C>, Memory> {
         let cell = Arc::try_clone(&self.cell)?;
         let pass = self.cell.split(alloc, &mut self.root)?;
+        self.out = self.out.saturating_add(1);
         Ok(LentCell { cell, pass })
     }
 
@@ -144,6 +170,7 @@ impl<C: SharedCell> Lender for OwnedCell<C> {
     fn take_back(&mut self, lent: LentCell<C>) {
         let LentCell { cell: _, pass } = lent;
         self.cell.join(&mut self.root, pass);
+        self.out = one_less(self.out);
     }
 
     fn settle<R: Wait>(&mut self, rt: &R) {

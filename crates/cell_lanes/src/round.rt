@@ -7,7 +7,7 @@ ghost use Rattle.cell_lanes.specs.declared.lane.Line.{Line};
 ghost use Rattle.cell_lanes.specs.declared.lane.Lane.{Lane};
 ghost use Rattle.cell_lanes.specs.declared.lane.Job.{Job};
 ghost use Rattle.cell_lanes.specs.Things.{root_of, fixed_of};
-ghost use Rattle.cell_lanes.specs.Lanes.{Each, Roots, Stays, Owns, Home, AtRest, Lends, Takes, Same, Grew, AllFit, AllDone, SomeLeft, Unfinished, SlotsFit, SlotsKept, Fresh, SlotsMade, LineMade, NoneMade, HasSlot, LineFit, LineTaken, LinesTaken, AllTaken, LaneReady, LaneRan, cells_of, given, JobsFit, JobsFresh, JobsRan, lent_on, all_given, done_of};
+ghost use Rattle.cell_lanes.specs.Lanes.{Each, Roots, Stays, Owns, Home, SettledAt, AtRest, Lends, Takes, Same, Grew, AllFit, Named, AllDone, SomeLeft, Unfinished, SlotsFit, SlotsKept, Fresh, SlotsMade, LineMade, NoneMade, HasSlot, LineFit, LineTaken, LinesTaken, AllTaken, LaneReady, LaneRan, cells_of, given, JobsFit, JobsFresh, JobsRan, lent_on, all_given, done_of};
 
 use crate::hook::LaneHook;
 use crate::lane::{Job, Lane, Line, Slot};
@@ -243,6 +243,32 @@ fn take_all<S: Lenders>(shared: &mut S, mut jobs: Vec<Job<S::Lent>>)
     }
 }
 
+/// Settles each thing that a lane names.
+fn settle_lane<R: Wait, S: Lenders>(rt: &R, shared: &mut S, named: &[usize])
+    requires home { Roots root_of (S.things shared.old) × Home root_of (S.things shared.old) }
+    requires named { (s j : ℕ) → get_elem? named.now s ≡ some j → j < length (S.things shared.old) }
+    ensures same { S.things shared.new ≡ S.things shared.old }
+    ensures frame { S.frame shared.new ≡ S.frame shared.old }
+    ensures settled { (s j : ℕ) → get_elem? named.now s ≡ some j → SettledAt root_of (S.things shared.old) j }
+{
+    for cell in named {
+        shared.settle(rt, *cell);
+    }
+}
+
+/// Settles each thing that some lane names. A thing that two lanes name is settled twice.
+fn settle_named<R: Wait, S: Lenders>(rt: &R, shared: &mut S, lanes: &[Lane<S::Call>])
+    requires home { Roots root_of (S.things shared.old) × Home root_of (S.things shared.old) }
+    requires fit { AllFit (length (S.things shared.old)) lanes.now }
+    ensures same { S.things shared.new ≡ S.things shared.old }
+    ensures frame { S.frame shared.new ≡ S.frame shared.old }
+    ensures settled { (j : ℕ) → Named j lanes.now → SettledAt root_of (S.things shared.old) j }
+{
+    for lane in lanes {
+        settle_lane(rt, shared, lane.cells.as_slice());
+    }
+}
+
 /// Runs lanes side by side, in up to eight threads. Each history grows by the calls that the lanes made on it, in one order
 /// in which each lane's calls stand as the lane made them; the orders of two histories have nothing to do with each other.
 /// All passes are back at the end.
@@ -271,6 +297,6 @@ pub fn run_lanes<R: Threads + Wait + Sync, H: LaneHook + Sync, S: Lenders>(
     };
     let outcome = lend_and_run::<R, H, S>(rt, alloc, hook, shared, lanes, &mut jobs);
     take_all(shared, jobs);
-    shared.settle(rt);
+    settle_named(rt, shared, lanes);
     outcome
 }

@@ -12,7 +12,7 @@ use Rattle.series_cells.specs.Series.{all_as}
 
 module _ (makes : SeriesCall → List SeriesCall) where
   -- what was asked for stands as the calls that each makes
-  stand_all : (cs made : List SeriesCall) → StandAs (λ call made. made ≡ makes call) cs made → made ≡ all_as makes cs
+  pub stand_all : (cs made : List SeriesCall) → StandAs (λ call made. made ≡ makes call) cs made → made ≡ all_as makes cs
   stand_all [] made e = e
   stand_all (c ∷ cs) made s = s.4 ∙ (ap (λ l. l ++ s.1) s.2 ∙ ap (λ l. makes c ++ l) (stand_all cs s.1 s.3))
 
