@@ -2,10 +2,10 @@ pub mod Cuts
 pub mod Lines
 pub mod Writers
 pub mod Packing
-pub mod Left
+pub mod Runs
 pub mod Items
-pub mod Adding
 pub mod Appending
 pub mod Rooms
 pub mod Results
 pub mod Vectors
+pub mod Left

@@ -1,10 +1,11 @@
--- What contracts see of a writer of payloads, and how its lines stand in its bytes.
-use Rattle.std.specs.Prelude.{◌≡◌, ℕ, ◌+◌, ◌-◌, ◌*◌, ◌≤◌, min, Bool, List, [], ◌∷◌, ◌++◌, length, map, take, drop, All, Option, None, option_map, Vec, Result, IsOk, IfOk, OnOk, OnErr, vec_len, vec_capacity}
+-- What contracts see of a writer of payloads, and how its lines stand in its buffer.
+use Rattle.std.specs.Prelude.{◌≡◌, ℕ, ◌+◌, ◌-◌, ◌*◌, ◌≤◌, min, Bool, false, List, [], ◌∷◌, ◌++◌, length, map, take, drop, Option, None, option_map, Vec, Result, IsOk, IfOk, OnOk, OnErr, vec_len, vec_capacity, if◌then◌else◌}
+use Rattle.std.specs.declared.snapshot.Snapshot.{Snapshot}
 use Rattle.metrics_core.specs.Keys.{LabelText, KeyText}
 use Rattle.metrics_core.specs.declared.numbers.Fixed.{Fixed as FixedOf}
-use Rattle.dsd_writer.specs.Cuts.{joined}
+use Rattle.dsd_writer.specs.Cuts.{AreWithin, joined}
 use Rattle.dsd_writer.specs.Lines.{ItemText, prefixed, lines_of, payloads_of}
-use Rattle.dsd_writer.specs.Packing.{framed_payloads}
+use Rattle.dsd_writer.specs.Packing.{IsPacked, framed_payloads, payloads_at}
 use Rattle.dsd_writer.specs.Results.{Written, written_of}
 
 -- the limit of a payload in bytes, whether each payload is led by its length, the tags that every line has, the lines so
@@ -22,11 +23,11 @@ pub record SameSettings (old new : WriterText) : Type 0 where
   pub same_start : new.on_stream ≡ old.on_stream
   pub same_tags : new.global_tags ≡ old.global_tags
 
--- the lines were handed out as payloads, or they are as they were
-pub record IsEmptied {T E : Type 0} (result : Result T E) (old new : WriterText) : Type 0 where
+-- the lines were handed out as payloads, and no room is lost
+pub record IsEmptied (old new : WriterText) : Type 0 where
   pub settings : SameSettings old new
-  pub ok : OnOk result (new.lines ≡ [])
-  pub err : OnErr result (new.lines ≡ old.lines)
+  pub lines : new.lines ≡ []
+  pub spare : old.spare ≤ new.spare
 
 -- What the lines of a series say beside their values, without sample rate and timestamp: the tags of the series stand before
 -- those that every line has.
@@ -56,16 +57,28 @@ abbrev pub lines_in : List ℕ → List ℕ → List (List ℕ)
 lines_in [] bytes = []
 lines_in (n ∷ lengths) bytes = take n bytes ∷ lines_in lengths (drop n bytes)
 
--- the bytes are lines of these lengths, each within the limit
-pub record AreStored (limit : ℕ) (lengths bytes : List ℕ) : Type 0 where
-  pub sizes : map length (lines_in lengths bytes) ≡ lengths
-  pub whole : joined (lines_in lengths bytes) ≡ bytes
-  pub within : All (λ n. n ≤ limit) lengths
+-- the payloads are those of lines of these lengths, each within the limit
+pub record AreStored (limit : ℕ) (lengths : List ℕ) (payloads : List (List ℕ)) : Type 0 where
+  pub sizes : map length (lines_in lengths (joined payloads)) ≡ lengths
+  pub packed : payloads_of limit (lines_in lengths (joined payloads)) ≡ payloads
+  pub within : AreWithin limit (lines_in lengths (joined payloads))
+
+-- Payloads that were handed out stay in the buffer until the next write, and their lines are the writer's no more.
+abbrev pub lines_kept : Bool → Bool → List ℕ → List ℕ → List ℕ → List (List ℕ)
+lines_kept handed_out on_stream bytes starts lengths =
+    if handed_out then [] else lines_in lengths (joined (payloads_at on_stream starts bytes))
+
+-- the buffer holds the payloads of the lines, unless they were handed out
+pub record IsKept (limit : ℕ) (on_stream handed_out : Bool) (bytes starts lengths : List ℕ) : Type 0 where
+  pub packed : handed_out ≡ false → IsPacked limit on_stream bytes starts
+  pub stored : handed_out ≡ false → AreStored limit lengths (payloads_at on_stream starts bytes)
   pub short : limit ≤ 4294967295
 
--- room for so many bytes, and for a line of each three of them: no line is shorter
-abbrev pub room_in : {A : Type 0} → Vec ℕ A → Vec ℕ A → ℕ
-room_in bytes lengths = min (vec_capacity bytes - vec_len bytes) (3 * (vec_capacity lengths - vec_len lengths))
+-- room for so many bytes, and for a payload and a line of each five of them: no line is shorter
+abbrev pub room_in : {A B C : Type 0} → Bool → Vec ℕ A → Vec ℕ B → Vec (Snapshot ℕ) C → ℕ
+room_in handed_out bytes starts lengths =
+    if handed_out then min (vec_capacity bytes) (5 * min (vec_capacity starts) (vec_capacity lengths))
+    else min (vec_capacity bytes - vec_len bytes) (5 * min (vec_capacity starts - vec_len starts) (vec_capacity lengths - vec_len lengths))
 
 -- how many bytes the payloads of lines take, the lengths before them included
 abbrev pub stored_bytes : Bool → ℕ → List (List ℕ) → ℕ

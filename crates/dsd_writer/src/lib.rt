@@ -5,7 +5,7 @@
 //!
 //!     let mut writer = PayloadWriter::new(alloc, 1432, false);
 //!     writer.write_counter(&key, 1, None, None)?;
-//!     let payloads = writer.payloads()?;
+//!     let payloads = writer.payloads();
 #![tactic(auto)]
 
 mod items;
@@ -21,7 +21,8 @@ mod room;
 mod writer;
 
 pub use laws::{
-    full_cuts_have_the_fewest_runs, lines_are_within_and_fewest, payloads_are_whole_and_fewest,
+    full_cuts_have_the_fewest_runs, lines_add_their_bytes, lines_are_within_and_fewest,
+    payloads_are_whole_and_fewest,
 };
 pub use payloads::Payloads;
 pub use results::WriteResult;

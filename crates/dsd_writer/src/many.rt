@@ -1,229 +1,183 @@
 //! The lines of many values of one series: each line takes values up to the limit, and then the next one begins.
 
-ghost use Rattle.std.specs.Prelude.{◌≡◌, ℕ, List, ◌+◌, ◌-◌, ◌^◌, ◌<◌, ◌≤◌, [], ◌∷◌, ◌++◌, IsOk, OnErr, OnOk, IfOk, IfSome, IsNone, ◌↔◌, length, map, take, vec_len, vec_capacity};
-ghost use Rattle.dsd_writer.specs.Adding.{AddsValue};
+ghost use Rattle.std.specs.Prelude.{◌≡◌, ◌+◌, ◌<◌, ◌≤◌, [], ◌++◌, IsOk, OnOk, IfOk, IfSome, IsNone, ◌↔◌, length, map, take, drop, vec_len, vec_capacity};
+ghost use Rattle.metrics_core.specs.Numbers.{dogstatsd_number};
 ghost use Rattle.dsd_writer.specs.Appending.{Appends};
-ghost use Rattle.dsd_writer.specs.Cuts.{joined};
+ghost use Rattle.dsd_writer.specs.Lines.{ending_of, line_of, lines_of, spelled_values, values_text};
+ghost use Rattle.dsd_writer.specs.Packing.{IsPacked, filled, noted, payloads_at, stored_length};
 ghost use Rattle.dsd_writer.specs.Results.{written_of};
-ghost use Rattle.dsd_writer.specs.Lines.{ending_of, left_out_values, line_of, lines_of, spelled_values};
+ghost use Rattle.dsd_writer.specs.Runs.{IsRun, short_values};
 
 use crate::WriteResult;
 use crate::items::Item;
 use crate::numbers::NumberText;
-use crate::points::{push_length, push_value, reserve};
+use crate::packing::{make_way, note_length};
+use crate::points::push_value;
 use itoa::Buffer;
 use metrics_core::{Fixed, Memory};
+use std::snapshot::Snapshot;
 
-/// What the parts of a line take of its limit.
-#[derive(Clone, Copy)]
-struct Frame {
-    /// How many bytes the values may take.
-    room: u64,
-    /// How many bytes stand before and behind them.
-    bare: u64,
-    /// How many bytes stand behind them.
-    ending: u64,
-}
-
-/// What the parts of the lines of an item take, or nothing where there is no room for values.
-fn frame_of(limit: u64, item: &Item<'_>) -> Option<Frame>
+/// What is left of a limit for values behind the other parts of a line.
+fn room_for_values(limit: u64, item: &Item<'_>) -> Option<u64>
     ensures none { IsNone result ↔ (limit < length (line_of item.now [])) }
-    ensures room { IfSome result (λ frame. frame.room + frame.bare ≡ limit) }
-    ensures bare { IfSome result (λ frame. frame.bare ≡ length (line_of item.now [])) }
-    ensures ending { IfSome result (λ frame. frame.ending ≡ length (ending_of item.now)) }
+    ensures room { IfSome result (λ room. room + length (line_of item.now []) ≡ limit) }
 {
-    let behind_name = item.behind_name(limit)?;
-    let room = item.behind_ending(behind_name)?;
-    Some(Frame {
-        room,
-        bare: limit - room,
-        ending: behind_name - room,
-    })
+    let room = item.behind_name(limit)?;
+    item.behind_ending(room)
 }
 
-/// Appends a value to a line that has one already.
-fn continue_line(
-    bytes: &mut Vec<u8>,
-    lengths: &mut Vec<u32>,
-    frame: Frame,
-    text: &NumberText<'_>,
-) -> Result<(), Memory>
-    requires fits { length text.now + frame.ending < 2 ^ 62 }
-    ensures bytes { OnOk result (bytes.new.items ≡ bytes.old.items ++ 58 ∷ text.now) }
-    ensures bytes_len { OnOk result (vec_len bytes.new ≡ vec_len bytes.old + 1 + length text.now) }
-    ensures err_bytes { OnErr result (bytes.new.items ≡ bytes.old.items) }
-    ensures lengths { lengths.new.items ≡ lengths.old.items }
-    ensures lengths_len { vec_len lengths.new ≡ vec_len lengths.old }
-    ensures bytes_capacity { vec_capacity bytes.old ≤ vec_capacity bytes.new }
-    ensures lengths_capacity { vec_capacity lengths.old ≤ vec_capacity lengths.new }
-    ensures bytes_room { OnOk result (vec_len bytes.new + frame.ending ≤ vec_capacity bytes.new) }
-    ensures lengths_room { OnOk result (vec_len lengths.new < vec_capacity lengths.new) }
-    ensures no_memory { vec_len bytes.old + 1 + length text.now + frame.ending ≤ vec_capacity bytes.old
-        → vec_len lengths.old < vec_capacity lengths.old → IsOk result }
-{
-    reserve(bytes, lengths, 1 + text.len() + frame.ending)?;
-    push_value(bytes, text);
-    Ok(())
-}
-
-/// Begins a line with a value, and makes room for what will stand behind its values and for its length.
-fn begin_line(
-    bytes: &mut Vec<u8>,
-    lengths: &mut Vec<u32>,
-    frame: Frame,
-    item: &Item<'_>,
-    text: &NumberText<'_>,
-) -> Result<(), Memory>
-    requires bare { frame.bare ≡ length (line_of item.now []) }
-    requires ending { frame.ending ≡ length (ending_of item.now) }
-    requires fits { length text.now + frame.bare < 2 ^ 62 }
-    ensures bytes { OnOk result (bytes.new.items ≡ bytes.old.items ++ item.now.name ++ 58 ∷ text.now) }
-    ensures bytes_len { let taken = length item.now.name + 1 + length text.now in
-        OnOk result (vec_len bytes.new ≡ vec_len bytes.old + taken) }
-    ensures bytes_room { OnOk result (vec_len bytes.new + frame.ending ≤ vec_capacity bytes.new) }
-    ensures lengths_room { OnOk result (vec_len lengths.new < vec_capacity lengths.new) }
-    ensures err_bytes { OnErr result (bytes.new.items ≡ bytes.old.items) }
-    ensures lengths { lengths.new.items ≡ lengths.old.items }
-    ensures lengths_len { vec_len lengths.new ≡ vec_len lengths.old }
-    ensures bytes_capacity { vec_capacity bytes.old ≤ vec_capacity bytes.new }
-    ensures lengths_capacity { vec_capacity lengths.old ≤ vec_capacity lengths.new }
-    ensures no_memory { vec_len bytes.old + 1 + length text.now + frame.bare ≤ vec_capacity bytes.old
-        → vec_len lengths.old < vec_capacity lengths.old → IsOk result }
-{
-    reserve(bytes, lengths, 1 + text.len() + frame.bare)?;
-    item.push_name(bytes);
-    push_value(bytes, text);
-    Ok(())
-}
-
-/// Ends a line, for which there is room, and notes its length.
-fn end_line(bytes: &mut Vec<u8>, lengths: &mut Vec<u32>, item: &Item<'_>, line_length: u64)
-    requires bytes_room { vec_len bytes.old + length (ending_of item.now) ≤ vec_capacity bytes.old }
-    requires lengths_room { vec_len lengths.old < vec_capacity lengths.old }
-    requires short { line_length ≤ 4294967295 }
-    ensures bytes { bytes.new.items ≡ bytes.old.items ++ ending_of item.now }
-    ensures bytes_len { vec_len bytes.new ≡ vec_len bytes.old + length (ending_of item.now) }
-    ensures lengths { lengths.new.items ≡ lengths.old.items ++ line_length ∷ [] }
-    ensures lengths_len { vec_len lengths.new ≡ vec_len lengths.old + 1 }
-    ensures bytes_capacity { vec_capacity bytes.old ≤ vec_capacity bytes.new }
-    ensures lengths_capacity { vec_capacity lengths.old ≤ vec_capacity lengths.new }
-{
-    item.push_ending(bytes);
-    push_length(lengths, line_length);
-}
-
-/// Adds a value to the lines that are being written: the values of the open line take `used` bytes, and none where no line
-/// is open. It answers how many they take then. After an error what was there still begins both lists.
-fn add_value(
-    bytes: &mut Vec<u8>,
-    lengths: &mut Vec<u32>,
-    frame: Frame,
-    item: &Item<'_>,
+/// The values at the front of a list that go on one line.
+#[derive(Clone, Copy)]
+struct Run {
+    /// How many values there are up to its end, those that are left out included.
+    taken: usize,
+    /// How many bytes of the line they take.
     used: u64,
-    text: &NumberText<'_>,
-) -> Result<u64, Memory>
-    requires bare { frame.bare ≡ length (line_of item.now []) }
-    requires ending { frame.ending ≡ length (ending_of item.now) }
-    requires limit { frame.room + frame.bare ≤ 4294967295 }
-    requires used { used ≤ frame.room }
-    requires alone { length text.now < frame.room }
-    requires bytes_room { 0 < used → vec_len bytes.old + frame.ending ≤ vec_capacity bytes.old }
-    requires lengths_room { 0 < used → vec_len lengths.old < vec_capacity lengths.old }
-    ensures adds { IfOk result (AddsValue item.now frame.room frame.bare used text.now
-        bytes.old.items bytes.new.items lengths.old.items lengths.new.items) }
-    ensures within { IfOk result (λ now. now ≤ frame.room) }
-    ensures bytes_room { OnOk result (vec_len bytes.new + frame.ending ≤ vec_capacity bytes.new) }
-    ensures lengths_room { OnOk result (vec_len lengths.new < vec_capacity lengths.new) }
-    ensures kept_bytes { take (length bytes.old.items) bytes.new.items ≡ bytes.old.items }
-    ensures kept_lengths { take (length lengths.old.items) lengths.new.items ≡ lengths.old.items }
-    ensures bytes_capacity { vec_capacity bytes.old ≤ vec_capacity bytes.new }
-    ensures lengths_capacity { vec_capacity lengths.old ≤ vec_capacity lengths.new }
-    ensures no_memory { (bytes_after lengths_after : List ℕ) (used_after : ℕ)
-        → AddsValue item.now frame.room frame.bare used text.now
-        bytes.old.items bytes_after lengths.old.items lengths_after used_after
-        → length bytes_after + frame.ending ≤ vec_capacity bytes.old
-        → length lengths_after < vec_capacity lengths.old → IsOk result }
-{
-    let taken = 1 + text.len();
-    if used == 0 {
-        begin_line(bytes, lengths, frame, item, text)?;
-        return Ok(taken);
-    }
-    if used + taken <= frame.room {
-        continue_line(bytes, lengths, frame, text)?;
-        return Ok(used + taken);
-    }
-    end_line(bytes, lengths, item, frame.bare + used);
-    begin_line(bytes, lengths, frame, item, text)?;
-    Ok(taken)
+    /// How many of them are left out.
+    left_out: u64,
 }
 
-/// Appends the lines of an item with these values, and answers how many values were left out. After an error what was
-/// there still begins both lists.
-fn fill(
-    bytes: &mut Vec<u8>,
-    lengths: &mut Vec<u32>,
-    limit: u64,
-    item: &Item<'_>,
-    values: &[Fixed],
-) -> Result<u64, Memory>
-    requires { limit ≤ 4294967295 }
-    ensures kept_bytes { take (length bytes.old.items) bytes.new.items ≡ bytes.old.items }
-    ensures kept_lengths { take (length lengths.old.items) lengths.new.items ≡ lengths.old.items }
-    ensures bytes { let lines = lines_of limit item.now (spelled_values values.now) in
-        OnOk result (bytes.new.items ≡ bytes.old.items ++ joined lines) }
-    ensures lengths { let lines = lines_of limit item.now (spelled_values values.now) in
-        OnOk result (lengths.new.items ≡ lengths.old.items ++ map length lines) }
-    ensures left_out { let out = left_out_values limit item.now (spelled_values values.now) in
-        IfOk result (λ left_out. left_out ≡ length out) }
-    ensures bytes_capacity { vec_capacity bytes.old ≤ vec_capacity bytes.new }
-    ensures lengths_capacity { vec_capacity lengths.old ≤ vec_capacity lengths.new }
-    ensures no_memory { let lines = lines_of limit item.now (spelled_values values.now) in
-        vec_len bytes.old + length (joined lines) ≤ vec_capacity bytes.old
-        → vec_len lengths.old + length lines ≤ vec_capacity lengths.old → IsOk result }
+/// How many bytes a value takes on a line.
+fn length_on_line(value: Fixed) -> u64
+    ensures length { result ≡ 1 + length (dogstatsd_number value.0) }
+    ensures short { result ≤ 256 }
 {
-    let Some(frame) = frame_of(limit, item) else {
-        return Ok(values.len() as u64);
+    let mut whole = Buffer::new();
+    let mut fraction = Buffer::new();
+    1 + NumberText::of_value(&mut whole, &mut fraction, value).len()
+}
+
+/// The values at the front that go on a line with so much room for values: as many as it takes. Those are left out that no line
+/// takes.
+fn run_of(values: &[Fixed], room: u64) -> Run
+    requires { room ≤ 4294967295 }
+    ensures run { let front = spelled_values (take result.taken values.now) in
+        let behind = spelled_values (drop result.taken values.now) in
+        IsRun room front behind result.used result.left_out }
+    ensures within { result.taken ≤ length values.now }
+    ensures some { 0 < length values.now → 0 < result.taken }
+{
+    let mut run = Run {
+        taken: 0,
+        used: 0,
+        left_out: 0,
     };
-    let mut used = 0;
-    let mut left_out = 0;
+    for value in values {
+        let length = length_on_line(*value);
+        if length > room {
+            run.left_out += 1;
+        } else if run.used + length > room {
+            return run;
+        } else {
+            run.used += length;
+        }
+        run.taken += 1;
+    }
+    run
+}
+
+/// Appends those of some values that a line with so much room takes, for which there is room.
+fn push_values(bytes: &mut Vec<u8>, values: &[Fixed], room: u64)
+    requires { vec_len bytes.old + length (values_text (short_values room (spelled_values values.now))) ≤ vec_capacity bytes.old }
+    ensures items { bytes.new.items ≡ bytes.old.items ++ values_text (short_values room (spelled_values values.now)) }
+    ensures capacity { vec_capacity bytes.old ≤ vec_capacity bytes.new }
+{
     for value in values {
         let mut whole = Buffer::new();
         let mut fraction = Buffer::new();
         let text = NumberText::of_value(&mut whole, &mut fraction, *value);
-        if frame.room <= text.len() {
-            left_out += 1;
-        } else {
-            used = add_value(bytes, lengths, frame, item, used, &text)?;
+        if text.len() < room {
+            push_value(bytes, &text);
         }
     }
-    if used > 0 {
-        end_line(bytes, lengths, item, frame.bare + used);
-    }
-    Ok(left_out)
 }
 
-/// Appends the lines of an item with these values. A refused call leaves the bytes as they were.
-pub(crate) fn write_points(
+/// Appends the line of an item with those of some values that a line with so much room takes, for which there is room.
+fn push_line(bytes: &mut Vec<u8>, item: &Item<'_>, values: &[Fixed], room: u64)
+    requires { vec_len bytes.old + length (line_of item.now (short_values room (spelled_values values.now))) ≤ vec_capacity bytes.old }
+    ensures items { bytes.new.items ≡ bytes.old.items ++ line_of item.now (short_values room (spelled_values values.now)) }
+    ensures capacity { vec_capacity bytes.old ≤ vec_capacity bytes.new }
+{
+    item.push_name(bytes);
+    push_values(bytes, values, room);
+    item.push_ending(bytes);
+}
+
+/// Puts the lines of an item with these values into payloads. After an error some of them are there behind what was there.
+fn fill(
     bytes: &mut Vec<u8>,
-    lengths: &mut Vec<u32>,
+    starts: &mut Vec<usize>,
+    lengths: &mut Vec<Snapshot<u64>>,
     limit: u64,
+    on_stream: bool,
     item: &Item<'_>,
     values: &[Fixed],
 ) -> Result<WriteResult, Memory>
-    requires { limit ≤ 4294967295 }
+    requires { IsPacked limit on_stream bytes.old.items starts.old.items }
+    ensures packed { OnOk result (IsPacked limit on_stream bytes.new.items starts.new.items) }
+    ensures ok { let before = payloads_at on_stream starts.old.items bytes.old.items in
+        let lines = lines_of limit item.now (spelled_values values.now) in
+        OnOk result (payloads_at on_stream starts.new.items bytes.new.items ≡ filled limit before lines) }
+    ensures lengths { let lines = lines_of limit item.now (spelled_values values.now) in
+        OnOk result (noted lengths.new.items ≡ noted lengths.old.items ++ map length lines) }
+    ensures written { IfOk result (λ written. written ≡ written_of limit item.now (spelled_values values.now)) }
+    ensures kept_bytes { take (length bytes.old.items) bytes.new.items ≡ bytes.old.items }
+    ensures kept_starts { take (length starts.old.items) starts.new.items ≡ starts.old.items }
+    ensures kept_lengths { take (length lengths.old.items) lengths.new.items ≡ lengths.old.items }
+    ensures bytes_capacity { vec_capacity bytes.old ≤ vec_capacity bytes.new }
+    ensures starts_capacity { vec_capacity starts.old ≤ vec_capacity starts.new }
+    ensures lengths_capacity { vec_capacity lengths.old ≤ vec_capacity lengths.new }
+    ensures no_memory { let before = payloads_at on_stream starts.old.items bytes.old.items in
+        let lines = lines_of limit item.now (spelled_values values.now) in
+        stored_length on_stream (filled limit before lines) ≤ vec_capacity bytes.old
+        → length (filled limit before lines) ≤ vec_capacity starts.old
+        → vec_len lengths.old + length lines ≤ vec_capacity lengths.old → IsOk result }
+{
+    let Some(room) = room_for_values(limit, item) else {
+        return Ok(WriteResult::new(0, values.len() as u64));
+    };
+    let mut rest = values;
+    let mut lines = 0;
+    let mut left_out = 0;
+    while !rest.is_empty() {
+        let run = run_of(rest, room);
+        let (front, behind) = rest.split_at(run.taken);
+        if run.used > 0 {
+            let length = limit - room + run.used;
+            make_way(bytes, starts, lengths, limit, on_stream, length)?;
+            push_line(bytes, item, front, room);
+            note_length(lengths, length);
+            lines += 1;
+        }
+        left_out += run.left_out;
+        rest = behind;
+    }
+    Ok(WriteResult::new(lines, left_out))
+}
+
+/// Puts the lines of an item with these values into payloads. A refused call changes nothing.
+pub(crate) fn write_points(
+    bytes: &mut Vec<u8>,
+    starts: &mut Vec<usize>,
+    lengths: &mut Vec<Snapshot<u64>>,
+    limit: u64,
+    on_stream: bool,
+    item: &Item<'_>,
+    values: &[Fixed],
+) -> Result<WriteResult, Memory>
+    requires { IsPacked limit on_stream bytes.old.items starts.old.items }
     ensures appends { let lines = lines_of limit item.now (spelled_values values.now) in
-        Appends result bytes.old bytes.new lengths.old lengths.new lines }
+        Appends result limit on_stream bytes.old bytes.new starts.old starts.new lengths.old lengths.new lines }
     ensures written { IfOk result (λ written. written ≡ written_of limit item.now (spelled_values values.now)) }
 {
     let end = bytes.len();
-    let count = lengths.len();
-    match fill(bytes, lengths, limit, item, values) {
-        Ok(left_out) => Ok(WriteResult::new((lengths.len() - count) as u64, left_out)),
-        Err(refused) => {
-            bytes.truncate(end);
-            lengths.truncate(count);
-            Err(refused)
-        }
+    let payloads = starts.len();
+    let lines = lengths.len();
+    let filled = fill(bytes, starts, lengths, limit, on_stream, item, values);
+    if filled.is_err() {
+        bytes.truncate(end);
+        starts.truncate(payloads);
+        lengths.truncate(lines);
     }
+    filled
 }

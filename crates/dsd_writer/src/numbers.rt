@@ -20,13 +20,14 @@ pub(crate) struct NumberText<'a> {
 }
 
 impl<'a> Model for NumberText<'a> {
-    ghost use Rattle.std.specs.Prelude.{ℕ, ◌≤◌, List, ◌++◌, length};
+    ghost use Rattle.std.specs.Prelude.{ℕ, ◌<◌, ◌≤◌, List, ◌++◌, length};
 
     ghost Value = { List ℕ };
 
     ghost view = { λ text. text.sign.now ++ text.whole.now ++ text.point.now ++ text.fraction.now };
 
-    ghost invariant = { λ text. length (text.sign.now ++ text.whole.now ++ text.point.now ++ text.fraction.now) ≤ 255 };
+    ghost invariant = { λ text. (0 < length (text.sign.now ++ text.whole.now ++ text.point.now ++ text.fraction.now))
+        × (length (text.sign.now ++ text.whole.now ++ text.point.now ++ text.fraction.now) ≤ 255) };
 }
 
 impl<'a> NumberText<'a> {
@@ -62,6 +63,7 @@ impl<'a> NumberText<'a> {
     /// How many bytes the text takes.
     pub(crate) fn len(&self) -> u64
         ensures len { result ≡ length self.now }
+        ensures some { 0 < length self.now }
         ensures short { result ≤ 255 }
     {
         (self.sign.len() + self.whole.len() + self.point.len() + self.fraction.len()) as u64

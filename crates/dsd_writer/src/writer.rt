@@ -1,6 +1,6 @@
-//! The writer of payloads: points become lines, and lines are kept until their payloads are asked for.
+//! The writer of payloads: points become lines, which are packed into payloads as they come.
 
-ghost use Rattle.std.specs.Prelude.{◌≡◌, ◌≤◌, [], ◌∷◌, codes, decimal, OnOk, option_copied};
+ghost use Rattle.std.specs.Prelude.{◌≡◌, ◌≤◌, [], ◌∷◌, codes, decimal, IsOk, OnOk, option_copied};
 ghost use Rattle.metrics_core.specs.Numbers.{dogstatsd_number};
 ghost use Rattle.dsd_writer.specs.Items.{type_text};
 ghost use Rattle.dsd_writer.specs.Lines.{IsBestLines, spelled_values};
@@ -10,11 +10,13 @@ use crate::WriteResult;
 use crate::items::{Item, LineType};
 use crate::many::write_points;
 use crate::numbers::NumberText;
+use crate::packing::{PayloadBuffer, begin_anew};
 use crate::points::write_point;
 use itoa::Buffer;
 use metrics_core::{Fixed, Key, Label, Memory};
 use std::alloc::Global;
 use std::marker::Model;
+use std::snapshot::Snapshot;
 
 /// Makes lines of points, and packs them into payloads. A contract sees its settings and the lines so far.
 #[derive(Drop)]
@@ -22,13 +24,17 @@ pub struct PayloadWriter {
     pub(crate) limit: u64,
     pub(crate) on_stream: bool,
     pub(crate) global_tags: Vec<Label>,
-    pub(crate) bytes: Vec<u8>,
-    pub(crate) lengths: Vec<u32>,
-    pub(crate) packed: Vec<Vec<u8>>,
+    /// The payloads so far.
+    pub(crate) buffer: PayloadBuffer,
+    /// The lengths of their lines. Proofs alone see them, and they have no bytes.
+    pub(crate) lengths: Vec<Snapshot<u64>>,
+    /// Whether the payloads were handed out: then the next write begins anew.
+    pub(crate) handed_out: bool,
 }
 
 impl Model for PayloadWriter {
-    ghost use Rattle.dsd_writer.specs.Writers.{WriterText, AreStored, lines_in, room_in};
+    ghost use Rattle.dsd_writer.specs.Packing.{noted};
+    ghost use Rattle.dsd_writer.specs.Writers.{IsKept, WriterText, lines_kept, room_in};
 
     ghost Value = { WriterText };
 
@@ -36,11 +42,12 @@ impl Model for PayloadWriter {
       limit = writer.limit;
       on_stream = writer.on_stream;
       global_tags = writer.global_tags.items;
-      lines = lines_in writer.lengths.items writer.bytes.items;
-      spare = room_in writer.bytes writer.lengths;
+      lines = lines_kept writer.handed_out writer.on_stream writer.buffer.bytes.items writer.buffer.starts.items (noted writer.lengths.items);
+      spare = room_in writer.handed_out writer.buffer.bytes writer.buffer.starts writer.lengths;
     } };
 
-    ghost invariant = { λ writer. AreStored writer.limit writer.lengths.items writer.bytes.items };
+    ghost invariant = { λ writer. IsKept writer.limit writer.on_stream writer.handed_out
+        writer.buffer.bytes.items writer.buffer.starts.items (noted writer.lengths.items) };
 }
 
 impl PayloadWriter {
@@ -58,9 +65,12 @@ impl PayloadWriter {
             limit: max_payload_len,
             on_stream: with_length_prefix,
             global_tags: Vec::new(alloc),
-            bytes: Vec::new(alloc),
+            buffer: PayloadBuffer {
+                bytes: Vec::new(alloc),
+                starts: Vec::new(alloc),
+            },
             lengths: Vec::new(alloc),
-            packed: Vec::new(alloc),
+            handed_out: false,
         }
     }
 
@@ -79,10 +89,19 @@ impl PayloadWriter {
         ensures settings { SameSettings self.old self.new }
         ensures lines { self.new.lines ≡ self.old.lines }
         ensures spare { OnOk result (bytes ≤ self.new.spare) }
+        ensures enough { bytes ≤ self.old.spare → IsOk result }
         ensures kept { self.old.spare ≤ self.new.spare }
     {
-        self.bytes.reserve(bytes)?;
-        self.lengths.reserve(bytes / 3 + 1)?;
+        begin_anew(
+            &mut self.buffer.bytes,
+            &mut self.buffer.starts,
+            &mut self.lengths,
+            &mut self.handed_out,
+        );
+        let lines = bytes.div_ceil(5);
+        self.buffer.bytes.reserve(bytes)?;
+        self.buffer.starts.reserve(lines)?;
+        self.lengths.reserve(lines)?;
         Ok(())
     }
 
@@ -176,7 +195,21 @@ impl PayloadWriter {
             Writes result self.old self.new (timed timestamp item) (text.now ∷ []) }
     {
         let item = Item::new(line_type, prefix, key, self.global_tags.as_slice()).at(timestamp);
-        write_point(&mut self.bytes, &mut self.lengths, self.limit, &item, text)
+        begin_anew(
+            &mut self.buffer.bytes,
+            &mut self.buffer.starts,
+            &mut self.lengths,
+            &mut self.handed_out,
+        );
+        write_point(
+            &mut self.buffer.bytes,
+            &mut self.buffer.starts,
+            &mut self.lengths,
+            self.limit,
+            self.on_stream,
+            &item,
+            text,
+        )
     }
 
     /// Writes many values.
@@ -192,10 +225,18 @@ impl PayloadWriter {
             Writes result self.old self.new (sampled rate item) (spelled_values values.now) }
     {
         let item = Item::new(line_type, prefix, key, self.global_tags.as_slice()).sampled(rate);
+        begin_anew(
+            &mut self.buffer.bytes,
+            &mut self.buffer.starts,
+            &mut self.lengths,
+            &mut self.handed_out,
+        );
         write_points(
-            &mut self.bytes,
+            &mut self.buffer.bytes,
+            &mut self.buffer.starts,
             &mut self.lengths,
             self.limit,
+            self.on_stream,
             &item,
             values,
         )

@@ -57,7 +57,7 @@ fn write_values(writer: &mut PayloadWriter) -> Result<(u64, u64), Memory> {
 /// Whether the payloads are led by their lengths and hold a line of each kind.
 fn each_kind_has_a_line(alloc: Global, writer: &mut PayloadWriter) -> Result<bool, Memory> {
     write_each(alloc, writer)?;
-    let shown = shown(alloc, writer.payloads()?)?;
+    let shown = shown(alloc, writer.payloads())?;
     let expected = "\
 .\0\0\0server1.test_counter:777|c|#foo:bar,e|T234567
 /E\0\0\0test_gauge:1967.0|g|#e|T345678
@@ -69,8 +69,8 @@ test_histogram:22.22:-33.33|h|@0.5|#e
 /// Whether values fill lines up to the limit but for the one that is too long, and no payload is handed out again.
 fn values_fill_lines(alloc: Global, writer: &mut PayloadWriter) -> Result<bool, Memory> {
     let written = write_values(writer)?;
-    let first = shown(alloc, writer.payloads()?)?;
-    let second = shown(alloc, writer.payloads()?)?;
+    let first = shown(alloc, writer.payloads())?;
+    let second = shown(alloc, writer.payloads())?;
     Ok(
         written == (2, 1)
             && first.as_slice() == b"h:1.0:2.0|d\n/h:3.0|d\n/".as_slice()

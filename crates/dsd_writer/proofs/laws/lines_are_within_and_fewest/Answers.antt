@@ -1,5 +1,4 @@
-use Rattle.dsd_writer.proofs.Best.{best_lines}
-use Rattle.dsd_writer.proofs.Stored.{lines_within}
+use Rattle.dsd_writer.proofs.Best.{best_lines, lines_within}
 use Rattle.dsd_writer.proofs.laws.lines_are_within_and_fewest.Goals as goal
 
 pub returns-clause-within : goal.returns-clause-within
