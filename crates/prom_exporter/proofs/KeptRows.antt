@@ -2,7 +2,7 @@
 use Rattle.std.proofs.Common.{◌≡◌, ℕ, zero, suc, ◌+◌, Bool, true, false, cond, List, [], ◌∷◌, ◌++◌, map, length, Some, refl, sym, ap, ◌∙◌, arith, add-zero, zero-add}
 use Rattle.std.specs.Prelude.{slice_get, option_map, flat_map, ℤ, bytes_eq}
 use Rattle.std.specs.List.{AllZip, enumerate_from}
-use Rattle.std.proofs.lemmas.List.{map-append}
+use Rattle.std.proofs.lemmas.List.{map-append, length-map}
 use Rattle.std.proofs.lemmas.Option.{slice_get-map}
 use Rattle.std.proofs.lemmas.Slice.Eq.{bytes_eq-Decides}
 use Rattle.metrics_core.specs.Keys.{KeyText, LabelText}
@@ -50,6 +50,22 @@ rows-push globals keys key =
     ∙ places-with_member groups (sanitized_metric_name key.name) (0 + length keys, key)
     ∙ ap (λ n. with_member (map places_of groups) (sanitized_metric_name key.name) n) (zero-add (length keys)) in
     (λ j. record { heads = map-append (head_of globals) keys (key ∷ []) j; families = grown j })
+
+-- the last one stands behind the others
+stands-last : {X : Type 0} (xs : List X) (x : X) → slice_get (xs ++ x ∷ []) (length xs) ≡ Some x
+stands-last [] x = refl
+stands-last (y ∷ xs) x = stands-last xs x
+
+module _ {X : Type 0} (globals : List LabelText) where
+  pub last-there : (rows : RowsText) (others live : List (LiveSeries X)) (last : LiveSeries X) (n : ℕ) → n ≡ length rows.heads → rows ≡ rows_of globals (keys_of others) → live ≡ others ++ last ∷ []
+      → slice_get live n ≡ Some last
+  last-there rows others live last n many kept is =
+      let place : n ≡ length others = many ∙ ap (λ (r : RowsText). length r.heads) kept ∙ length-map (keys_of others) (head_of globals) ∙ length-map others (λ (series : LiveSeries X). series.key) in
+      (λ j. slice_get (is j) (place j)) ∙ stands-last others last
+
+  pub keys-last : (others live : List (LiveSeries X)) (last : LiveSeries X) (key : KeyText) → key ≡ last.key → live ≡ others ++ last ∷ [] → rows_of globals (keys_of others ++ key ∷ []) ≡ rows_of globals (keys_of live)
+  keys-last others live last key same is =
+      ap (rows_of globals) (ap (λ k. keys_of others ++ k ∷ []) same ∙ sym (map-append (λ (series : LiveSeries X). series.key) others (last ∷ [])) ∙ ap keys_of (sym is))
 
 -- ---- what leaves the keys as they are
 

@@ -1,10 +1,9 @@
 -- The exporter's series by their indices: counters, then gauges.
 use Rattle.std.proofs.Common.{◌≡◌, true, false, ℕ, zero, suc, ◌+◌, ◌-◌, ◌<◌, ◌≤◌, List, [], ◌∷◌, ◌++◌, length, map, set, Option, Some, None, refl, sym, ap, subst, ◌∙◌, ◌⊎◌, inl, inr, ⊎_elim, arith}
 use Rattle.std.specs.Prelude.{option_map, slice_get, All}
-use Rattle.std.specs.List.{AllZip, list_any}
+use Rattle.std.specs.List.{list_any}
 use Rattle.std.proofs.lemmas.Bool.{true≢false, or_parts}
-use Rattle.std.proofs.lemmas.List.Elements.{All-nil, All-cons, All-head, All-tail}
-use Rattle.legal_history.specs.History.{Settled}
+use Rattle.std.proofs.lemmas.List.Elements.{All-nil, All-cons}
 use Rattle.cell_lanes.specs.Lanes.{Roots, Home}
 use Rattle.std.proofs.lemmas.Option.{same_Some}
 use Rattle.std.proofs.lemmas.List.{length-map}
@@ -24,7 +23,7 @@ use Rattle.series_cells.specs.declared.gauge.PromGauge.{PromGauge}
 use Rattle.prom_exporter.specs.declared.lanes.SeriesCell.{SeriesCell}
 use Rattle.prom_exporter.specs.declared.lanes.SeriesCell.TheVariants as cells
 use Rattle.prom_exporter.specs.Shared.{Shared, IsHome, TakesBack, unused}
-use Rattle.prom_exporter.specs.Exporter.{Cells, Exporter, AllHome, LooksOn, SeriesLooks}
+use Rattle.prom_exporter.specs.Exporter.{Cells, Exporter, AllHome}
 use Rattle.prom_exporter.specs.LanePasses.{counter_thing, gauge_thing, things_of, ids_of, unseen, frame_of}
 
 -- ---- two lists, one behind the other
@@ -157,25 +156,11 @@ module _ {F : Type 0} (kind : F → SeriesCell) where
       All-cons (λ (s : LiveSeries (Shared F)). IsHome s.cell) e es (roots 0 (thing kind e) refl, home 0 (thing kind e) refl)
       (list_home es (λ j t a. roots (suc j) t a) (λ j t a. home (suc j) t a))
 
-  list_settled : (es fs : List (LiveSeries (Shared F))) → All (λ (s : LiveSeries (Shared F)). IsHome s.cell) es → AllZip SeriesLooks es fs → (j : ℕ) (t : Thing SeriesCall SeriesCell) → get_elem? (map (thing kind) es) j ≡ some t → Settled t.root
-  list_settled [] fs home looks j t e = absurd (some-ne-none t (sym e))
-  list_settled (x ∷ es) [] home looks j t e = absurd looks
-  list_settled (x ∷ es) (f ∷ fs) home looks zero t e =
-      let h = All-head (λ (s : LiveSeries (Shared F)). IsHome s.cell) x es home in
-      subst (λ (y : Thing SeriesCall SeriesCell). Settled y.root) (some-injective (thing kind x) t e) (looks.0.2.1.whole h.0 h.1).1
-  list_settled (x ∷ es) (f ∷ fs) home looks (suc j) t e = list_settled es fs (All-tail (λ (s : LiveSeries (Shared F)). IsHome s.cell) x es home) looks.1 j t e
-
 pub all_home : (exporter : Exporter) → Roots root_of (things_of exporter) → Home root_of (things_of exporter) → AllHome exporter
 all_home exporter roots home = (
   list_home cells.Counter exporter.series.counters (λ j t e. roots j t (at_longer (map counter_thing exporter.series.counters) _ j t e)) (λ j t e. home j t (at_longer (map counter_thing exporter.series.counters) _ j t e)),
   list_home cells.Gauge exporter.series.gauges (λ j t e. roots _ t (at_behind (map counter_thing exporter.series.counters) _ j t e)) (λ j t e. home _ t (at_behind (map counter_thing exporter.series.counters) _ j t e)),
 )
-
-pub all_settled : (old new : Exporter) → AllHome old → LooksOn old new → (j : ℕ) (t : Thing SeriesCall SeriesCell) → get_elem? (things_of old) j ≡ some t → Settled t.root
-all_settled old new home looks j t e =
-    ⊎_elim (λ (front : get_elem? (map counter_thing old.series.counters) j ≡ some t). list_settled cells.Counter old.series.counters new.series.counters home.0 looks.counters j t front)
-    (λ (back : (k : ℕ) × (get_elem? (map gauge_thing old.series.gauges) k ≡ some t)). list_settled cells.Gauge old.series.gauges new.series.gauges home.1 looks.gauges back.0 t back.1)
-    (front_or_back (map counter_thing old.series.counters) (map gauge_thing old.series.gauges) j t e)
 
 -- ---- ids
 

@@ -7,5 +7,7 @@ pub mod Home
 pub mod LaneThings
 pub mod CallKinds
 pub mod KeptRows
+pub mod HeadTexts
+pub mod Looked
 mod Written
 pub mod ValuePages

@@ -1,17 +1,14 @@
 -- What was written so far of rows and of blocks, and what is left.
 use Rattle.std.proofs.Common.{◌≡◌, ℕ, ◌+◌, ◌<◌, List, [], ◌∷◌, ◌++◌, map, take, drop, get_or, length, sym, ap, subst, ◌∙◌, append-nil, append_assoc}
-use Rattle.std.specs.Prelude.{Option, Some, flat_map, string_bytes, slice_get, option_map, ℤ, nat_lt}
-use Rattle.std.proofs.Common.{None, true, arith}
+use Rattle.std.specs.Prelude.{Option, Some, flat_map, slice_get, option_map, ℤ}
+use Rattle.std.proofs.Common.{None}
 use Rattle.std.specs.Iterator.{Yields}
 use Rattle.std.specs.Map.Iter.{TakesFirst}
-use Rattle.std.proofs.lemmas.Bool.Decides.{nat_tests}
 use Rattle.std.proofs.lemmas.Grind.{flat_map-append}
 use Rattle.std.proofs.lemmas.List.{map-append, take-append-drop}
 use Rattle.std.proofs.lemmas.Map.Iter.{rest_so_far, rest_more}
-use Rattle.std.proofs.lemmas.Option.{same_Some, slice_get-map, slice_get-get_or}
+use Rattle.std.proofs.lemmas.Option.{same_Some}
 use Rattle.std.proofs.lemmas.List.{take_more}
-use Rattle.std.specs.declared.string.String.{String}
-use Rattle.std.specs.declared.alloc.Global.{Global}
 use Rattle.metrics_core.specs.Outside.{GrewByPrefix}
 use Rattle.metrics_core.proofs.Grown.{grew_prefix-longer}
 use Rattle.metrics_registry.specs.Live.{LiveSeries}
@@ -22,15 +19,6 @@ pub prefix_of_more : (a b : Option (List ℕ)) (some rest whole : List ℕ) → 
 prefix_of_more a b some rest whole is prefix = subst (GrewByPrefix a b) (sym is) (grew_prefix-longer a b some rest prefix)
 
 -- ---- a row
-
-within : {i n : ℕ} → true ≡ nat_lt i n → i < n
-within {i} {n} e = let is : nat_lt i n ≡ true = sym e in grind (arith, nat_tests)
-
--- the text that is found at a place
-pub head_found : (heads : List (String Global)) (place : ℕ) (head : String Global) → true ≡ nat_lt place (length heads) → head ≡ get_or heads place head
-    → slice_get (map string_bytes heads) place ≡ Some (string_bytes head)
-head_found heads place head here is =
-    slice_get-map string_bytes heads place ∙ ap (option_map string_bytes) (slice_get-get_or heads place head (within here) ∙ ap Some (sym is))
 
 module _ {X : Type 0} (shown : X → ℤ) where
   row_found : (head : List ℕ) (cell : X) (o : Option (LiveSeries X)) → Some cell ≡ option_map (λ (s : LiveSeries X). s.cell) o → row_if shown (Some head) o ≡ kept_row shown head cell

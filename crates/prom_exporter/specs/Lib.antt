@@ -2,6 +2,7 @@ pub mod State
 pub mod Families
 pub mod Shared
 pub mod Values
+pub mod Heads
 pub mod Rows
 pub mod Kept
 pub mod Sending

@@ -11,6 +11,10 @@ pub record Shared (F : Type 0) : Type 0 where
   pub cell : F
   pub root : View SeriesCall
 
+-- with no pass out, the exporter's own pass has seen the whole history
+abbrev pub KnowsAll : View SeriesCall → Type 0
+KnowsAll root = root.out ≡ 0 → Sees root root.seen
+
 module _ {F : Type 0} where
   -- all calls that the exporter has seen, in the order of the cell's history
   abbrev pub calls_seen : Shared F → List Call

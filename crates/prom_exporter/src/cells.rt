@@ -2,7 +2,7 @@
 
 ghost use Rattle.std.specs.Prelude.{◌≡◌, ◌++◌, [], IfOk, OnOk, OnErr, string_bytes};
 ghost use Rattle.std.specs.Arc.{arc_value};
-ghost use Rattle.legal_history.specs.History.{child, first};
+ghost use Rattle.legal_history.specs.History.{child, first, Settled};
 ghost use Rattle.metrics_core.specs.Numbers.{page_number};
 ghost use Rattle.prom_exporter.specs.Shared.{unused, with_one_out, Looks, TakesBack};
 
@@ -44,23 +44,28 @@ impl<C: ValueCell<Call = SeriesCall, Entry = SeriesCall>> Model for KeptCell<C> 
 
     ghost view = { λ kept. record { cell = kept.owned.fixed; root = kept.owned.root } };
 
-    ghost invariant = { λ kept. kept.value ≡ C.value_of (calls kept.owned.root.seen) };
+    ghost use Rattle.prom_exporter.specs.Shared.{KnowsAll};
+
+    ghost invariant = { λ kept. (kept.value ≡ C.value_of (calls kept.owned.root.seen)) × KnowsAll kept.owned.root };
 }
 
 impl<C: ValueCell<Call = SeriesCall, Entry = SeriesCall>> KeptCell<C> {
     /// A cell that nobody has called, with its value at the start.
     fn new(owned: OwnedCell<C>, value: C::Reading) -> KeptCell<C>
-        requires unused { owned.root ≡ first }
+        requires unused { (owned.root ≡ first) × Settled owned.root }
         requires value { value ≡ C.value_of [] }
         ensures { result ≡ unused owned.fixed }
     {
         KeptCell { owned, value }
     }
 
-    /// Reads the cell.
+    /// Reads the cell, if a pass of it is out. Where none is, its value was read when the last one came back.
     pub(crate) fn read(&mut self)
         ensures { Looks self.old self.new }
     {
+        if self.owned.is_home() {
+            return;
+        }
         self.value = self.owned.value();
     }
 

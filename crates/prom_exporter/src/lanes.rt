@@ -87,7 +87,7 @@ impl Lenders for PrometheusState {
         self.take_from_lane(index, lent);
     }
 
-    fn settle<R: Wait>(&mut self, _rt: &R) {
-        self.read();
+    fn settle<R: Wait>(&mut self, _rt: &R, index: usize) {
+        self.read_one(index);
     }
 }

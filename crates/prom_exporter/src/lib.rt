@@ -10,6 +10,7 @@
 mod builder;
 mod cells;
 mod errors;
+mod heads;
 mod lanes;
 mod laws;
 mod lent;

@@ -88,7 +88,7 @@ fn push_row<C: Shown>(
     let Some(cell) = series.cell(place) else {
         return Ok(());
     };
-    buffer.push_str(head.as_str())?;
+    buffer.push_str(head)?;
     buffer.push(' ')?;
     cell.push_value(buffer)?;
     buffer.push('\n')?;

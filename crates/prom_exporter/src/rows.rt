@@ -3,12 +3,16 @@
 ghost use Rattle.std.specs.Prelude.{◌≡◌, ◌++◌, [], ◌∷◌, ℕ, List, map, OnOk, OnErr, IfOk, string_bytes};
 ghost use Rattle.metrics_core.specs.Keys.{KeyText};
 ghost use Rattle.prom_format.specs.LabelSets.{labels_of};
-ghost use Rattle.prom_exporter.specs.Rows.{family_kept, rows_of};
+ghost use Rattle.metrics_registry.specs.Live.{LiveSeries};
+ghost use Rattle.prom_exporter.specs.Rows.{family_kept, keys_of, rows_of};
+ghost use Rattle.prom_format.specs.Names.{sanitized_metric_name};
 ghost use Rattle.prom_exporter.specs.Values.{with_member};
 
+use crate::heads::Heads;
 use indexmap::IndexMap;
 use metrics_core::{Key, Memory};
-use prom_format::{row_head, sanitize_metric_name};
+use metrics_registry::SeriesIter;
+use prom_format::{is_metric_name, sanitize_metric_name};
 use std::alloc::Global;
 use std::marker::Model;
 
@@ -16,17 +20,17 @@ use std::marker::Model;
 /// the series of each family.
 #[derive(Drop)]
 pub(crate) struct Rows {
-    pub(crate) heads: Vec<String>,
+    pub(crate) heads: Heads,
     pub(crate) families: IndexMap<String, Vec<usize>>,
 }
 
 impl Model for Rows {
-    ghost use Rattle.std.specs.Prelude.{map, string_bytes};
+    ghost use Rattle.std.specs.Prelude.{map};
     ghost use Rattle.prom_exporter.specs.Rows.{RowsText, family_kept};
 
     ghost Value = { RowsText };
 
-    ghost view = { λ rows. record { heads = map string_bytes rows.heads.items; families = map family_kept rows.families.entries } };
+    ghost view = { λ rows. record { heads = rows.heads; families = map family_kept rows.families.entries } };
 }
 
 impl Rows {
@@ -35,8 +39,26 @@ impl Rows {
         ensures { result ≡ record { heads = []; families = [] } }
     {
         Rows {
-            heads: Vec::new(alloc),
+            heads: Heads::new(alloc),
             families: IndexMap::new(alloc),
+        }
+    }
+
+    /// Keeps what the last of some series wants, where that of the others is kept.
+    pub(crate) fn add_last<C>(
+        &mut self,
+        alloc: Global,
+        series: &SeriesIter<'_, C>,
+        globals: &IndexMap<String, String>,
+    ) -> Result<(), Memory>
+        ensures added { OnOk result ((others : List (LiveSeries C)) (last : LiveSeries C)
+            → self.old ≡ rows_of (labels_of globals.now.entries) (keys_of others) → series.now ≡ others ++ last ∷ []
+            → self.new ≡ rows_of (labels_of globals.now.entries) (keys_of series.now)) }
+        ensures refused { OnErr result (self.new ≡ self.old) }
+    {
+        match series.key(self.heads.len()) {
+            Some(key) => self.add(alloc, key, globals),
+            None => Ok(()),
         }
     }
 
@@ -51,11 +73,9 @@ impl Rows {
             → self.new ≡ rows_of (labels_of globals.now.entries) (keys ++ key.now ∷ [])) }
         ensures refused { OnErr result (self.new ≡ self.old) }
     {
-        let head = row_head(alloc, key, globals)?;
-        let name = sanitize_metric_name(alloc, key.name())?;
         let place = self.heads.len();
-        self.heads.push(head)?;
-        if let Err(refused) = add_place(alloc, &mut self.families, name, place) {
+        self.heads.push(key, globals)?;
+        if let Err(refused) = add_place(alloc, &mut self.families, key.name(), place) {
             self.heads.truncate(place);
             return Err(refused);
         }
@@ -63,9 +83,44 @@ impl Rows {
     }
 }
 
-/// Puts a place last in the family of a metric name, which goes last where it is new.
+/// Puts a place last in the family of the metric name that is made of a name.
 fn add_place(
     alloc: Global,
+    families: &mut IndexMap<String, Vec<usize>>,
+    name: &str,
+    place: usize,
+) -> Result<(), Memory>
+    ensures added { OnOk result (map family_kept families.new.entries
+        ≡ with_member (map family_kept families.old.entries) (sanitized_metric_name name.now) place) }
+    ensures refused { OnErr result (map family_kept families.new.entries ≡ map family_kept families.old.entries) }
+{
+    if is_metric_name(name) {
+        return put_place(alloc, families, name, place);
+    }
+    let name = sanitize_metric_name(alloc, name)?;
+    put_place(alloc, families, name.as_str(), place)
+}
+
+/// Puts a place last in the family of a metric name.
+fn put_place(
+    alloc: Global,
+    families: &mut IndexMap<String, Vec<usize>>,
+    name: &str,
+    place: usize,
+) -> Result<(), Memory>
+    ensures added { OnOk result (map family_kept families.new.entries
+        ≡ with_member (map family_kept families.old.entries) name.now place) }
+    ensures refused { OnErr result (map family_kept families.new.entries ≡ map family_kept families.old.entries) }
+{
+    if let Some(places) = families.get_mut(name) {
+        places.push(place)?;
+        return Ok(());
+    }
+    add_family(families, String::from_str(alloc, name)?, place)
+}
+
+/// Puts a place last in the family of a metric name, which goes last where it is new.
+fn add_family(
     families: &mut IndexMap<String, Vec<usize>>,
     name: String,
     place: usize,
@@ -75,7 +130,7 @@ fn add_place(
     ensures refused { OnErr result (map family_kept families.new.entries ≡ map family_kept families.old.entries) }
 {
     // A new family has room for its first place, so that it never stays empty.
-    let room = Vec::with_capacity(alloc, 1)?;
+    let room = Vec::with_capacity(*families.allocator(), 1)?;
     let places = families.entry(name)?.or_insert(room);
     places.push(place)?;
     Ok(())

@@ -12,7 +12,8 @@ ghost use Rattle.prom_exporter.specs.Exporter.{Exporter, settings_with, state_of
 ghost use mathlib.Core.Option.{some};
 ghost use lib.ListN.{get_elem?};
 ghost use Rattle.legal_history.specs.History.{lender, child};
-ghost use Rattle.cell_lanes.specs.Things.{Thing, TookBack};
+ghost use Rattle.cell_lanes.specs.Things.{Thing, TookBack, root_of};
+ghost use Rattle.cell_lanes.specs.Lanes.{SettledAt};
 ghost use Rattle.metrics_core.specs.declared.calls.SeriesCall.{SeriesCall};
 ghost use Rattle.prom_exporter.specs.declared.lanes.SeriesCell.{SeriesCell};
 ghost use Rattle.prom_exporter.specs.LanePasses.{things_of, frame_of, pass_known, IsPassOf, IsIndex};
@@ -83,8 +84,25 @@ impl PrometheusState {
         ensures id { IfOk result (λ id. id ≡ record { kind = Counter; number = number_given Counter key.now (state_of self.old) }) }
         ensures refused { OnErr result (self.new ≡ self.old) }
     {
-        let number = self.series.made();
+        // The clause on ids needs how many were made.
+        let _made = self.series.made();
         if let Some(id) = self.series.find_counter(key) {
+            return Ok(id);
+        }
+        self.register_owned_counter(alloc, key.clone(alloc)?)
+    }
+
+    /// Registers a counter as `register_counter` does, under a key that the exporter then keeps: it is not copied.
+    pub fn register_owned_counter(&mut self, alloc: Global, key: Key) -> Result<SeriesId, Memory>
+        ensures registered { OnOk result (state_of self.new ≡ register Counter key (state_of self.old)) }
+        ensures cells { OnOk result ((self.new ≡ self.old) ⊎ AddsCounter key self.old self.new) }
+        ensures home { AllHome self.old → AllHome self.new }
+        ensures settings { self.new.settings ≡ self.old.settings }
+        ensures id { IfOk result (λ id. id ≡ record { kind = Counter; number = number_given Counter key (state_of self.old) }) }
+        ensures refused { OnErr result (self.new ≡ self.old) }
+    {
+        let number = self.series.made();
+        if let Some(id) = self.series.find_counter(&key) {
             return Ok(id);
         }
         if number == u64::MAX {
@@ -94,10 +112,11 @@ impl PrometheusState {
             });
         }
         let cell = new_counter(alloc)?;
-        let Ok(id) = self.series.add_counter(key.clone(alloc)?, cell) else {
+        let Ok(id) = self.series.add_counter(key, cell) else {
             return Err(Memory);
         };
-        if let Err(refused) = self.counter_rows.add(alloc, key, &self.globals) {
+        let counters = self.series.counters();
+        if let Err(refused) = self.counter_rows.add_last(alloc, &counters, &self.globals) {
             self.series.take_back_counter();
             return Err(refused);
         }
@@ -113,8 +132,25 @@ impl PrometheusState {
         ensures id { IfOk result (λ id. id ≡ record { kind = Gauge; number = number_given Gauge key.now (state_of self.old) }) }
         ensures refused { OnErr result (self.new ≡ self.old) }
     {
-        let number = self.series.made();
+        // The clause on ids needs how many were made.
+        let _made = self.series.made();
         if let Some(id) = self.series.find_gauge(key) {
+            return Ok(id);
+        }
+        self.register_owned_gauge(alloc, key.clone(alloc)?)
+    }
+
+    /// Registers a gauge as `register_gauge` does, under a key that the exporter then keeps: it is not copied.
+    pub fn register_owned_gauge(&mut self, alloc: Global, key: Key) -> Result<SeriesId, Memory>
+        ensures registered { OnOk result (state_of self.new ≡ register Gauge key (state_of self.old)) }
+        ensures cells { OnOk result ((self.new ≡ self.old) ⊎ AddsGauge key self.old self.new) }
+        ensures home { AllHome self.old → AllHome self.new }
+        ensures settings { self.new.settings ≡ self.old.settings }
+        ensures id { IfOk result (λ id. id ≡ record { kind = Gauge; number = number_given Gauge key (state_of self.old) }) }
+        ensures refused { OnErr result (self.new ≡ self.old) }
+    {
+        let number = self.series.made();
+        if let Some(id) = self.series.find_gauge(&key) {
             return Ok(id);
         }
         if number == u64::MAX {
@@ -124,10 +160,11 @@ impl PrometheusState {
             });
         }
         let cell = new_gauge(alloc)?;
-        let Ok(id) = self.series.add_gauge(key.clone(alloc)?, cell) else {
+        let Ok(id) = self.series.add_gauge(key, cell) else {
             return Err(Memory);
         };
-        if let Err(refused) = self.gauge_rows.add(alloc, key, &self.globals) {
+        let gauges = self.series.gauges();
+        if let Err(refused) = self.gauge_rows.add_last(alloc, &gauges, &self.globals) {
             self.series.take_back_gauge();
             return Err(refused);
         }
@@ -271,8 +308,25 @@ impl PrometheusState {
         }
     }
 
+    /// Reads the series with this index, counters first and gauges behind them. With no pass of it out, the exporter had seen
+    /// all of its history, so nothing changes.
+    pub(crate) fn read_one(&mut self, index: usize)
+        requires here { index < length (things_of self.old) }
+        requires home { (t : Thing SeriesCall SeriesCell) → get_elem? (things_of self.old) index ≡ some t → (t.root.number ≡ 0) × (t.root.out ≡ 0) }
+        ensures same { things_of self.new ≡ things_of self.old }
+        ensures settled { SettledAt root_of (things_of self.old) index }
+        ensures frame { frame_of self.new ≡ frame_of self.old }
+    {
+        let counters = self.series.counter_count();
+        if index < counters {
+            self.series.counter_at(index).read();
+        } else {
+            self.series.gauge_at(index - counters).read();
+        }
+    }
+
     /// Reads every cell, each once.
-    pub(crate) fn read(&mut self)
+    fn read(&mut self)
         ensures { LooksOn self.old self.new }
     {
         self.series.retain_counters(

@@ -1,10 +1,9 @@
 use Rattle.std.proofs.Common.{◌≡◌, ◌∷◌, [], ◌++◌, Some, sym, ap, ◌∙◌}
-use Rattle.std.proofs.Common.{length, get_or}
-use Rattle.std.specs.Prelude.{slice_get, string_bytes, nat_lt}
+use Rattle.std.specs.Prelude.{slice_get, string_bytes}
 use Rattle.std.specs.Char.{encode_utf8}
 use Rattle.metrics_core.specs.Numbers.{page_number}
 use Rattle.prom_exporter.specs.Rows.{RowsText}
-use Rattle.prom_exporter.proofs.Written.{head_found, row_at-found, row_pushed}
+use Rattle.prom_exporter.proofs.Written.{row_at-found, row_pushed}
 use Rattle.prom_exporter.proofs.pages.push_row.Goals as goal
 
 pub returns : goal.returns
@@ -12,15 +11,14 @@ unfolding encode_utf8
 returns g c =
     let shown = g.C.Shown.shown in
     let buffer = string_bytes c.args.buffer.now in
-    let head = string_bytes c.in-Some.head.now in
+    let head = c.in-Some.head.now in
     let number = page_number (shown c.in-Some-cell.cell.now) in
     let live = c.args.series.now in
-    let found = head_found c.rows.inside.heads.items c.args.place c.in-Some.head.now (c.in-Some.ensures.lookup.0 ∙ ap (λ l. nat_lt c.args.place (length l)) c.deref.ensures.value) (c.in-Some.ensures.lookup.1 ∙ ap (λ l. get_or l c.args.place c.in-Some.head.now) c.deref.ensures.value) in
-    let at : slice_get c.args.rows.now.heads c.args.place ≡ Some head = ap (λ (r : RowsText). slice_get r.heads c.args.place) (sym c.rows.view_is) ∙ found in
+    let at : slice_get c.args.rows.now.heads c.args.place ≡ Some head = ap (λ (r : RowsText). slice_get r.heads c.args.place) (sym c.rows.view_is) ∙ sym c.in-Some.ensures in
     let text : string_bytes c.push-2.new.self ≡ (((buffer ++ head) ++ 32 ∷ []) ++ number) ++ 10 ∷ [] =
     c.in_ok-push-2.ensures.bytes
     ∙ ap (λ l. l ++ 10 ∷ [])
     (c.in_ok-push_value.ensures
-    ∙ ap (λ l. l ++ number) (c.in_ok-push.ensures.bytes ∙ ap (λ l. l ++ 32 ∷ []) (c.in_ok-push_str.ensures.bytes ∙ ap (λ h. buffer ++ h) c.as_str.ensures.value))) in
+    ∙ ap (λ l. l ++ number) (c.in_ok-push.ensures.bytes ∙ ap (λ l. l ++ 32 ∷ []) c.in_ok-push_str.ensures.bytes)) in
     text ∙ row_pushed buffer head (32 ∷ []) number (10 ∷ [])
     ∙ ap (λ l. buffer ++ l) (sym (row_at-found shown c.args.rows.now.heads live c.args.place head c.in-Some-cell.cell.now at c.in-Some-cell.ensures))

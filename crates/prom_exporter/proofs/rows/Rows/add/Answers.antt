@@ -1,6 +1,5 @@
 use Rattle.std.proofs.Common.{◌≡◌, [], ◌∷◌, ◌++◌, map, length, sym, ap, ◌∙◌}
-use Rattle.std.specs.Prelude.{string_bytes}
-use Rattle.std.proofs.lemmas.List.{map-append, length-map}
+use Rattle.std.proofs.lemmas.List.{length-map}
 use Rattle.prom_format.specs.LabelSets.{labels_of}
 use Rattle.prom_format.specs.Names.{sanitized_metric_name}
 use Rattle.prom_exporter.specs.Rows.{RowsText, head_of}
@@ -12,14 +11,12 @@ pub returns-clause-added : goal.returns-clause-added
 returns-clause-added c keys is =
     let globals = labels_of c.args.globals.now.entries in
     let key = c.args.key.now in
-    let old = c.self.inside in
     let kept = c.self.view_is ∙ is in
     let heads = ap (λ (r : RowsText). r.heads) kept in
     let families = ap (λ (r : RowsText). r.families) kept in
-    let place : c.len-place.result ≡ length keys =
-    c.len-place.ensures ∙ old.heads.ok.0 ∙ sym (length-map old.heads.items string_bytes) ∙ ap length heads ∙ length-map keys (head_of globals) in
-    let head_more : map string_bytes c.push.new.self.items ≡ map (head_of globals) keys ++ head_of globals key ∷ [] =
-    ap (map string_bytes) c.in_ok-push.ensures.items ∙ map-append string_bytes old.heads.items (c.in_ok-head.head ∷ []) ∙ (λ j. heads j ++ c.in_ok-head.ensures.head j ∷ []) in
-    let name : string_bytes c.in_ok-name.name ≡ sanitized_metric_name key.name = c.in_ok-name.ensures ∙ ap sanitized_metric_name c.name.ensures.text in
+    let place : c.len-place.result ≡ length keys = c.len-place.ensures ∙ ap length heads ∙ length-map keys (head_of globals) in
+    let head_more : c.push.new.self ≡ map (head_of globals) keys ++ head_of globals key ∷ [] =
+    c.in_ok-push.ensures.pushed ∙ ap (λ l. l ++ head_of globals key ∷ []) heads in
+    let name = ap sanitized_metric_name c.name.ensures.text in
     let family_more = c.in_default.ensures.added ∙ (λ j. with_member (families j) (name j) (place j)) in
     (λ j. record { heads = head_more j; families = family_more j }) ∙ sym (rows-push globals keys key)

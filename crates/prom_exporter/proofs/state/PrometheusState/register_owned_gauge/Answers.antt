@@ -1,0 +1,70 @@
+use Rattle.std.proofs.Common.{◌≡◌, ◌+◌, [], ◌∷◌, ◌++◌, map, refl, sym, ap, ◌∙◌, inr}
+use Rattle.std.proofs.lemmas.List.{map_push}
+use Rattle.metrics_core.specs.declared.kinds.MetricKind.TheVariants.{Gauge}
+use Rattle.prom_format.specs.LabelSets.{labels_of}
+use Rattle.metrics_registry.specs.Live.{LiveSeries, with_last}
+use Rattle.series_cells.specs.declared.gauge.PromGauge.{PromGauge}
+use Rattle.prom_exporter.specs.Shared.{Shared, unused}
+use Rattle.prom_exporter.specs.Exporter.{Cells, settings_with}
+use Rattle.prom_exporter.proofs.Home.{adds_gauge-home, gauge_added}
+use Rattle.prom_exporter.specs.Values.{series_of, seen_series, seen_registry, state_seen}
+use Rattle.prom_exporter.proofs.Seen.{id_of_key-seen, is_numbered-seen}
+use Rattle.prom_exporter.proofs.States.{register-live, id-live, number-new, register-new}
+use Rattle.prom_exporter.proofs.state.PrometheusState.register_owned_gauge.Goals as goal
+
+pub returns-in-Some-clause-registered : goal.returns-in-Some-clause-registered
+returns-in-Some-clause-registered c =
+    let series = c.self.inside.series in
+    let found = id_of_key-seen c.args.key series.gauges ∙ sym c.in-Some.ensures in
+    rw (← c.self.view_is) (sym (register-live Gauge c.args.key (seen_registry series) c.in-Some.id found))
+
+pub returns-in-Some-clause-id : goal.returns-in-Some-clause-id
+returns-in-Some-clause-id c =
+    let series = c.self.inside.series in
+    let found = id_of_key-seen c.args.key series.gauges ∙ sym c.in-Some.ensures in
+    rw (← c.self.view_is) (id-live Gauge c.args.key (seen_registry series) series.made c.in-Some.id (is_numbered-seen series c.made-number.ensures.numbered).gauges.1 found)
+
+pub returns-then-number-clause-id : goal.returns-then-number-clause-id
+returns-then-number-clause-id c =
+    let series = c.self.inside.series in
+    let none = id_of_key-seen c.args.key series.gauges ∙ sym c.in_default.ensures in
+    rw (← c.self.view_is) (ap (λ n. record { kind = Gauge; number = n }) (c.made-number.ensures.made ∙ sym (number-new Gauge c.args.key (seen_registry series) none)))
+
+pub returns-clause-registered : goal.returns-clause-registered
+returns-clause-registered c =
+    let series = c.self.inside.series in
+    let key = c.args.key in
+    let none = id_of_key-seen key series.gauges ∙ sym c.in_default.ensures in
+    let new : LiveSeries (Shared PromGauge) = record { id = record { kind = Gauge; number = series.made }; key = key; cell = unused c.in_ok-cell.cell.cell } in
+    let grown : state_seen c.add_gauge.new.self ≡ state_seen (record series { gauges = series.gauges ++ new ∷ []; made = series.made + 1 }) =
+    ap state_seen (c.in-Ok.ensures.added ∙ (λ j. record series { gauges = series.gauges ++ record { id = c.in-Ok.ensures.id j; key = key; cell = c.in_ok-cell.ensures j } ∷ []; made = series.made + 1 })) in
+    let pushed = ap (λ l. record (state_seen series) { gauges = l; made = series.made + 1 }) (ap (map series_of) (map_push seen_series series.gauges new) ∙ map_push series_of (map seen_series series.gauges) (seen_series new)) in
+    let room = register-new Gauge key (seen_registry series) none (λ full. c.if-number.false (c.made-number.ensures.made ∙ full)) in
+    rw (← c.self.view_is) (grown ∙ pushed ∙ sym room)
+
+pub returns-clause-id : goal.returns-clause-id
+returns-clause-id c =
+    let series = c.self.inside.series in
+    let none = id_of_key-seen c.args.key series.gauges ∙ sym c.in_default.ensures in
+    rw (← c.self.view_is) (c.in-Ok.ensures.id ∙ ap (λ n. record { kind = Gauge; number = n }) (sym (number-new Gauge c.args.key (seen_registry series) none)))
+
+pub returns-clause-cells : goal.returns-clause-cells
+returns-clause-cells c = inr (gauge_added c.args.self.now (labels_of c.self.inside.globals.entries) c.self.inside.series c.add_gauge.new.self c.args.key c.args.key c.in-Ok.id c.in_ok-cell.cell c.self.view_is c.in-Ok.ensures.added c.in-Ok.ensures.id refl c.in_ok-cell.ensures)
+
+pub returns-clause-home : goal.returns-clause-home
+returns-clause-home c = adds_gauge-home c.args.key c.args.self.now _ (gauge_added c.args.self.now (labels_of c.self.inside.globals.entries) c.self.inside.series c.add_gauge.new.self c.args.key c.args.key c.in-Ok.id c.in_ok-cell.cell c.self.view_is c.in-Ok.ensures.added c.in-Ok.ensures.id refl c.in_ok-cell.ensures)
+
+pub returns-in_default-add_gauge-clause-home : goal.returns-in_default-add_gauge-clause-home
+returns-in_default-add_gauge-clause-home c = rw (c.in_default-add_gauge.ensures.refused, ← c.self.view_is) (λ home. home)
+
+pub take_back_gauge-requires : goal.take_back_gauge-requires
+take_back_gauge-requires c = (c.self.inside.series, (c.args.key, c.in_ok-cell.cell, c.made-number.ensures.numbered, c.in-Ok.ensures.added ∙ (λ j. record c.self.inside.series { gauges = with_last c.self.inside.series.gauges (c.in-Ok.ensures.id j) c.args.key c.in_ok-cell.cell; made = c.self.inside.series.made + 1 })))
+
+pub invariant_of-self-in-Err : goal.invariant_of-self-in-Err
+invariant_of-self-in-Err c = rw (c.in-Err.ensures.refused, (c.take_back_gauge.ensures c.self.inside.series (c.args.key, c.in_ok-cell.cell, c.made-number.ensures.numbered, c.in-Ok.ensures.added ∙ (λ j. record c.self.inside.series { gauges = with_last c.self.inside.series.gauges (c.in-Ok.ensures.id j) c.args.key c.in_ok-cell.cell; made = c.self.inside.series.made + 1 })))) c.self.invariant
+
+pub returns-in-Err-clause-refused : goal.returns-in-Err-clause-refused
+returns-in-Err-clause-refused c = ap (λ (cells : Cells). record { settings = settings_with (labels_of c.self.inside.globals.entries); series = cells }) (c.take_back_gauge.ensures c.self.inside.series (c.args.key, c.in_ok-cell.cell, c.made-number.ensures.numbered, c.in-Ok.ensures.added ∙ (λ j. record c.self.inside.series { gauges = with_last c.self.inside.series.gauges (c.in-Ok.ensures.id j) c.args.key c.in_ok-cell.cell; made = c.self.inside.series.made + 1 }))) ∙ c.self.view_is
+
+pub returns-in-Err-clause-home : goal.returns-in-Err-clause-home
+returns-in-Err-clause-home c = rw ((c.take_back_gauge.ensures c.self.inside.series (c.args.key, c.in_ok-cell.cell, c.made-number.ensures.numbered, c.in-Ok.ensures.added ∙ (λ j. record c.self.inside.series { gauges = with_last c.self.inside.series.gauges (c.in-Ok.ensures.id j) c.args.key c.in_ok-cell.cell; made = c.self.inside.series.made + 1 }))), ← c.self.view_is) (λ home. home)

@@ -1,0 +1,100 @@
+//! What the rows of series begin with, kept one behind the other, so that none of it takes memory of its own.
+
+ghost use Rattle.std.specs.Prelude.{◌≡◌, ◌≤◌, ◌++◌, [], ◌∷◌, length, take, OnOk, OnErr, option_copied, slice_get, slice_index};
+ghost use Rattle.prom_format.specs.LabelSets.{labels_of};
+ghost use Rattle.prom_exporter.specs.Rows.{head_of};
+
+use indexmap::IndexMap;
+use metrics_core::{Key, Memory};
+use prom_format::push_row_head;
+use std::alloc::Global;
+use std::marker::Model;
+
+/// What the rows of each series begin with, in order of registration. A contract sees the list of these texts.
+#[derive(Drop)]
+pub(crate) struct Heads {
+    text: String,
+    /// Where each one ends; it begins where the one before it ends.
+    ends: Vec<usize>,
+}
+
+impl Model for Heads {
+    ghost use Rattle.std.specs.Prelude.{List, ℕ, string_bytes};
+    ghost use Rattle.prom_exporter.specs.Heads.{pieces, AreCuts};
+
+    ghost Value = { List (List ℕ) };
+
+    ghost view = { λ heads. pieces (string_bytes heads.text) 0 heads.ends.items };
+
+    ghost invariant = { λ heads. AreCuts (string_bytes heads.text) 0 heads.ends.items };
+}
+
+impl Heads {
+    /// None.
+    pub(crate) fn new(alloc: Global) -> Heads
+        ensures { result ≡ [] }
+    {
+        Heads {
+            text: String::new(alloc),
+            ends: Vec::new(alloc),
+        }
+    }
+
+    /// Keeps what the rows of a series with this key begin with, behind the others.
+    pub(crate) fn push(
+        &mut self,
+        key: &Key,
+        globals: &IndexMap<String, String>,
+    ) -> Result<(), Memory>
+        ensures pushed { OnOk result (self.new ≡ self.old ++ head_of (labels_of globals.now.entries) key.now ∷ []) }
+        ensures refused { OnErr result (self.new ≡ self.old) }
+    {
+        let begin = self.text.len();
+        let _name_length = push_row_head(&mut self.text, key, globals)?;
+        let end = self.text.len();
+        let Ok(()) = self.ends.push(end) else {
+            self.text.truncate(begin);
+            return Err(Memory);
+        };
+        Ok(())
+    }
+
+    /// How many there are.
+    pub(crate) fn len(&self) -> usize
+        ensures { result ≡ length self.now }
+    {
+        self.ends.len()
+    }
+
+    /// Keeps so many from the front.
+    pub(crate) fn truncate(&mut self, count: usize)
+        ensures { self.new ≡ take count self.old }
+    {
+        if count >= self.ends.len() {
+            return;
+        }
+        let end = begin_at(self.ends.as_slice(), count);
+        let _text = self.text.as_str();
+        self.ends.truncate(count);
+        self.text.truncate(end);
+    }
+
+    /// The one at a place, from 0, if there is one.
+    pub(crate) fn get(&self, place: usize) -> Option<&str>
+        ensures { option_copied result ≡ slice_get self.now place }
+    {
+        let ends = self.ends.as_slice();
+        let end = *ends.get(place)?;
+        let begin = begin_at(ends, place);
+        let text = self.text.as_str();
+        Some(&text[begin..end])
+    }
+}
+
+/// Where the text at a place begins, of those that end here: where the one before it ends.
+fn begin_at(ends: &[usize], place: usize) -> usize
+    requires { place ≤ length ends.now }
+    ensures { result ≡ slice_index (0 ∷ ends.now) place }
+{
+    if place == 0 { 0 } else { ends[place - 1] }
+}
