@@ -1,28 +1,35 @@
 -- The table of heads, with one more register line.
-use Rattle.std.proofs.Common.{◌≡◌, ℕ, zero, suc, ◌<◌, Bool, true, false, cond, List, [], ◌∷◌, ◌++◌, length, map, get_or, Option, Some, None, refl, sym, ap, subst, ◌∙◌, arith}
-use Rattle.std.specs.Prelude.{All, MatchBool, fold, codes, bytes_eq, slice_get, string_bytes}
+use Rattle.std.proofs.Common.{◌≡◌, ℕ, zero, suc, ◌+◌, ◌<◌, Bool, true, false, cond, List, [], ◌∷◌, ◌++◌, length, map, get_or, take, drop, Option, Some, None, refl, sym, ap, subst, ◌∙◌, arith}
+use Rattle.std.specs.Prelude.{All, MatchBool, fold, flat_map, filter_map, codes, bytes_eq, slice_get, string_bytes}
 use Rattle.std.specs.Map.{lookup}
 use Rattle.std.specs.String.{string_eq}
 use Rattle.std.specs.declared.string.String.{String}
 use Rattle.std.specs.declared.alloc.Global.{Global}
 use Rattle.std.proofs.lemmas.Bool.{false≢true}
-use Rattle.std.proofs.lemmas.List.{append-nil, map_push}
+use Rattle.std.proofs.lemmas.List.{append-nil, append_assoc, append_cancel_left, map-append, map_push, take_at, take_more, take-append-drop}
 use Rattle.std.proofs.lemmas.List.Sums.{fold_push}
-use Rattle.std.proofs.lemmas.List.Elements.{All-nil, All-cons, All-head, All-tail, All-push, All-get_or, All-from_get_or}
+use Rattle.std.proofs.lemmas.List.Elements.{All-nil, All-cons, All-head, All-tail, All-push, All-take, All-get_or, All-from_get_or, filter_map-append}
+use Rattle.std.proofs.lemmas.List.Concat.{flat_map-append}
 use Rattle.std.proofs.lemmas.Option.{same_Some}
 use Rattle.std.proofs.lemmas.Slice.Eq.{bytes_eq-Decides}
-use Rattle.std.proofs.lemmas.List.{append_cancel_left}
 use Rattle.metrics_core.specs.declared.kinds.MetricKind.{MetricKind}
 use Rattle.metrics_core.specs.declared.kinds.MetricKind.TheVariants as kinds
 use Rattle.metrics_core.specs.Kinds.{kind_text}
-use Rattle.metrics_core.specs.Keys.{LabelText, KeyText, SameKey, key_eq, label_set, put_label}
+use Rattle.metrics_core.specs.Keys.{LabelText, KeyText, SameKey, key_eq, label_set, put_label, occurrences}
 use Rattle.metrics_core.specs.KeyLaws.{key_eq_is}
 use Rattle.prom_format.specs.Names.{IsLabelName, sanitized_metric_name}
 use Rattle.prom_format.specs.Lines.{head_text, shown_label}
 use Rattle.prom_format.proofs.NameLaws.{sanitized_metric_name-is_name, sanitized_label_name-is_name}
 use Rattle.prom_format.proofs.PagesReadOnce.{row_head_told}
-use Rattle.drive_script.specs.Valid.{Registration, head_of, PrintApart}
-use Rattle.drive_script.specs.Heads.{text_of_head, keys_by_head, key_at, AreHeadsOf}
+use Rattle.prom_format.specs.PlainKeys.{PrintsPlainly}
+use Rattle.prom_format.proofs.PlainKeys.{plain_keys_told}
+use Rattle.drive_script.specs.Script.{Register}
+use Rattle.drive_script.specs.Valid.{Registration, registration_of, registered_in, Head, head_of, PrintApart}
+use Rattle.drive_script.specs.Heads.{text_of_head, keys_by_head, key_at, AreHeadsOf, AllPrintPlainly, AreNoted}
+use Rattle.drive_script.specs.Texts.{setup_of, round_of, registrations_in, registrations_of}
+use Rattle.drive_script.specs.declared.heads.HeadTable.{HeadTable}
+use Rattle.drive_script.specs.declared.script.Setup.{Setup}
+use Rattle.drive_script.specs.declared.script.Round.{Round}
 
 some_is_none : (key : KeyText) → ◌≡◌ {A = Option KeyText} (Some key) None → ⊥
 some_is_none key e = cc
@@ -200,13 +207,89 @@ label_set-push globals label =
     ap (fold put_label []) (append-nil (globals ++ label ∷ [])) ∙ fold_push put_label [] globals label
     ∙ ap (λ labels. put_label labels label) (ap (fold put_label []) (sym (append-nil globals)))
 
-pub no_heads : (globals others : List LabelText) (table same : List (List ℕ × KeyText)) (rs : List Registration) → same ≡ table → rs ≡ [] → AreHeadsOf globals table rs → AreHeadsOf others same rs
-no_heads globals others table same rs is none h = record {
-  each = subst (All (HasKey others same)) (sym none) (All-nil (HasKey others same));
-  one = λ text key found.
-      let (i, r, at, alike, key_is) = h.one text key (ap (λ t. key_at t text) (sym is) ∙ found) in
-      absurd (not_in_none i r (subst (λ l. slice_get l i ≡ Some r) none at));
-}
+pub none_noted : (globals others : List LabelText) (table same : Option HeadTable) (rs : List Registration) → same ≡ table → rs ≡ [] → AreNoted globals table rs → AreNoted others same rs
+none_noted globals others table same rs is none noted = subst (λ t. AreNoted others t rs) (sym is) (by table noted)
   where
     not_in_none : (i : ℕ) (r : Registration) → slice_get {X = Registration} [] i ≡ Some r → ⊥
     not_in_none i r at = cc
+
+    by : (table : Option HeadTable) → AreNoted globals table rs → AreNoted others table rs
+    by None plain = subst (AllPrintPlainly others) (sym none) (All-nil (λ (r : Registration). PrintsPlainly others r.key))
+    by (Some table) h = record {
+      each = subst (All (HasKey others (keys_by_head table.keys.entries))) (sym none) (All-nil (HasKey others (keys_by_head table.keys.entries)));
+      one = λ text key found.
+          let (i, r, at, alike, key_is) = h.one text key found in
+          absurd (not_in_none i r (subst (λ l. slice_get l i ≡ Some r) none at));
+    }
+
+-- ---- keys that print plainly
+
+-- two keys that print plainly and alike are equal
+plain_apart : (globals : List LabelText) (a b : Registration) → PrintsPlainly globals a.key → PrintsPlainly globals b.key → PrintApart globals a b
+plain_apart globals a b p q = λ _ head.
+    let same : a.key ≡ b.key = plain_keys_told globals a.key b.key p q (ap (λ (h : Head). h.name) head) (ap (λ (h : Head). h.labels) head) in
+    (ap (λ (k : KeyText). k.name) same, λ l. ap (λ (k : KeyText). occurrences k.labels l) same)
+
+module _ (globals : List LabelText) where
+  abbrev IsPlain : Registration → Type 0
+  IsPlain r = PrintsPlainly globals r.key
+
+  pub plain_front : (rs ss : List Registration) → AllPrintPlainly globals (rs ++ ss) → AllPrintPlainly globals rs
+  plain_front rs ss plain = subst (All IsPlain) (take_at rs ss (length rs) refl) (All-take IsPlain (length rs) (rs ++ ss) plain)
+
+  plain_last : (rs : List Registration) (r : Registration) → AllPrintPlainly globals (rs ++ r ∷ []) → IsPlain r
+  plain_last [] r plain = All-head IsPlain r [] plain
+  plain_last (s ∷ rs) r plain = plain_last rs r (All-tail IsPlain s (rs ++ r ∷ []) plain)
+
+  -- one more key that prints plainly
+  pub plain_added : (rs : List Registration) (r : Registration) → AllPrintPlainly globals rs → PrintsPlainly globals r.key → AllPrintPlainly globals (rs ++ r ∷ []) × All (λ s. PrintApart globals s r) rs
+  plain_added rs r plain new = (All-push IsPlain rs r plain new, map_all IsPlain (λ s. PrintApart globals s r) rs (λ s is. plain_apart globals s r is new) plain)
+
+  -- in a table, each of them is noted
+  pub plain_noted : (table : List (List ℕ × KeyText)) (rs : List Registration) (r : Registration) (apart : Bool) → AllPrintPlainly globals (rs ++ r ∷ [])
+      → MatchBool apart (AreHeadsOf globals table (rs ++ r ∷ []) × All (λ s. PrintApart globals s r) rs) (¬ All (λ s. PrintApart globals s r) rs) → AreHeadsOf globals table (rs ++ r ∷ [])
+  plain_noted table rs r true plain h = h.0
+  plain_noted table rs r false plain h = absurd (h (plain_added rs r (plain_front rs (r ∷ []) plain) (plain_last rs r plain)).1)
+
+pub no_heads : (globals : List LabelText) → AreHeadsOf globals [] []
+no_heads globals = record { each = All-nil (HasKey globals []); one = λ text key found. absurd (some_is_none key (sym found)) }
+
+-- ---- the register lines of setup lines and of rounds, one after another
+
+pub setup_more : (setup : List Setup) (i : ℕ) (line : Setup) (kind : MetricKind) (key : KeyText) → i < length setup → line ≡ get_or setup i line → setup_of line ≡ Register kind key
+    → registrations_in (take (i + 1) setup) ≡ registrations_in (take i setup) ++ record { kind = kind; key = key } ∷ []
+setup_more setup i line kind key within at says =
+    ap registrations_in (take_more setup i line within ∙ ap (λ l. take i setup ++ l ∷ []) (sym at))
+    ∙ ap (filter_map registration_of) (map_push setup_of (take i setup) line ∙ ap (λ s. map setup_of (take i setup) ++ s ∷ []) says)
+    ∙ filter_map-append registration_of (map setup_of (take i setup)) (Register kind key ∷ [])
+
+pub setup_front : (setup : List Setup) (n : ℕ) → registrations_in setup ≡ registrations_in (take n setup) ++ registrations_in (drop n setup)
+setup_front setup n =
+    ap registrations_in (sym (take-append-drop n setup)) ∙ ap (filter_map registration_of) (map-append setup_of (take n setup) (drop n setup))
+    ∙ filter_map-append registration_of (map setup_of (take n setup)) (map setup_of (drop n setup))
+
+-- a setup line of a round whose register lines all print plainly is noted
+pub line_noted : (globals : List LabelText) (table : List (List ℕ × KeyText)) (earlier : List Registration) (setup : List Setup) (i : ℕ) (line : Setup) (kind : MetricKind) (key : KeyText) (apart : Bool)
+    → MatchBool apart (AreHeadsOf globals table ((earlier ++ registrations_in (take i setup)) ++ record { kind = kind; key = key } ∷ []) × All (λ s. PrintApart globals s (record { kind = kind; key = key })) (earlier ++ registrations_in (take i setup)))
+    (¬ All (λ s. PrintApart globals s (record { kind = kind; key = key })) (earlier ++ registrations_in (take i setup)))
+    → setup_of line ≡ Register kind key → i < length setup → line ≡ get_or setup i line → AllPrintPlainly globals (earlier ++ registrations_in setup) → AreHeadsOf globals table (earlier ++ registrations_in (take (i + 1) setup))
+line_noted globals table earlier setup i line kind key apart h says within at plain =
+    let r : Registration = record { kind = kind; key = key } in
+    let more : earlier ++ registrations_in (take (i + 1) setup) ≡ (earlier ++ registrations_in (take i setup)) ++ r ∷ [] =
+    ap (λ l. earlier ++ l) (setup_more setup i line kind key within at says) ∙ sym (append_assoc earlier (registrations_in (take i setup)) (r ∷ [])) in
+    let all : earlier ++ registrations_in setup ≡ (earlier ++ registrations_in (take (i + 1) setup)) ++ registrations_in (drop (i + 1) setup) =
+    ap (λ l. earlier ++ l) (setup_front setup (i + 1)) ∙ sym (append_assoc earlier (registrations_in (take (i + 1) setup)) (registrations_in (drop (i + 1) setup))) in
+    let front = plain_front globals (earlier ++ registrations_in (take (i + 1) setup)) (registrations_in (drop (i + 1) setup)) (subst (AllPrintPlainly globals) all plain) in
+    subst (AreHeadsOf globals table) (sym more) (plain_noted globals table (earlier ++ registrations_in (take i setup)) r apart (subst (AllPrintPlainly globals) more front) h)
+
+pub rounds_more : (rounds : List Round) (i : ℕ) (round : Round) → i < length rounds → round ≡ get_or rounds i round → registrations_of (take (i + 1) rounds) ≡ registrations_of (take i rounds) ++ registrations_in round.setup.items
+rounds_more rounds i round within at =
+    ap registrations_of (take_more rounds i round within ∙ ap (λ r. take i rounds ++ r ∷ []) (sym at))
+    ∙ ap (flat_map registered_in) (map_push round_of (take i rounds) round)
+    ∙ flat_map-append registered_in (map round_of (take i rounds)) (round_of round ∷ [])
+    ∙ ap (λ l. registrations_of (take i rounds) ++ l) (append-nil (registrations_in round.setup.items))
+
+pub rounds_front : (rounds : List Round) (n : ℕ) → registrations_of rounds ≡ registrations_of (take n rounds) ++ registrations_of (drop n rounds)
+rounds_front rounds n =
+    ap registrations_of (sym (take-append-drop n rounds)) ∙ ap (flat_map registered_in) (map-append round_of (take n rounds) (drop n rounds))
+    ∙ flat_map-append registered_in (map round_of (take n rounds)) (map round_of (drop n rounds))

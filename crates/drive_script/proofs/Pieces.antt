@@ -1,12 +1,13 @@
 -- The lines of some bytes, one after the other.
-use Rattle.std.proofs.Common.{◌≡◌, ℕ, ◌+◌, ◌<◌, ◌==◌, Bool, false, not, List, [], ◌∷◌, ◌++◌, length, get_or, take, refl, sym, ap, subst, ◌∙◌, arith}
-use Rattle.std.specs.Prelude.{All}
+use Rattle.std.proofs.Common.{◌≡◌, ℕ, ◌+◌, ◌<◌, ◌==◌, Bool, false, not, List, [], ◌∷◌, ◌++◌, Option, Some, None, length, get_or, take, refl, sym, ap, subst, ◌∙◌, arith}
+use Rattle.std.specs.Prelude.{All, MatchOption}
 use Rattle.std.specs.List.{slice_split, position_or_len, before_first, after_first}
-use Rattle.std.proofs.lemmas.Bool.{not-true}
+use Rattle.std.proofs.lemmas.Bool.{not-true, false_from_ne_true}
 use Rattle.std.proofs.lemmas.List.{append_assoc, length-append, length_push, take_at, take-append-le}
 use Rattle.std.proofs.lemmas.List.Elements.{All-from_get_or}
 use Rattle.std.proofs.lemmas.List.Splits.{slice_split_first, slice_split_none, length-slice_split}
-use Rattle.std.proofs.lemmas.List.Sums.{prefix_len_passes}
+use Rattle.std.proofs.lemmas.List.Sums.{prefix_len_passes, position_or_len_is}
+use Rattle.memchr.specs.Find.{IsFirstByte, is_byte}
 use Rattle.metrics_core.specs.Characters.{newline}
 use Rattle.drive_script.specs.Script.{without_empty_last, lines_of}
 use Rattle.drive_script.specs.Valid.{AreValidLines, IsFirstBadLine}
@@ -19,6 +20,13 @@ more_pieces : (piece : List ℕ) (pieces : List (List ℕ)) → 0 < length piece
 more_pieces piece [] some = absurd (omega (arith, some))
 more_pieces [] (other ∷ pieces) some = refl
 more_pieces (c ∷ piece) (other ∷ pieces) some = refl
+
+-- what a search for a newline says of the first line
+pub first_end : (bytes : List ℕ) (found : Option ℕ) → IsFirstByte (is_byte newline) bytes found → MatchOption found (position_or_len ends_line bytes ≡ length bytes) (λ end. (position_or_len ends_line bytes ≡ end) × (end < length bytes))
+first_end bytes None h =
+    position_or_len_is ends_line bytes (length bytes) 0 (omega arith) (λ k below. false_from_ne_true (ends_line (get_or bytes k 0)) (h k (omega arith) below)) (λ past. absurd (omega (arith, past)))
+first_end bytes (Some end) (none, is) =
+    (position_or_len_is ends_line bytes end 0 (omega (arith, none.high)) (λ k below. false_from_ne_true (ends_line (get_or bytes k 0)) (none.before k (omega arith) below)) (λ _. is), none.high)
 
 -- a newline ends the first line
 pub line_ended : (bytes : List ℕ) → position_or_len ends_line bytes < length bytes → lines_of bytes ≡ before_first ends_line bytes ∷ lines_of (after_first ends_line bytes)

@@ -17,7 +17,6 @@ use Rattle.drive_script.specs.Texts.{call_line_of, setup_of, round_of, script_so
 use Rattle.drive_script.specs.declared.progress.ScriptSoFar.{ScriptSoFar}
 use Rattle.drive_script.specs.declared.script.CallLine.{CallLine}
 use Rattle.drive_script.specs.declared.script.Setup.{Setup}
-use Rattle.drive_script.specs.declared.script.Setup.TheVariants as setups
 use Rattle.drive_script.specs.declared.script.Round.{Round}
 use Rattle.drive_script.proofs.Growth.{one_registered, next_valid, only_next}
 
@@ -59,11 +58,11 @@ module _ (settings : SettingsText) (rounds : List Round) (n : ℕ) (len : n ≡ 
         }
 
     -- one more register line
-    module _ (setup : Vec Setup) (kind : MetricKind) (key : KeyText) (e : setup.items ≡ round.setup.items ++ setups.Register kind key ∷ []) (no_call : round.calls.items ≡ []) where
+    module _ (setup : Vec Setup) (line : Setup) (kind : MetricKind) (key : KeyText) (says : setup_of line ≡ text.Register kind key) (e : setup.items ≡ round.setup.items ++ line ∷ []) (no_call : round.calls.items ≡ []) where
       grown : script_with settings (set rounds (n - 1) (record { moment = round.moment; setup = setup; calls = round.calls })) ≡ record { settings = settings; rounds = map round_of (take (n - 1) rounds) ++ record (round_of round) { setup = map setup_of round.setup.items ++ text.Register kind key ∷ [] } ∷ [] }
       grown =
           let with_setup = λ (ss : List text.SetupLine). with_rounds settings (map round_of (take (n - 1) rounds) ++ round_with round.moment ss (map call_line_of round.calls.items) ∷ []) in
-          ap (with_rounds settings) (texts_set (record { moment = round.moment; setup = setup; calls = round.calls })) ∙ ap with_setup (ap (map setup_of) e ∙ map_push setup_of round.setup.items (setups.Register kind key))
+          ap (with_rounds settings) (texts_set (record { moment = round.moment; setup = setup; calls = round.calls })) ∙ ap with_setup (ap (map setup_of) e ∙ map_push setup_of round.setup.items line ∙ ap (λ s. map setup_of round.setup.items ++ s ∷ []) says)
 
       pub key_registered : registered (script_with settings (set rounds (n - 1) (record { moment = round.moment; setup = setup; calls = round.calls }))) ≡ registered (script_with settings rounds) ++ record { kind = kind; key = key } ∷ []
       key_registered = one_registered (script_with settings rounds) (script_with settings (set rounds (n - 1) (record { moment = round.moment; setup = setup; calls = round.calls }))) (map round_of (take (n - 1) rounds)) (round_of round) kind key texts_split grown

@@ -1,11 +1,10 @@
 -- Texts in quotes, and labels: what is read is their spelling, and each spelling is read.
 use Rattle.std.proofs.Common.{◌≡◌, ℕ, zero, suc, ◌+◌, ◌≤◌, Bool, true, false, ◌==◌, List, [], ◌∷◌, ◌++◌, length, Option, Some, None, refl, sym, ap, subst, ◌∙◌, append_assoc, arith, lit≤}
-use Rattle.std.specs.Prelude.{codes, IsUtf8, All, flat_map, if◌then◌else◌, string_bytes, Result, Ok, Err, IfOk, IsOk, MatchOption}
+use Rattle.std.specs.Prelude.{codes, IsUtf8, All, flat_map, if◌then◌else◌, string_bytes, Err, IsOk}
 use Rattle.std.specs.declared.vec.Vec.{Vec}
 use Rattle.std.specs.declared.string.String.{String}
 use Rattle.std.specs.declared.alloc.Global.{Global}
 use Rattle.std.specs.String.{string_vec}
-use Rattle.std.specs.Result.{result_ok}
 use Rattle.std.specs.Str.{is_utf8}
 use Rattle.std.proofs.lemmas.Bool.{eqb-true}
 use Rattle.std.proofs.lemmas.List.{append-nil, length-append}
@@ -256,15 +255,20 @@ labels_read = record { takes = takes; again = again }
 
 -- ---- what `from_utf8` says of characters
 
-pub text_given : {E : Type 0} (bytes rest : List ℕ) (text : Vec ℕ Global) (r : Result (String Global) E) → after (codes "\"") characters_at bytes ≡ Some (text.items, rest) → IfOk r (λ t. string_vec t ≡ text) → (IsUtf8 text.items → IsOk r)
-    → MatchOption (result_ok r) (text_at bytes ≡ None) (λ t. text_at bytes ≡ Some (string_bytes t, rest))
-unfolding text_at
-text_given bytes rest text (Ok t) read same succeeds =
-    let items : string_bytes t ≡ text.items = ap (λ (v : Vec ℕ Global). v.items) same in
-    let utf8 : is_utf8 text.items ≡ true = is_utf8-from_IsUtf8 text.items (subst IsUtf8 items (IsUtf8-string_bytes t)) in
-    rw (read, utf8, items) refl
-text_given bytes rest text (Err e) read same succeeds = rw read (by (is_utf8 text.items) refl)
+pub text_of_utf8 : (bytes rest : List ℕ) → IsUtf8 bytes → text_of (bytes, rest) ≡ Some (bytes, rest)
+text_of_utf8 bytes rest utf8 = rw (is_utf8-from_IsUtf8 bytes utf8) refl
+
+pub text_of_other : (bytes rest : List ℕ) → ¬ IsUtf8 bytes → text_of (bytes, rest) ≡ None
+text_of_other bytes rest other = by (is_utf8 bytes) refl
   where
-    by : (b : Bool) → is_utf8 text.items ≡ b → ◌≡◌ {A = Option (List ℕ × List ℕ)} (if b then Some (text.items, rest) else None) None
-    by true is = let ok = succeeds (IsUtf8-from_is_utf8 text.items is) in cc
+    by : (b : Bool) → is_utf8 bytes ≡ b → ◌≡◌ {A = Option (List ℕ × List ℕ)} (if b then Some (bytes, rest) else None) None
+    by true is = absurd (other (IsUtf8-from_is_utf8 bytes is))
     by false is = refl
+
+pub text_given : (text : Vec ℕ Global) (rest : List ℕ) (t : String Global) → string_vec t ≡ text → text_of (text.items, rest) ≡ Some (string_bytes t, rest)
+text_given text rest t same =
+    let items : string_bytes t ≡ text.items = ap (λ (v : Vec ℕ Global). v.items) same in
+    text_of_utf8 text.items rest (subst IsUtf8 items (IsUtf8-string_bytes t)) ∙ ap (λ bytes. Some (bytes, rest)) (sym items)
+
+pub text_refused : {E : Type 0} (text : Vec ℕ Global) (rest : List ℕ) (e : E) → (IsUtf8 text.items → IsOk {T = String Global} (Err e)) → text_of (text.items, rest) ≡ None
+text_refused text rest e succeeds = text_of_other text.items rest (λ utf8. let ok = succeeds utf8 in cc)

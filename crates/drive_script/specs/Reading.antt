@@ -1,6 +1,6 @@
 -- What is read from the front of a line, from left to right. That a line is read as what it says, and as nothing
 -- else, is proved.
-use Rattle.std.specs.Prelude.{ℕ, zero, suc, ◌+◌, ◌-◌, ◌*◌, ◌^◌, ◌&&◌, Bool, true, false, nat_le, nat_eq, List, [], ◌∷◌, length, take, drop, ℤ, Option, Some, None, codes, decimal, bytes_eq, not, ◌==◌, if◌then◌else◌}
+use Rattle.std.specs.Prelude.{ℕ, zero, suc, ◌+◌, ◌-◌, ◌*◌, ◌^◌, ◌&&◌, ◌||◌, Bool, true, false, nat_le, nat_eq, List, [], ◌∷◌, ◌++◌, length, take, drop, ℤ, Option, Some, None, codes, decimal, bytes_eq, not, ◌==◌, if◌then◌else◌}
 use Rattle.std.specs.Char.{is_ascii_digit}
 use Rattle.std.specs.List.{starts_with, position_or_len}
 use Rattle.std.specs.Str.{is_utf8}
@@ -148,9 +148,22 @@ some_characters_at (suc most) (c ∷ bytes) =
 abbrev pub characters_at : Reader (List ℕ)
 characters_at bytes = some_characters_at (length bytes) bytes
 
+-- how many bytes at the front stand for themselves in a text: they are no quote, no backslash and no newline
+abbrev pub run_length : List ℕ → ℕ
+run_length bytes = position_or_len (λ b. b == quote || b == backslash || b == newline) bytes
+
+-- what was read before, and then something
+abbrev pub and_then : {A : Type 0} → List A → Option (List A × List ℕ) → Option (List A × List ℕ)
+and_then done None = None
+and_then done (Some others) = Some (done ++ others.0, others.1)
+
 -- characters that are UTF-8
 abbrev pub text_of : List ℕ × List ℕ → Option (List ℕ × List ℕ)
 text_of text = if is_utf8 text.0 then Some text else None
+
+-- a text, behind what was read of it before
+abbrev pub text_behind : List ℕ → Reader (List ℕ)
+text_behind run bytes = and_then run (characters_at bytes) >>= text_of
 
 -- a text in quotes
 unfoldable pub text_at : Reader (List ℕ)

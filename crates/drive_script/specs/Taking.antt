@@ -1,8 +1,10 @@
--- What taking one more line does to the progress.
-use Rattle.std.specs.Prelude.{Bool, MatchBool}
+-- What taking one more line does to the progress, and when a register line may be taken.
+use Rattle.std.specs.Prelude.{◌≡◌, ◌-◌, ◌<◌, [], Bool, MatchBool, length, vec_len, slice_index_or}
 use Rattle.drive_script.specs.Script.{ScriptLine, ScriptText}
 use Rattle.drive_script.specs.Growth.{IsNext}
 use Rattle.drive_script.specs.Texts.{script_so_far, IsKnown}
+use Rattle.drive_script.specs.Valid.{registered}
+use Rattle.drive_script.specs.declared.script.Round.{Round}
 use Rattle.drive_script.specs.declared.progress.ScriptSoFar.{ScriptSoFar}
 
 -- the line was taken, and the script so far has it at its end; or it wasn't, and no script has it there
@@ -11,3 +13,11 @@ Takes old new line taken =
     MatchBool taken
     (IsNext (script_so_far old) line (script_so_far new) × IsKnown new)
     ((script : ScriptText) → ¬ IsNext (script_so_far old) line script)
+
+-- there is a last round, it has no call line yet, and there is room for one more register line
+pub record MayRegister (progress : ScriptSoFar) : Type 0 where
+  pub round : Round
+  pub in_round : 0 < vec_len progress.rounds
+  pub last : round ≡ slice_index_or progress.rounds.items (vec_len progress.rounds - 1) round
+  pub no_call : round.calls.items ≡ []
+  pub room : length (registered (script_so_far progress)) < 1000000

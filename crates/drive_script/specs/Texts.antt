@@ -1,15 +1,15 @@
 -- The script that a value of the program stands for.
-use Rattle.std.specs.Prelude.{◌≡◌, ℕ, List, map, string_bytes}
+use Rattle.std.specs.Prelude.{◌≡◌, ℕ, List, map, flat_map, filter_map, string_bytes}
 use Rattle.std.specs.declared.string.String.{String}
 use Rattle.std.specs.declared.alloc.Global.{Global}
 use Rattle.metrics_core.specs.declared.kinds.MetricKind.{MetricKind}
 use Rattle.metrics_core.specs.Keys.{LabelText, KeyText}
 use Rattle.prom_format.specs.LabelSets.{labels_of}
-use Rattle.drive_script.specs.Heads.{AreHeadsOf, keys_by_head}
+use Rattle.drive_script.specs.Heads.{AreNoted}
 use Rattle.drive_script.specs.Reading.{Registered}
 use Rattle.drive_script.specs.declared.script.Settings.{Settings}
 use Rattle.drive_script.specs.Script as text
-use Rattle.drive_script.specs.Valid.{registered, IsValid}
+use Rattle.drive_script.specs.Valid.{Registration, registration_of, registered_in, registered, IsValid}
 use Rattle.drive_script.specs.declared.progress.ScriptSoFar.{ScriptSoFar}
 use Rattle.drive_script.specs.declared.script.Act.{Act}
 use Rattle.drive_script.specs.declared.script.Act.TheVariants as acts
@@ -43,6 +43,13 @@ settings_of settings = text.only_globals (labels_of settings.globals.items)
 abbrev pub script_of : Script → text.ScriptText
 script_of script = record { settings = settings_of script.settings; rounds = map round_of script.rounds.items }
 
+-- the register lines of setup lines, and of rounds
+abbrev pub registrations_in : List Setup → List Registration
+registrations_in setup = filter_map registration_of (map setup_of setup)
+
+abbrev pub registrations_of : List Round → List Registration
+registrations_of rounds = flat_map registered_in (map round_of rounds)
+
 -- ---- lines
 
 abbrev pub label_of : String Global × String Global → LabelText
@@ -63,11 +70,11 @@ line_of (lines.Call call) = text.CallOf (call_line_of call)
 abbrev pub script_so_far : ScriptSoFar → text.ScriptText
 script_so_far progress = record { settings = settings_of progress.settings; rounds = map round_of progress.rounds.items }
 
--- what is known beside the script: the global labels, the kind of each register line, and whose each head is
+-- what is known beside the script: the global labels, the kind of each register line, and which lines print alike
 pub record IsKnown (progress : ScriptSoFar) : Type 0 where
   pub globals : labels_of progress.heads.globals.entries ≡ text.global_labels (script_so_far progress).settings
   pub kinds : progress.kinds.items ≡ map (λ r. r.kind) (registered (script_so_far progress))
-  pub heads : AreHeadsOf (labels_of progress.heads.globals.entries) (keys_by_head progress.heads.keys.entries) (registered (script_so_far progress))
+  pub heads : AreNoted (labels_of progress.heads.globals.entries) progress.heads.table (registered (script_so_far progress))
 
 -- the progress stands behind these lines: they are the valid script of its rounds
 pub record StandsBehind (lines : List (List ℕ)) (progress : ScriptSoFar) : Type 0 where

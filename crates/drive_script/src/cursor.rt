@@ -6,9 +6,7 @@ ghost use Rattle.std.specs.Prelude.{
   ◌<◌,
   ◌≤◌,
   ◌^◌,
-  ◌==◌,
   ◌≢◌,
-  not,
   decimal,
   MatchOption,
   IfNone,
@@ -19,11 +17,14 @@ ghost use Rattle.std.specs.Prelude.{
   Some,
   None,
   length,
+  take,
+  drop,
 };
-ghost use Rattle.std.specs.List.{position_or_len};
+ghost use Rattle.std.specs.Cow.{cow_str_bytes};
 ghost use Rattle.std.specs.Str.Parse.{AllDigits};
 ghost use Rattle.drive_script.specs.Reading.{
   after,
+  and_then,
   argument_at,
   behind,
   character_at,
@@ -38,7 +39,9 @@ ghost use Rattle.drive_script.specs.Reading.{
   labels_at,
   number_at,
   registered_kind_at,
+  run_length,
   text_at,
+  text_behind,
   value_of,
   verb_at,
 };
@@ -46,8 +49,10 @@ ghost use Rattle.drive_script.specs.Texts.{act_of};
 
 use crate::Act;
 use crate::lines::Verb;
+use crate::recent::Recent;
 use metrics_core::{BILLIONTHS, Fixed, Label, Memory, MetricKind, SharedString};
 use std::alloc::Global;
+use std::borrow::CowStr;
 
 const ONE: u64 = BILLIONTHS as u64;
 
@@ -124,27 +129,56 @@ impl<'a> Cursor<'a> {
         fraction_of(digits)
     }
 
-    /// Takes a text in quotes.
+    /// Takes a text in quotes: as it stands in the line, or as a text of its own where something in it is escaped.
     #[tactic(auto, unfolding(crate::specs::Reading::text_at))]
-    pub(crate) fn text(&mut self, alloc: Global) -> Result<Option<String>, Memory>
+    pub(crate) fn text(&mut self, alloc: Global) -> Result<Option<CowStr<'a>>, Memory>
         ensures { IfOk result (λ text. MatchOption text (text_at self.old.rest.now ≡ None)
-            (λ text. text_at self.old.rest.now ≡ Some (string_bytes text, self.new.rest.now))) }
+            (λ text. text_at self.old.rest.now ≡ Some (cow_str_bytes text, self.new.rest.now))) }
     {
         if self.literal(b"\"").is_none() {
             return Ok(None);
         }
-        let Some(text) = self.characters(alloc)? else {
-            return Ok(None);
-        };
-        Ok(String::from_utf8(text).ok())
+        let run = self.run();
+        if self.literal(b"\"").is_none() {
+            return self.escaped_text(alloc, run);
+        }
+        match str::from_utf8(run) {
+            Ok(text) => Ok(Some(CowStr::Borrowed(text))),
+            Err(_) => Ok(None),
+        }
     }
 
-    /// Takes the characters before the next quote, and the quote.
-    fn characters(&mut self, alloc: Global) -> Result<Option<Vec<u8>>, Memory>
-        ensures { IfOk result (λ text. MatchOption text (characters_at self.old.rest.now ≡ None)
-            (λ text. characters_at self.old.rest.now ≡ Some (text.items, self.new.rest.now))) }
+    /// Takes what follows the first run of a text, up to its quote. Answers the whole text.
+    fn escaped_text(&mut self, alloc: Global, run: &[u8]) -> Result<Option<CowStr<'a>>, Memory>
+        ensures { IfOk result (λ text. MatchOption text
+            (text_behind run.now self.old.rest.now ≡ None)
+            (λ text. text_behind run.now self.old.rest.now ≡ Some (cow_str_bytes text, self.new.rest.now))) }
     {
-        let mut text = Vec::new(alloc);
+        let Some(text) = self.characters(alloc, run)? else {
+            return Ok(None);
+        };
+        match String::from_utf8(text) {
+            Ok(text) => Ok(Some(CowStr::Owned(text))),
+            Err(_) => Ok(None),
+        }
+    }
+
+    /// Takes the bytes at the front that stand for themselves in a text.
+    fn run(&mut self) -> &'a [u8]
+        ensures run { result.now ≡ take (run_length self.old.rest.now) self.old.rest.now }
+        ensures rest { self.new.rest.now ≡ drop (run_length self.old.rest.now) self.old.rest.now }
+    {
+        let (run, rest) = self.rest.split_at(run_length(self.rest));
+        self.rest = rest;
+        run
+    }
+
+    /// Takes the characters before the next quote, and the quote. Answers them behind the run that was taken before.
+    fn characters(&mut self, alloc: Global, run: &[u8]) -> Result<Option<Vec<u8>>, Memory>
+        ensures { IfOk result (λ text. MatchOption text (and_then run.now (characters_at self.old.rest.now) ≡ None)
+            (λ text. and_then run.now (characters_at self.old.rest.now) ≡ Some (text.items, self.new.rest.now))) }
+    {
+        let mut text = Vec::from_slice(alloc, run)?;
         while let [first, rest @ ..] = self.rest {
             self.rest = rest;
             if *first == b'"' {
@@ -154,6 +188,7 @@ impl<'a> Cursor<'a> {
                 return Ok(None);
             };
             text.push(character)?;
+            text.extend_from_slice(self.run())?;
         }
         Ok(None)
     }
@@ -174,27 +209,34 @@ impl<'a> Cursor<'a> {
         escaped_by(*second)
     }
 
-    /// Takes labels up to the end of the line, each behind a space.
+    /// Takes labels up to the end of the line, each behind a space. The list has room for just as many as there are.
     #[tactic(auto, unfolding(crate::specs::Reading::labels_at))]
-    pub(crate) fn labels(&mut self, alloc: Global) -> Result<Option<Vec<Label>>, Memory>
+    pub(crate) fn labels(
+        &mut self,
+        alloc: Global,
+        recent: &mut Recent<'a>,
+    ) -> Result<Option<Vec<Label>>, Memory>
         ensures { IfOk result (λ labels. MatchOption labels (labels_at self.old.rest.now ≡ None)
             (λ labels. labels_at self.old.rest.now ≡ Some (labels.items, self.new.rest.now))) }
     {
-        let mut labels = Vec::new(alloc);
+        let mut labels = Vec::with_capacity(alloc, usize::from(!self.rest.is_empty()))?;
         while !self.rest.is_empty() {
-            let Some(label) = self.spaced_label(alloc)? else {
+            let Some((key, value)) = self.spaced_label(alloc)? else {
                 return Ok(None);
             };
-            labels.push(label)?;
+            let key = recent.shared(alloc, labels.len() + 1, key)?;
+            labels.push(Label::new(key, SharedString::from(value)))?;
         }
+        labels.shrink_to_fit();
         Ok(Some(labels))
     }
 
-    /// Takes a space and a label.
+    /// Takes a space and a label. Answers its key and its value.
     #[tactic(auto, unfolding(crate::specs::Reading::label_at))]
-    fn spaced_label(&mut self, alloc: Global) -> Result<Option<Label>, Memory>
+    fn spaced_label(&mut self, alloc: Global) -> Result<Option<(CowStr<'a>, String)>, Memory>
         ensures { IfOk result (λ label. MatchOption label (after (codes " ") label_at self.old.rest.now ≡ None)
-            (λ label. after (codes " ") label_at self.old.rest.now ≡ Some (label, self.new.rest.now))) }
+            (λ label. after (codes " ") label_at self.old.rest.now
+            ≡ Some (record { key = cow_str_bytes label.0; value = string_bytes label.1 }, self.new.rest.now))) }
     {
         if self.literal(b" ").is_none() {
             return Ok(None);
@@ -208,7 +250,7 @@ impl<'a> Cursor<'a> {
         let Some(value) = self.text(alloc)? else {
             return Ok(None);
         };
-        Ok(Some(Label::new(SharedString::from(key), SharedString::from(value))))
+        Ok(Some((key, value.into_owned(alloc)?)))
     }
 
     /// Takes what a call line does.
@@ -267,14 +309,14 @@ impl<'a> Cursor<'a> {
     }
 }
 
-/// How many bytes stand before the first `stop`, or how many there are.
-pub(crate) fn count_before(bytes: &[u8], stop: u8) -> usize
-    ensures count { result ≡ position_or_len (λ b. b == stop) bytes.now }
+/// How many bytes at the front stand for themselves in a text.
+fn run_length(bytes: &[u8]) -> usize
+    ensures count { result ≡ run_length bytes.now }
     ensures within { result ≤ length bytes.now }
 {
     bytes
         .iter()
-        .position(|byte| *byte == stop)
+        .position(|byte| matches!(*byte, b'"' | b'\\' | b'\n'))
         .unwrap_or(bytes.len())
 }
 

@@ -1,33 +1,36 @@
-//! The table of heads: what the rows of each register line begin with, and whose that is.
+//! Which register lines print alike: what the rows of each begin with, and whose that is.
 
 ghost use Rattle.std.specs.Prelude.{◌≡◌, List, [], ◌∷◌, ◌++◌, All, IfOk, MatchBool, OnOk, string_bytes};
 ghost use Rattle.metrics_core.specs.Kinds.{kind_text};
-ghost use Rattle.metrics_core.specs.Keys.{put_label, KeyText};
+ghost use Rattle.metrics_core.specs.Keys.{put_label};
 ghost use Rattle.prom_format.specs.LabelSets.{labels_of};
-ghost use Rattle.drive_script.specs.Heads.{text_of_head, keys_by_head, AreHeadsOf};
+ghost use Rattle.drive_script.specs.Heads.{text_of_head, keys_by_head, AreHeadsOf, AllPrintPlainly, AreNoted};
+ghost use Rattle.drive_script.specs.Texts.{registrations_in, registrations_of};
 ghost use Rattle.drive_script.specs.Valid.{Registration, PrintApart};
 
+use crate::{Round, Setup};
 use indexmap::IndexMap;
 use metrics_core::{Key, Memory, MetricKind};
-use prom_format::{put_label, row_head};
+use prom_format::{prints_plainly, put_label, row_head};
 use std::alloc::Global;
 
-/// The global labels, and under each head of a register line its key.
+/// The global labels, and the table of heads. As long as each key so far prints plainly there is no table, since no two
+/// such keys print alike.
 #[derive(Drop)]
 pub(crate) struct Heads {
     globals: IndexMap<String, String>,
-    keys: IndexMap<String, Key>,
+    table: Option<HeadTable>,
 }
 
 impl Heads {
-    /// No global label and no head.
+    /// No global label and no key.
     pub(crate) fn new(alloc: Global) -> Heads
         ensures globals { labels_of result.globals.entries ≡ [] }
-        ensures heads { AreHeadsOf [] (keys_by_head result.keys.entries) [] }
+        ensures noted { AreNoted [] result.table [] }
     {
         Heads {
             globals: IndexMap::new(alloc),
-            keys: IndexMap::new(alloc),
+            table: None,
         }
     }
 
@@ -35,27 +38,99 @@ impl Heads {
     pub(crate) fn add_global(&mut self, alloc: Global, key: &str, value: &str) -> Result<(), Memory>
         ensures added { OnOk result (labels_of self.new.globals.entries
             ≡ put_label (labels_of self.old.globals.entries) (record { key = key.now; value = value.now })) }
-        ensures keys { self.new.keys ≡ self.old.keys }
+        ensures table { self.new.table ≡ self.old.table }
     {
         put_label(&mut self.globals, key, value, alloc)
     }
 
-    /// Notes the head of one more register line. Answers whether all with this head have equal keys.
+    /// Notes one more register line behind those of the rounds. Answers whether all that print like it have an equal key.
     pub(crate) fn note(
         &mut self,
         alloc: Global,
         kind: MetricKind,
         key: &Key,
+        rounds: &[Round],
     ) -> Result<bool, Memory>
         ensures globals { self.new.globals ≡ self.old.globals }
-        ensures apart { (registered : List Registration)
-            → AreHeadsOf (labels_of self.old.globals.entries) (keys_by_head self.old.keys.entries) registered
+        ensures apart { AreNoted (labels_of self.old.globals.entries) self.old.table (registrations_of rounds.now)
             → IfOk result (λ apart. MatchBool apart
-            (AreHeadsOf (labels_of self.old.globals.entries) (keys_by_head self.new.keys.entries) (registered ++ record { kind = kind; key = key.now } ∷ [])
-            × All (λ r. PrintApart (labels_of self.old.globals.entries) r (record { kind = kind; key = key.now })) registered)
-            (¬ All (λ r. PrintApart (labels_of self.old.globals.entries) r (record { kind = kind; key = key.now })) registered)) }
+            (AreNoted (labels_of self.old.globals.entries) self.new.table (registrations_of rounds.now ++ record { kind = kind; key = key.now } ∷ [])
+            × All (λ r. PrintApart (labels_of self.old.globals.entries) r (record { kind = kind; key = key.now })) (registrations_of rounds.now))
+            (¬ All (λ r. PrintApart (labels_of self.old.globals.entries) r (record { kind = kind; key = key.now })) (registrations_of rounds.now))) }
     {
-        let head = self.head(alloc, kind, key)?;
+        if let Some(table) = &mut self.table {
+            return table.note(alloc, &self.globals, kind, key);
+        }
+        if prints_plainly(key, &self.globals) {
+            return Ok(true);
+        }
+        let mut table = HeadTable::of_rounds(alloc, &self.globals, rounds)?;
+        let apart = table.note(alloc, &self.globals, kind, key)?;
+        self.table = Some(table);
+        Ok(apart)
+    }
+}
+
+/// Under what the rows of each register line begin with, its key.
+#[derive(Drop)]
+pub(crate) struct HeadTable {
+    keys: IndexMap<String, Key>,
+}
+
+impl HeadTable {
+    /// The table of the register lines of rounds, all of which print plainly.
+    fn of_rounds(
+        alloc: Global,
+        globals: &IndexMap<String, String>,
+        rounds: &[Round],
+    ) -> Result<HeadTable, Memory>
+        ensures { AllPrintPlainly (labels_of globals.now.entries) (registrations_of rounds.now)
+            → IfOk result (λ table. AreHeadsOf (labels_of globals.now.entries) (keys_by_head table.keys.entries) (registrations_of rounds.now)) }
+    {
+        let mut table = HeadTable {
+            keys: IndexMap::new(alloc),
+        };
+        for round in rounds {
+            table.note_setup(alloc, globals, &round.setup)?;
+        }
+        Ok(table)
+    }
+
+    /// Notes the register lines of a round, which print plainly, as all before them do.
+    fn note_setup(
+        &mut self,
+        alloc: Global,
+        globals: &IndexMap<String, String>,
+        setup: &[Setup],
+    ) -> Result<(), Memory>
+        ensures { (earlier : List Registration)
+            → AreHeadsOf (labels_of globals.now.entries) (keys_by_head self.old.keys.entries) earlier
+            → AllPrintPlainly (labels_of globals.now.entries) (earlier ++ registrations_in setup.now)
+            → OnOk result (AreHeadsOf (labels_of globals.now.entries) (keys_by_head self.new.keys.entries) (earlier ++ registrations_in setup.now)) }
+    {
+        for line in setup {
+            let Setup::Register { kind, key } = line;
+            self.note(alloc, globals, *kind, key)?;
+        }
+        Ok(())
+    }
+
+    /// Notes one more register line. Answers whether all that print like it have an equal key.
+    fn note(
+        &mut self,
+        alloc: Global,
+        globals: &IndexMap<String, String>,
+        kind: MetricKind,
+        key: &Key,
+    ) -> Result<bool, Memory>
+        ensures { (registered : List Registration)
+            → AreHeadsOf (labels_of globals.now.entries) (keys_by_head self.old.keys.entries) registered
+            → IfOk result (λ apart. MatchBool apart
+            (AreHeadsOf (labels_of globals.now.entries) (keys_by_head self.new.keys.entries) (registered ++ record { kind = kind; key = key.now } ∷ [])
+            × All (λ r. PrintApart (labels_of globals.now.entries) r (record { kind = kind; key = key.now })) registered)
+            (¬ All (λ r. PrintApart (labels_of globals.now.entries) r (record { kind = kind; key = key.now })) registered)) }
+    {
+        let head = head_of(alloc, globals, kind, key)?;
         if let Some(known) = self.keys.get(&head) {
             return Ok(known == key);
         }
@@ -63,18 +138,23 @@ impl Heads {
         self.keys.insert(head, key)?;
         Ok(true)
     }
+}
 
-    /// The kind, and what each row of a series with this key begins with.
-    fn head(&self, alloc: Global, kind: MetricKind, key: &Key) -> Result<String, Memory>
-        ensures { IfOk result (λ text. string_bytes text
-            ≡ text_of_head (labels_of self.now.globals.entries) (record { kind = kind; key = key.now })) }
-    {
-        let head = row_head(alloc, key, &self.globals)?;
-        let kind = match kind {
-            MetricKind::Counter => "counter",
-            MetricKind::Gauge => "gauge",
-            MetricKind::Histogram => "histogram",
-        };
-        Ok(format!(in alloc; "{kind} {head}")?)
-    }
+/// The kind, and what each row of a series with this key begins with.
+fn head_of(
+    alloc: Global,
+    globals: &IndexMap<String, String>,
+    kind: MetricKind,
+    key: &Key,
+) -> Result<String, Memory>
+    ensures { IfOk result (λ text. string_bytes text
+        ≡ text_of_head (labels_of globals.now.entries) (record { kind = kind; key = key.now })) }
+{
+    let head = row_head(alloc, key, globals)?;
+    let kind = match kind {
+        MetricKind::Counter => "counter",
+        MetricKind::Gauge => "gauge",
+        MetricKind::Histogram => "histogram",
+    };
+    Ok(format!(in alloc; "{kind} {head}")?)
 }

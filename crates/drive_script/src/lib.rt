@@ -13,6 +13,7 @@ mod heads;
 mod lines;
 mod progress;
 mod reader;
+mod recent;
 mod script;
 
 pub use examples::{basic_example, empty_example};

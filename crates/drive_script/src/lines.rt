@@ -7,6 +7,7 @@ ghost use Rattle.drive_script.specs.Reading.{global_at, round_at, register_at, c
 ghost use Rattle.drive_script.specs.Texts.{call_line_of, label_of, registered_of, line_of};
 
 use crate::cursor::Cursor;
+use crate::recent::Recent;
 use crate::{Act, CallLine};
 use metrics_core::{Key, KeyName, Memory, MetricKind};
 use std::alloc::Global;
@@ -37,7 +38,11 @@ pub(crate) enum Verb {
 }
 
 /// What a line says, if it is of some form.
-pub(crate) fn read_line(alloc: Global, line: &[u8]) -> Result<Option<Statement>, Memory>
+pub(crate) fn read_line<'a>(
+    alloc: Global,
+    line: &'a [u8],
+    recent: &mut Recent<'a>,
+) -> Result<Option<Statement>, Memory>
     ensures { IfOk result (λ read.
         MatchOption read ((says : ScriptLine) → ¬ IsLine line.now says)
         (λ says. IsLine line.now (line_of says))) }
@@ -48,7 +53,7 @@ pub(crate) fn read_line(alloc: Global, line: &[u8]) -> Result<Option<Statement>,
     if let Some(moment) = round_line(line) {
         return Ok(Some(Statement::Round(moment)));
     }
-    if let Some((kind, key)) = register_line(alloc, line)? {
+    if let Some((kind, key)) = register_line(alloc, line, recent)? {
         return Ok(Some(Statement::Register { kind, key }));
     }
     if let Some((key, value)) = global_line(alloc, line)? {
@@ -76,7 +81,7 @@ fn global_line(alloc: Global, line: &[u8]) -> Result<Option<(String, String)>, M
         return Ok(None);
     };
     match cursor.end() {
-        Some(()) => Ok(Some((key, value))),
+        Some(()) => Ok(Some((key.into_owned(alloc)?, value.into_owned(alloc)?))),
         None => Ok(None),
     }
 }
@@ -95,7 +100,11 @@ fn round_line(line: &[u8]) -> Option<u64>
 
 /// The kind and the key that a register line registers.
 #[tactic(auto, unfolding(crate::specs::Reading::register_at))]
-fn register_line(alloc: Global, line: &[u8]) -> Result<Option<(MetricKind, Key)>, Memory>
+fn register_line<'a>(
+    alloc: Global,
+    line: &'a [u8],
+    recent: &mut Recent<'a>,
+) -> Result<Option<(MetricKind, Key)>, Memory>
     ensures { IfOk result (λ read. option_map registered_of read ≡ register_at line.now) }
 {
     let mut cursor = Cursor::new(line);
@@ -105,7 +114,8 @@ fn register_line(alloc: Global, line: &[u8]) -> Result<Option<(MetricKind, Key)>
     let Some(name) = cursor.text(alloc)? else {
         return Ok(None);
     };
-    let Some(labels) = cursor.labels(alloc)? else {
+    let name = recent.shared(alloc, 0, name)?;
+    let Some(labels) = cursor.labels(alloc, recent)? else {
         return Ok(None);
     };
     let key = Key::from_parts(KeyName::from(name), labels);

@@ -2,13 +2,17 @@
 
 ghost use Rattle.std.specs.Prelude.{◌≡◌, ℕ, List, [], ◌∷◌, ◌++◌, ◌↔◌, IsTrue, IfOk, OnOk, MatchBool};
 ghost use Rattle.drive_script.specs.Script as text;
-ghost use Rattle.drive_script.specs.Taking.{Takes};
+ghost use Rattle.metrics_core.specs.Keys.{KeyText};
+ghost use Rattle.metrics_core.specs.declared.kinds.MetricKind.{MetricKind};
+ghost use Rattle.drive_script.specs.Growth.{IsNext};
+ghost use Rattle.drive_script.specs.Taking.{Takes, MayRegister};
 ghost use Rattle.drive_script.specs.Texts.{call_line_of, script_of, label_of, script_so_far, IsKnown, StandsBehind};
 ghost use Rattle.drive_script.specs.Valid.{registered, HasHandle, AreValidLines};
 ghost use Rattle.std.specs.List.Sorted.{IsNonDecreasingBy};
 
 use crate::heads::Heads;
 use crate::lines::{Statement, read_line};
+use crate::recent::Recent;
 use crate::{CallLine, Round, Script, Settings, Setup};
 use metrics_core::{Key, Memory, MetricKind};
 use std::alloc::Global;
@@ -16,7 +20,7 @@ use std::alloc::Global;
 /// How many register lines a script may have.
 const MAX_REGISTRATIONS: usize = 1_000_000;
 
-/// The settings and the rounds so far, the kind of each register line in them, and the heads of all keys. After an `Err`
+/// The settings and the rounds so far, the kind of each register line in them, and which of these print alike. After an `Err`
 /// of a method it is of no use.
 #[derive(Drop)]
 pub(crate) struct ScriptSoFar {
@@ -42,12 +46,17 @@ impl ScriptSoFar {
     }
 
     /// Takes the next line. Answers whether the lines with it are a valid script.
-    pub(crate) fn take_line(&mut self, alloc: Global, line: &[u8]) -> Result<bool, Memory>
+    pub(crate) fn take_line<'a>(
+        &mut self,
+        alloc: Global,
+        line: &'a [u8],
+        recent: &mut Recent<'a>,
+    ) -> Result<bool, Memory>
         ensures { (lines : List (List ℕ)) → StandsBehind lines self.old → IfOk result (λ taken.
             MatchBool taken (StandsBehind (lines ++ line.now ∷ []) self.new)
             (¬ AreValidLines (lines ++ line.now ∷ []))) }
     {
-        match read_line(alloc, line)? {
+        match read_line(alloc, line, recent)? {
             None => Ok(false),
             Some(Statement::Global(key, value)) => self.add_global(alloc, key, value),
             Some(Statement::Round(moment)) => self.begin_round(alloc, moment),
@@ -102,18 +111,30 @@ impl ScriptSoFar {
     fn register(&mut self, alloc: Global, kind: MetricKind, key: Key) -> Result<bool, Memory>
         ensures next { IsKnown self.old → IfOk result (Takes self.old self.new (text.Setup (text.Register kind key))) }
     {
+        if !self.may_register() {
+            return Ok(false);
+        }
+        if !self.heads.note(alloc, kind, &key, &self.rounds)? {
+            return Ok(false);
+        }
         let Some(round) = self.rounds.last_mut() else {
             return Ok(false);
         };
-        if !round.calls.is_empty() || self.kinds.len() >= MAX_REGISTRATIONS {
-            return Ok(false);
-        }
-        if !self.heads.note(alloc, kind, &key)? {
-            return Ok(false);
-        }
         self.kinds.push(kind)?;
         round.setup.push(Setup::Register { kind, key })?;
         Ok(true)
+    }
+
+    /// Whether a register line may stand here: in a round, before its calls, as one of the first 1,000,000.
+    fn may_register(&self) -> bool
+        ensures { IsKnown self.now → MatchBool result (MayRegister self.now)
+            ((kind : MetricKind) (key : KeyText) (script : text.ScriptText)
+            → ¬ IsNext (script_so_far self.now) (text.Setup (text.Register kind key)) script) }
+    {
+        let Some(round) = self.rounds.last() else {
+            return false;
+        };
+        round.calls.is_empty() && self.kinds.len() < MAX_REGISTRATIONS
     }
 
     /// The last round calls, if it may.

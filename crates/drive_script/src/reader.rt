@@ -6,9 +6,10 @@ ghost use Rattle.drive_script.specs.Script.{lines_of};
 ghost use Rattle.drive_script.specs.Texts.{script_of};
 ghost use Rattle.drive_script.specs.Valid.{IsScriptOf};
 
-use crate::cursor::count_before;
 use crate::progress::ScriptSoFar;
+use crate::recent::Recent;
 use crate::{DriveFault, Script};
+use memchr::memchr;
 use std::alloc::Global;
 
 /// Reads a script. Bytes that are no valid script are refused with their first bad line.
@@ -17,12 +18,13 @@ pub fn read_script(alloc: Global, bytes: &[u8]) -> Result<Script, DriveFault>
     ensures refused { IfErr result (IsScriptFault bytes.now) }
 {
     let mut progress = ScriptSoFar::new(alloc);
+    let mut recent = Recent::new(alloc);
     let mut rest = bytes;
     let mut line = 0;
     while !rest.is_empty() {
         let (text, after) = split_line(rest);
         line += 1;
-        if !progress.take_line(alloc, text)? {
+        if !progress.take_line(alloc, text, &mut recent)? {
             return Err(DriveFault::Script { line });
         }
         rest = after;
@@ -36,9 +38,8 @@ fn split_line(bytes: &[u8]) -> (&[u8], &[u8])
     ensures lines { lines_of bytes.now ≡ result.0.now ∷ lines_of result.1.now }
     ensures shorter { length result.1.now < length bytes.now }
 {
-    let end = count_before(bytes, b'\n');
-    if end == bytes.len() {
-        return (bytes, &[]);
+    match memchr(b'\n', bytes) {
+        Some(end) => (&bytes[..end], &bytes[end + 1..]),
+        None => (bytes, &[]),
     }
-    (&bytes[..end], &bytes[end + 1..])
 }

@@ -1,4 +1,5 @@
-use Rattle.std.proofs.Common.{◌≡◌, Some, sym, rules, string_bytes}
+use Rattle.std.proofs.Common.{◌≡◌, Some, sym, rules}
+use Rattle.std.specs.Cow.{cow_str_bytes}
 use Rattle.drive_script.specs.Reading.{registered_kind_at, text_at, labels_at}
 use Rattle.drive_script.proofs.Loops.{registered_read}
 use Rattle.drive_script.proofs.lines.register_line.Goals as goal
@@ -7,6 +8,6 @@ pub returns : goal.returns
 returns c =
     let line = c.args.line.now in
     let kind : registered_kind_at line ≡ Some (c.in-Some.kind, c.registered_kind.new.self.rest.now) = search rules in
-    let name : text_at c.registered_kind.new.self.rest.now ≡ Some (string_bytes c.in-Some-2.name, c.text.new.self.rest.now) = search rules in
+    let name : text_at c.registered_kind.new.self.rest.now ≡ Some (cow_str_bytes c.in-Some-2.name, c.text.new.self.rest.now) = search rules in
     let labels : labels_at c.text.new.self.rest.now ≡ Some (c.in-Some-3.labels.items, c.labels.new.self.rest.now) = search rules in
-    rw (c.from_parts-key.ensures.parts, c.from.ensures) (sym (registered_read line c.registered_kind.new.self.rest.now c.text.new.self.rest.now c.labels.new.self.rest.now c.in-Some.kind (string_bytes c.in-Some-2.name) c.in-Some-3.labels.items kind name labels))
+    rw (c.from_parts-key.ensures.parts, c.from.ensures, c.in_ok-name-2.ensures.text) (sym (registered_read line c.registered_kind.new.self.rest.now c.text.new.self.rest.now c.labels.new.self.rest.now c.in-Some.kind (cow_str_bytes c.in-Some-2.name) c.in-Some-3.labels.items kind name labels))

@@ -1,32 +1,22 @@
-use Rattle.std.proofs.Common.{◌≡◌, [], ◌∷◌, ◌++◌, Some, None, sym, ap, subst, ◌∙◌}
-use Rattle.std.specs.Prelude.{All}
-use Rattle.std.specs.String.{string_eq}
-use Rattle.indexmap.proofs.CallerLemmas.{insert_entry-new}
+use Rattle.std.proofs.Common.{◌≡◌, None, subst, rules}
 use Rattle.prom_format.specs.LabelSets.{labels_of}
-use Rattle.drive_script.specs.Heads.{text_of_head, keys_by_head, key_at, AreHeadsOf}
-use Rattle.drive_script.specs.Valid.{Registration, PrintApart}
-use Rattle.drive_script.proofs.HeadSteps.{head_added, head_tested, key_at_entries, keys_by_head-push}
+use Rattle.drive_script.specs.Heads.{AreNoted}
+use Rattle.drive_script.specs.Texts.{registrations_of}
+use Rattle.drive_script.proofs.HeadSteps.{plain_added}
 use Rattle.drive_script.proofs.heads.Heads.note.Goals as goal
 
 pub returns-in-Some-clause-apart : goal.returns-in-Some-clause-apart
-returns-in-Some-clause-apart c = λ registered h.
+returns-in-Some-clause-apart c = λ noted.
+    c.note.ensures (registrations_of c.args.rounds.now) (subst (λ t. AreNoted (labels_of c.args.self.now.globals.entries) t (registrations_of c.args.rounds.now)) (c.in-Some.is) noted)
+
+pub returns-then-prints_plainly-clause-apart : goal.returns-then-prints_plainly-clause-apart
+returns-then-prints_plainly-clause-apart c = λ noted.
     let globals = labels_of c.args.self.now.globals.entries in
-    let entries = c.args.self.now.keys.entries in
-    let registration : Registration = record { kind = c.args.kind; key = c.args.key.now } in
-    let found : key_at (keys_by_head entries) (text_of_head globals registration) ≡ Some c.in-Some.known.now =
-    ap (key_at (keys_by_head entries)) (sym c.in_ok-head.ensures) ∙ sym (key_at_entries entries c.in_ok-head.head) ∙ sym c.in-Some.ensures.value in
-    head_tested globals (keys_by_head entries) registered registration h c.in-Some.known.now found c.eq.result c.eq.ensures
+    let none : c.args.self.now.table ≡ None = search rules in
+    rw none (plain_added globals (registrations_of c.args.rounds.now) (record { kind = c.args.kind; key = c.args.key.now }) (rw none at noted) (c.prints_plainly.ensures c.if-prints_plainly.true))
 
 pub returns-clause-apart : goal.returns-clause-apart
-returns-clause-apart c = λ registered h.
+returns-clause-apart c = λ noted.
     let globals = labels_of c.args.self.now.globals.entries in
-    let entries = c.args.self.now.keys.entries in
-    let registration : Registration = record { kind = c.args.kind; key = c.args.key.now } in
-    let absent : key_at (keys_by_head entries) (text_of_head globals registration) ≡ None =
-    ap (key_at (keys_by_head entries)) (sym c.in_ok-head.ensures) ∙ sym (key_at_entries entries c.in_ok-head.head) ∙ sym c.in_default.ensures.value in
-    let table : keys_by_head c.insert.new.self.entries ≡ keys_by_head entries ++ (text_of_head globals registration, registration.key) ∷ [] =
-    ap keys_by_head (c.in_ok-insert.ensures.entries ∙ insert_entry-new string_eq c.args.self.now.keys c.in_ok-head.head c.in_ok-key.key (sym c.in_default.ensures.value))
-    ∙ keys_by_head-push entries c.in_ok-head.head c.in_ok-key.key
-    ∙ (λ j. keys_by_head entries ++ (c.in_ok-head.ensures j, c.in_ok-key.ensures.same j) ∷ []) in
-    subst (λ t. AreHeadsOf globals t (registered ++ registration ∷ []) × All (λ s. PrintApart globals s registration) registered) (sym table)
-    (head_added globals (keys_by_head entries) registered registration h absent)
+    let none : c.args.self.now.table ≡ None = search rules in
+    c.in_ok-apart.ensures (registrations_of c.args.rounds.now) (c.in_ok-table.ensures (rw none at noted))

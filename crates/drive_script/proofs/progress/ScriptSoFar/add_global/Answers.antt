@@ -1,13 +1,11 @@
 use Rattle.std.proofs.Common.{◌≡◌, [], ◌∷◌, ◌++◌, map, sym, ap, ◌∙◌, rules}
-use Rattle.std.specs.Prelude.{flat_map, fold}
+use Rattle.std.specs.Prelude.{fold}
 use Rattle.std.proofs.lemmas.List.{map_push, nil_from_length}
 use Rattle.metrics_core.specs.Keys.{put_label}
 use Rattle.prom_format.specs.LabelSets.{labels_of, label_of_entry}
 use Rattle.drive_script.specs.Script.{only_globals}
-use Rattle.drive_script.specs.Heads.{keys_by_head}
-use Rattle.drive_script.specs.Texts.{round_of, label_of}
-use Rattle.drive_script.specs.Valid.{registered_in}
-use Rattle.drive_script.proofs.HeadSteps.{label_set-push, no_heads}
+use Rattle.drive_script.specs.Texts.{round_of, label_of, registrations_of}
+use Rattle.drive_script.proofs.HeadSteps.{label_set-push, none_noted}
 use Rattle.drive_script.proofs.progress.ScriptSoFar.add_global.Goals as goal
 
 pub returns : goal.returns
@@ -27,8 +25,8 @@ returns c =
         record {
           globals = put ∙ ap (λ labels. put_label labels label) known.globals ∙ sym (label_set-push globals label) ∙ ap (λ gs. fold put_label [] (gs ++ [])) (sym pushed);
           kinds = known.kinds;
-          heads = no_heads (labels_of old.heads.globals.entries) (labels_of c.add_global.new.self.globals.entries) (keys_by_head old.heads.keys.entries) (keys_by_head c.add_global.new.self.keys.entries) (flat_map registered_in (map round_of old.rounds.items))
-              (ap (λ keys. keys_by_head keys.entries) c.in_ok-add_global.ensures.keys) (ap (λ rs. flat_map registered_in (map round_of rs)) none) known.heads;
+          heads = none_noted (labels_of old.heads.globals.entries) (labels_of c.add_global.new.self.globals.entries) old.heads.table c.add_global.new.self.table (registrations_of old.rounds.items)
+              c.in_ok-add_global.ensures.table (ap registrations_of none) known.heads;
         },
       );
     }

@@ -5,7 +5,7 @@ use Rattle.std.proofs.lemmas.List.{nil_from_length}
 use Rattle.std.proofs.lemmas.List.Elements.{All-nil}
 use Rattle.prom_format.specs.LabelSets.{labels_of}
 use Rattle.drive_script.specs.Script.{RoundText}
-use Rattle.drive_script.specs.Heads.{keys_by_head, AreHeadsOf}
+use Rattle.drive_script.specs.Heads.{AreNoted}
 use Rattle.drive_script.specs.Growth.{BeginsRound}
 use Rattle.drive_script.specs.Texts.{round_of, settings_of, script_so_far}
 use Rattle.drive_script.specs.declared.script.Round.{Round}
@@ -39,7 +39,7 @@ returns-2 c =
             record {
               globals = known.globals;
               kinds = known.kinds ∙ ap kinds_of (sym same);
-              heads = subst (AreHeadsOf (labels_of old.heads.globals.entries) (keys_by_head old.heads.keys.entries)) (sym same) known.heads;
+              heads = subst (AreNoted (labels_of old.heads.globals.entries) old.heads.table) (sym same) known.heads;
             },
           );
     }

@@ -1,7 +1,7 @@
 use Rattle.std.proofs.Common.{◌≡◌, ◌-◌, ◌∙◌, sym, ap, subst, set, refl, rules, true}
 use Rattle.std.specs.Prelude.{vec_len}
 use Rattle.prom_format.specs.LabelSets.{labels_of}
-use Rattle.drive_script.specs.Heads.{keys_by_head, AreHeadsOf}
+use Rattle.drive_script.specs.Heads.{AreNoted}
 use Rattle.drive_script.specs.Growth.{AddsCall}
 use Rattle.drive_script.specs.Texts.{call_line_of, script_so_far, settings_of, IsKnown}
 use Rattle.drive_script.proofs.Growth.{none_registered}
@@ -21,5 +21,5 @@ returns c = record {
   next = λ known.
       let next = added c known in
       let same = none_registered _ _ _ next in
-      (next, record { globals = known.globals; kinds = known.kinds ∙ ap kinds_of (sym same); heads = subst (AreHeadsOf (labels_of c.args.self.now.heads.globals.entries) (keys_by_head c.args.self.now.heads.keys.entries)) (sym same) known.heads });
+      (next, record { globals = known.globals; kinds = known.kinds ∙ ap kinds_of (sym same); heads = subst (AreNoted (labels_of c.args.self.now.heads.globals.entries) c.args.self.now.heads.table) (sym same) known.heads });
 }
