@@ -1,10 +1,12 @@
 -- From the parts of a run to what it says as a whole.
 use Rattle.std.proofs.Common.{◌≡◌, ℕ, ◌≤◌, ◌⊎◌, inl, inr, List, length, refl, sym, subst, arith}
-use Rattle.std.specs.Prelude.{Option, Some, None, IfSome, Result, Ok, Err, IfErr, OnErr, IsErrAnd}
+use Rattle.std.specs.Prelude.{Option, Some, None, IfSome, Result, Ok, Err, IfErr, OnErr, IsErrAnd, IfOk}
 use Rattle.std.proofs.lemmas.Result.{err_from_is_err_and}
 use Rattle.metrics_core.specs.Outside.{Rose, GrewBy, GrewByPrefix}
 use Rattle.drive_script.specs.Script.{ScriptText, lines_of}
+use Rattle.drive_script.specs.Texts.{script_of}
 use Rattle.drive_script.specs.Valid.{IsScriptOf}
+use Rattle.drive_script.specs.declared.script.Script.{Script}
 use Rattle.drive_script.proofs.Laws.{beginnings}
 use Rattle.drive_script.specs.Faults.{IsScriptFault}
 use Rattle.drive_script.specs.declared.faults.DriveFault.{DriveFault}
@@ -12,7 +14,7 @@ use Rattle.drive_script.specs.declared.faults.DriveFault.TheVariants as faults
 use Rattle.script_runs.specs.Headline.{IsPlayed, IsPlayedInPart, IsGoodScript, script_limit}
 use Rattle.script_runs.specs.Orders.{ForSomeRun, run_text}
 use Rattle.script_runs.specs.Answers.{IsComplete, IsBadScript, IsTooLong, IsPlayFault, LeavesPrefix, end_status, fault_status}
-use Rattle.script_runs.specs.Reading.{IsReadFault}
+use Rattle.script_runs.specs.Reading.{IsReadAs, IsReadFault, IsUnread}
 use Rattle.script_runs.specs.declared.report.Report.{Report}
 use Rattle.script_runs.proofs.RunPages.{run_is_pages}
 
@@ -127,31 +129,45 @@ pub err_with : {T E : Type 0} (r : Result T E) (P : Type 0) (C Q : E → Type 0)
 err_with (Ok v) P C Q p c with_both = tt
 err_with (Err e) P C Q p c with_both = with_both e p c
 
--- completeness, where the script was refused
-pub refused_answers : (left : Option (List ℕ)) (items : List ℕ) (S K : Type 0) (fault : DriveFault)
-    → IfSome left (λ bytes. items ≡ bytes) → length items ≤ script_limit → IsScriptFault items fault
-    → IfSome left (λ bytes. IsComplete bytes S K (fault_status fault))
-refused_answers None items S K fault whole within refused = tt
-refused_answers (Some bytes) items S K fault whole within refused =
-    let P : List ℕ → Type 0 = λ b. IsComplete b S K (fault_status fault) in
-    subst P whole (by fault refused)
-  where
-    by : (f : DriveFault) → IsScriptFault items f → IsComplete items S K (fault_status f)
-    by (faults.Script l) bad = bad_complete items S K l (within, bad)
-    by faults.TooLong bad = absurd bad
-    by faults.ReadFault bad = absurd bad
-    by faults.WriteFault bad = absurd bad
-    by faults.Memory bad = memory_complete items S K
-
--- completeness, where the source wasn't read whole
-pub unread_answers : (left : Option (List ℕ)) (S K : Type 0) (fault : DriveFault) → IsReadFault left S fault
+-- completeness, where no script was read
+pub unread_answers : (left : Option (List ℕ)) (S K : Type 0) (fault : DriveFault) → IsUnread left S fault
     → IfSome left (λ bytes. IsComplete bytes S K (fault_status fault))
 unread_answers None S K fault h = tt
-unread_answers (Some bytes) S K (faults.Script l) h = absurd h
+unread_answers (Some bytes) S K (faults.Script l) h = bad_complete bytes S K l h
 unread_answers (Some bytes) S K faults.TooLong h = long_complete bytes S K h
 unread_answers (Some bytes) S K faults.ReadFault h = read_fault_complete bytes S K h
 unread_answers (Some bytes) S K faults.WriteFault h = absurd h
 unread_answers (Some bytes) S K faults.Memory h = memory_complete bytes S K
+
+-- ---- a script that is read
+
+-- what the whole source was read as
+pub read_as : (ended : Result Script DriveFault) (left : Option (List ℕ)) (items : List ℕ) → IfSome left (λ bytes. items ≡ bytes) → length items ≤ script_limit
+    → IfOk ended (λ script. IsScriptOf items (script_of script)) → IfOk ended (λ script. IsReadAs left (script_of script))
+read_as (Ok script) left items whole within valid = record { bytes = items; whole = whole; good = (within, valid) }
+read_as (Err fault) left items whole within valid = tt
+
+-- the source wasn't read whole
+pub unread_whole : (left : Option (List ℕ)) (S : Type 0) (fault : DriveFault) → IsReadFault left S fault → IsUnread left S fault
+unread_whole left S (faults.Script l) h = absurd h
+unread_whole left S faults.TooLong h = h
+unread_whole left S faults.ReadFault h = h
+unread_whole left S faults.WriteFault h = h
+unread_whole left S faults.Memory h = h
+
+bad_line : (left : Option (List ℕ)) (items : List ℕ) (l : ℕ) → IfSome left (λ bytes. items ≡ bytes) → IsBadScript items l → IfSome left (λ bytes. IsBadScript bytes l)
+bad_line None items l whole bad = tt
+bad_line (Some bytes) items l whole bad = subst (λ b. IsBadScript b l) whole bad
+
+-- the script was refused
+pub unread_script : (ended : Result Script DriveFault) (left : Option (List ℕ)) (S : Type 0) (items : List ℕ) → IfSome left (λ bytes. items ≡ bytes) → length items ≤ script_limit
+    → IfErr ended (IsScriptFault items) → IfErr ended (IsUnread left S)
+unread_script (Ok script) left S items whole within refused = tt
+unread_script (Err (faults.Script l)) left S items whole within refused = bad_line left items l whole (within, refused)
+unread_script (Err faults.TooLong) left S items whole within refused = absurd refused
+unread_script (Err faults.ReadFault) left S items whole within refused = absurd refused
+unread_script (Err faults.WriteFault) left S items whole within refused = absurd refused
+unread_script (Err faults.Memory) left S items whole within refused = tt
 
 -- the cause that a round had is one of the play that it stands in
 pub play_fault_later : (first before now : ℕ) (fault : DriveFault) → first ≤ before → IsPlayFault (Rose before now) fault → IsPlayFault (Rose first now) fault

@@ -1,8 +1,8 @@
 -- What registration and a round of lanes leave of the places of handles.
 use Rattle.std.proofs.Common.{◌≡◌, ℕ, zero, suc, ◌+◌, ◌<◌, ◌≤◌, ◌-◌, ◌⊎◌, List, [], ◌∷◌, ◌++◌, length, map, refl, sym, ap, subst, ◌∙◌, inl, inr, ⊎_elim, arith, length-append}
-use Rattle.std.specs.Prelude.{Option, Some, None, IfSome, SomeIff, slice_get}
+use Rattle.std.specs.Prelude.{Option, Some, None, IfNone, IfSome, SomeIff, slice_get}
 use Rattle.std.proofs.lemmas.List.{length-map, map-append}
-use mathlib.Core.Option.{some}
+use mathlib.Core.Option.{some, some-ne-none}
 use lib.ListN.{get_elem?}
 use Rattle.atomic_table.proofs.Lists.{at_longer}
 use Rattle.legal_history.proofs.Steps.{at_snoc_index, some_below}
@@ -12,7 +12,7 @@ use Rattle.metrics_core.specs.declared.kinds.MetricKind.TheVariants as kinds
 use Rattle.metrics_core.specs.declared.kinds.SeriesId.{SeriesId}
 use Rattle.metrics_registry.specs.Live.{IsNumbered, LiveSeries}
 use Rattle.prom_exporter.specs.Exporter.{Exporter, AddsCounter, AddsGauge}
-use Rattle.prom_exporter.specs.LanePasses.{ids_of, frame_of, unseen}
+use Rattle.prom_exporter.specs.LanePasses.{IsIndex, ids_of, frame_of, unseen}
 use Rattle.script_runs.specs.Places.{ArePlaced, IsPlaced, kind_ids}
 use Rattle.script_runs.proofs.LaneSteps.{counter≢gauge, front_or_behind, get_of, its_id, kind_at}
 
@@ -22,6 +22,9 @@ none_placed exporter = record { many = refl; each = λ h id place e f. absurd cc
 -- a series is found at its place under its index
 pub placed_counter : (e : Exporter) (id : SeriesId) (place : ℕ) → id.kind ≡ kinds.Counter → IsPlaced e id place → get_elem? (ids_of e) place ≡ some id
 placed_counter e id place kind at = at_longer (kind_ids e kinds.Counter) (kind_ids e kinds.Gauge) place id (subst (λ k. get_elem? (kind_ids e k) place ≡ some id) kind at)
+
+pub never_placed : (e : Exporter) (id : SeriesId) → id.kind ≡ kinds.Histogram → (place : ℕ) → IsPlaced e id place → ⊥
+never_placed e id kind place at = some-ne-none id (sym (subst (λ k. get_elem? (kind_ids e k) place ≡ some id) kind at))
 
 at_behind : {A : Type 0} (xs ys : List A) (n k : ℕ) (a : A) → n ≡ length xs → get_elem? ys k ≡ some a → get_elem? (xs ++ ys) (n + k) ≡ some a
 at_behind [] ys n k a e at = subst (λ m. get_elem? ys m ≡ some a) (omega (arith, e)) at
@@ -57,6 +60,31 @@ pub found_behind : (e : Exporter) (id : SeriesId) (index count : ℕ) (place : O
     → get_elem? (ids_of e) index ≡ some id → IfSome place (IsPlaced e id)
 found_behind e id index count None is many numbered kind at = tt
 found_behind e id index count (Some p) is many numbered kind at = found_gauge e id index p numbered kind (let least = is.0 in let own = is.1 in omega (arith, least, own, many)) at
+
+-- a series that is found under no index has no place
+pub not_placed : (e : Exporter) (id : SeriesId) → IsIndex id e None → (place : ℕ) → IsPlaced e id place → ⊥
+not_placed e id none place at = by id.kind refl
+  where
+    by : (kind : MetricKind) → id.kind ≡ kind → ⊥
+    by kinds.Counter kind = none place (placed_counter e id place kind at)
+    by kinds.Gauge kind = none (length e.series.counters + place) (placed_gauge e id (length e.series.counters) place refl kind at)
+    by kinds.Histogram kind = never_placed e id kind place at
+
+-- a gauge is found behind the counters, so it has a place
+pub behind_has_place : (e : Exporter) (id : SeriesId) (index count : ℕ) (place : Option ℕ) → SomeIff place (count ≤ index) (index - count) → count ≡ length e.series.counters → IsNumbered e.series → id.kind ≡ kinds.Gauge
+    → get_elem? (ids_of e) index ≡ some id → IfNone place ((p : ℕ) → IsPlaced e id p → ⊥)
+behind_has_place e id index count (Some p) is many numbered kind at = tt
+behind_has_place e id index count None is many numbered kind at = absurd (⊎_elim
+    (λ (front : get_elem? (kind_ids e kinds.Counter) index ≡ some id).
+    counter≢gauge (sym (kind_at kinds.Counter _ e.series.counters numbered.counters.1 index id front) ∙ kind))
+    (λ (back : (k : ℕ) × (index ≡ length (kind_ids e kinds.Counter) + k) × (get_elem? (kind_ids e kinds.Gauge) k ≡ some id)).
+    is (let own = back.1 in omega (arith, own, many, length-map e.series.counters its_id)))
+    (front_or_behind (kind_ids e kinds.Counter) (kind_ids e kinds.Gauge) index id at))
+
+-- what holds of a place holds of it as it is kept
+pub kept_placed : (P : ℕ → Type 0) (place kept : Option ℕ) → IfSome place P → IfSome kept (λ k. place ≡ Some k) → IfSome kept P
+kept_placed P place None h is = tt
+kept_placed P place (Some k) h is = subst (λ p. IfSome p P) is h
 
 -- ---- what keeps places
 

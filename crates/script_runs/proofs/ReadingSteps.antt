@@ -1,8 +1,9 @@
 -- What was read of a source so far, and what is left.
-use Rattle.std.proofs.Common.{◌≡◌, ℕ, ◌<◌, ◌≤◌, List, [], ◌++◌, length, take, drop, refl, sym, ap, ◌∙◌, append_assoc, arith, length-append}
-use Rattle.std.proofs.lemmas.List.{take-append-drop}
+use Rattle.std.proofs.Common.{◌≡◌, ℕ, ◌+◌, ◌<◌, ◌≤◌, List, [], ◌++◌, length, take, drop, refl, sym, ap, ◌∙◌, append_assoc, arith, length-append, length-drop}
+use Rattle.std.proofs.lemmas.List.{length-take-le, take-append-drop}
+use Rattle.std.proofs.Math.Seq.{take-append_seam}
 use Rattle.std.specs.Prelude.{Option, Some, None, IfSome}
-use Rattle.metrics_core.specs.Outside.{Rose}
+use Rattle.metrics_core.specs.Outside.{Moved, Rose}
 use Rattle.script_runs.specs.Headline.{script_limit}
 use Rattle.script_runs.specs.Answers.{IsTooLong}
 use Rattle.drive_script.specs.declared.faults.DriveFault.{DriveFault}
@@ -68,6 +69,21 @@ pub read_too_much : (first left : Option (List ℕ)) (bytes : List ℕ) → scri
 read_too_much None left bytes long so_far = tt
 read_too_much (Some all) left bytes long so_far =
     omega (arith, length-append bytes so_far.rest, ap length so_far.split, long)
+
+-- a piece that was read into the room behind the bytes so far
+pub piece_taken : (rest : List ℕ) (left : Option (List ℕ)) (old mid new buffer buffer' : List ℕ) (filled n : ℕ) → take filled mid ≡ take filled old → filled < length mid
+    → buffer ≡ drop filled mid → new ≡ take filled mid ++ buffer' → Moved rest left buffer buffer' n → IsTaken rest left (take filled old) (take (filled + n) new) n
+piece_taken rest left old mid new buffer buffer' filled n same room is written moved = record {
+  told = moved.rest;
+  added = ap (take (filled + n)) (written ∙ ap (λ b. take filled mid ++ b) moved.prefix ∙ sym (append_assoc (take filled mid) (take n rest) (drop n buffer)))
+      ∙ ap (λ k. take k ((take filled mid ++ take n rest) ++ drop n buffer)) (sym many)
+      ∙ take-append_seam (take filled mid ++ take n rest) (drop n buffer)
+      ∙ ap (λ b. b ++ take n rest) same;
+  at_the_end = moved.at_the_end (let long = ap length is in omega (arith, room, long, length-drop filled mid));
+}
+  where
+    many : length (take filled mid ++ take n rest) ≡ filled + n
+    many = let least = moved.enough in omega (arith, length-append (take filled mid) (take n rest), length-take-le filled mid (omega (arith, room)), length-take-le n rest least)
 
 -- the cause of a piece's fault is one of the whole reading's
 pub piece_fault : (left : Option (List ℕ)) (first before now : ℕ) (fault : DriveFault) → first ≤ before → IsPieceFault (Rose before now) fault

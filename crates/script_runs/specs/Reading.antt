@@ -1,8 +1,14 @@
 -- Reading a source piece by piece.
-use Rattle.std.specs.Prelude.{◌≡◌, ℕ, List, [], ◌++◌, take, drop, Option, Some, IfSome}
+use Rattle.std.specs.Prelude.{◌≡◌, ℕ, ◌+◌, ◌≤◌, List, [], ◌++◌, take, drop, Option, Some, IfSome}
 use Rattle.drive_script.specs.declared.faults.DriveFault.{DriveFault}
 use Rattle.drive_script.specs.declared.faults.DriveFault.TheVariants as faults
-use Rattle.script_runs.specs.Answers.{IsTooLong}
+use Rattle.drive_script.specs.Script.{ScriptText}
+use Rattle.script_runs.specs.Answers.{IsBadScript, IsTooLong}
+use Rattle.script_runs.specs.Headline.{IsGoodScript, script_limit}
+
+-- so many bytes are there of a room for so many, and both are within what is read at most
+abbrev pub HasRoom : ℕ → ℕ → Type 0
+HasRoom filled room = (filled ≤ room) × (filled ≤ script_limit) × (room ≤ script_limit + 1)
 
 -- the first n of the bytes to come went behind the bytes so far; none at the end
 pub record IsTaken (rest : List ℕ) (left : Option (List ℕ)) (bytes bytes' : List ℕ) (n : ℕ) : Type 0 where
@@ -22,3 +28,14 @@ IsReadFault left SourceFailed faults.TooLong = IfSome left IsTooLong
 IsReadFault left SourceFailed faults.ReadFault = SourceFailed
 IsReadFault left SourceFailed faults.Memory = Unit {0}
 IsReadFault left SourceFailed _ = ⊥
+
+-- the source's bytes, where it tells them, are within the limit and this script
+pub record IsReadAs (left : Option (List ℕ)) (script : ScriptText) : Type 0 where
+  pub bytes : List ℕ
+  pub whole : IfSome left (λ all. bytes ≡ all)
+  pub good : IsGoodScript bytes script
+
+-- why no script was read
+abbrev pub IsUnread : Option (List ℕ) → Type 0 → DriveFault → Type 0
+IsUnread left SourceFailed (faults.Script l) = IfSome left (λ bytes. IsBadScript bytes l)
+IsUnread left SourceFailed fault = IsReadFault left SourceFailed fault

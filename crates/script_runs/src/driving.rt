@@ -2,13 +2,15 @@
 
 ghost use Rattle.std.specs.Prelude.{◌≡◌, IfErr, IfOk, IfSome, OnOk};
 ghost use Rattle.metrics_core.specs.Outside.{Rose};
+ghost use Rattle.drive_script.specs.Texts.{script_of};
 ghost use Rattle.script_runs.specs.Answers.{end_status, report_of, HasCause, HasDeviceCause, HasRounds, IsComplete, LeavesPrefix, LeavesUnplayed};
 ghost use Rattle.script_runs.specs.Headline.{IsPlayed};
+ghost use Rattle.script_runs.specs.Reading.{IsReadAs, IsUnread};
 
 use crate::play::play;
 use crate::reading::read_all;
 use crate::{Gate, Report};
-use drive_script::{DriveFault, read_script};
+use drive_script::{DriveFault, Script, read_script};
 use metrics_core::{Sink, Source};
 use std::alloc::Global;
 use std::sync::Wait;
@@ -42,7 +44,15 @@ pub fn drive<R: Threads + Wait + Sync, S: Source, K: Sink, G: Gate + Sync>(
     ensures complete { IfSome (S.left source.old) (λ bytes.
         IsComplete bytes (Rose (S.faults source.old) (S.faults source.new)) (Rose (K.faults out.old) (K.faults out.new)) (end_status result)) }
 {
+    let script = read_whole_script(alloc, source)?;
+    play(rt, alloc, gate, script, out)
+}
+
+/// Reads the whole script from the source. Its bytes are let go at the end.
+fn read_whole_script<S: Source>(alloc: Global, source: &mut S) -> Result<Script, DriveFault>
+    ensures read { IfOk result (λ script. IsReadAs (S.left source.old) (script_of script)) }
+    ensures refused { IfErr result (IsUnread (S.left source.old) (Rose (S.faults source.old) (S.faults source.new))) }
+{
     let bytes = read_all(alloc, source)?;
-    let script = read_script(alloc, &bytes)?;
-    play(rt, alloc, gate, &script, out)
+    read_script(alloc, &bytes)
 }

@@ -28,7 +28,7 @@ pub(crate) fn lanes_of(
     alloc: Global,
     exporter: &PrometheusState,
     handles: &[SeriesId],
-    places: &[Option<usize>],
+    places: &[Option<u32>],
     calls: &[CallLine],
 ) -> Result<Vec<Lane<SeriesCall>>, Memory>
     requires fit { All (λ line. FitsHandle handles.now (call_line_of line)) calls.now }
@@ -57,7 +57,7 @@ fn gather(
     alloc: Global,
     exporter: &PrometheusState,
     handles: &[SeriesId],
-    places: &[Option<usize>],
+    places: &[Option<u32>],
     gathered: &mut Vec<LaneCalls>,
     line: &CallLine,
 ) -> Result<(), Memory>
@@ -85,7 +85,7 @@ fn gather(
 fn place_of(
     exporter: &PrometheusState,
     handles: &[SeriesId],
-    places: &[Option<usize>],
+    places: &[Option<u32>],
     line: &CallLine,
 ) -> Option<usize>
     requires fit { FitsHandle handles.now (call_line_of line.now) }
@@ -97,7 +97,7 @@ fn place_of(
 {
     let id = id_of(handles, line)?;
     match places.get(line.handle as usize) {
-        Some(Some(place)) => Some(index_at(exporter, id, *place)),
+        Some(Some(place)) => Some(index_at(exporter, id, *place as usize)),
         _ => exporter.index_of(id),
     }
 }

@@ -1,6 +1,6 @@
 //! The play of a script: what each round does to the exporter, and the page that it writes.
 
-ghost use Rattle.std.specs.Prelude.{◌≡◌, ◌≤◌, [], fold, map, length, IfOk, IfErr, OnOk, OnErr};
+ghost use Rattle.std.specs.Prelude.{◌≡◌, ◌≤◌, [], fold, map, length, IfOk, IfErr, OnOk, OnErr, vec_len};
 ghost use Rattle.metrics_core.specs.Outside.{Rose, GrewBy, GrewByPrefix};
 ghost use Rattle.drive_script.specs.Texts.{script_of, settings_of, round_of};
 ghost use Rattle.script_runs.specs.Answers.{IsPlayFault, report_of};
@@ -11,7 +11,7 @@ ghost use Rattle.script_runs.specs.Play.{exporter_settings};
 
 use crate::gates::GateHook;
 use crate::lanes::lanes_of;
-use crate::places::place_in_kind;
+use crate::places::{kept_place, place_in_kind};
 use crate::{Gate, Report};
 use cell_lanes::run_lanes;
 use drive_script::{CallLine, DriveFault, Round, Script, Settings, Setup};
@@ -22,28 +22,31 @@ use std::sync::Wait;
 use std::thread::Threads;
 
 /// Plays a script: the lanes of each round run side by side, and then a page goes to the sink, ended by the line `# EOF`.
-/// The gate is called around each call of a lane.
+/// The gate is called around each call of a lane. The script is taken apart: the exporter keeps its keys, and the rest of a
+/// round is let go at the round's end.
 pub fn play<R: Threads + Wait + Sync, G: Gate + Sync, K: Sink>(
     rt: &R,
     alloc: Global,
     gate: &G,
-    script: &Script,
+    script: Script,
     out: &mut K,
 ) -> Result<Report, DriveFault>
-    requires built { AreBuiltRounds script.now.rounds.items }
-    requires fit { CallsFit [] (map round_of script.now.rounds.items) }
-    ensures pages { OnOk result (ForSomeRun (script_of script.now) (GrewBy (K.written out.old) (K.written out.new))) }
-    ensures counted { IfOk result (λ report. report ≡ report_of (length script.now.rounds.items)) }
-    ensures prefix { OnErr result (ForSomeRun (script_of script.now) (GrewByPrefix (K.written out.old) (K.written out.new))) }
+    requires built { AreBuiltRounds script.rounds.items }
+    requires fit { CallsFit [] (map round_of script.rounds.items) }
+    ensures pages { OnOk result (ForSomeRun (script_of script) (GrewBy (K.written out.old) (K.written out.new))) }
+    ensures counted { IfOk result (λ report. report ≡ report_of (length script.rounds.items)) }
+    ensures prefix { OnErr result (ForSomeRun (script_of script) (GrewByPrefix (K.written out.old) (K.written out.new))) }
     ensures cause { IfErr result (IsPlayFault (Rose (K.faults out.old) (K.faults out.new))) }
     ensures never_falls { K.faults out.old ≤ K.faults out.new }
 {
-    let mut player = Player::new(alloc, &script.settings)?;
-    for round in &script.rounds {
+    let Script { settings, rounds } = script;
+    let pages = rounds.len() as u64;
+    let mut player = Player::new(alloc, &settings)?;
+    for round in rounds {
         player.play_round(rt, alloc, gate, round, out)?;
     }
     Ok(Report {
-        pages: script.rounds.len() as u64,
+        pages,
         sent: 0,
         unsent: 0,
         dropped: 0,
@@ -56,7 +59,7 @@ pub struct Player {
     pub exporter: PrometheusState,
     pub handles: Vec<SeriesId>,
     /// For each handle, where its series stands among those of its kind, if that is known.
-    pub places: Vec<Option<usize>>,
+    pub places: Vec<Option<u32>>,
 }
 
 impl Player {
@@ -99,83 +102,92 @@ impl Player {
         rt: &R,
         alloc: Global,
         gate: &G,
-        round: &Round,
+        round: Round,
         out: &mut K,
     ) -> Result<(), DriveFault>
-        requires built { AreBuiltSetups round.now.setup.items }
-        requires fit { CallsFit self.old.handles.items (round_of round.now ∷ []) }
+        requires built { AreBuiltSetups round.setup.items }
+        requires fit { CallsFit self.old.handles.items (round_of round ∷ []) }
         requires rest { AllRest self.old.exporter }
         requires placed { KnowsPlaces self.old }
         ensures rest { OnOk result (AllRest self.new.exporter) }
         ensures placed { OnOk result (KnowsPlaces self.new) }
         ensures settings { self.new.exporter.settings ≡ self.old.exporter.settings }
         ensures played { (settings : SettingsText) → self.old.exporter.settings ≡ exporter_settings settings
-            → OnOk result (ForSomeOrders (state_of self.old) (round_of round.now) (λ orders.
-            (state_of self.new ≡ after_round settings (state_of self.old) (round_of round.now) orders)
-            × GrewBy (K.written out.old) (K.written out.new) (round_text settings (state_of self.old) (round_of round.now) orders))) }
+            → OnOk result (ForSomeOrders (state_of self.old) (round_of round) (λ orders.
+            (state_of self.new ≡ after_round settings (state_of self.old) (round_of round) orders)
+            × GrewBy (K.written out.old) (K.written out.new) (round_text settings (state_of self.old) (round_of round) orders))) }
         ensures prefix { (settings : SettingsText) → self.old.exporter.settings ≡ exporter_settings settings
-            → OnErr result (ForSomeOrders (state_of self.old) (round_of round.now) (λ orders.
-            GrewByPrefix (K.written out.old) (K.written out.new) (round_text settings (state_of self.old) (round_of round.now) orders))) }
+            → OnErr result (ForSomeOrders (state_of self.old) (round_of round) (λ orders.
+            GrewByPrefix (K.written out.old) (K.written out.new) (round_text settings (state_of self.old) (round_of round) orders))) }
         ensures cause { IfErr result (IsPlayFault (Rose (K.faults out.old) (K.faults out.new))) }
         ensures never_falls { K.faults out.old ≤ K.faults out.new }
     {
-        self.set_up(alloc, &round.setup)?;
-        self.make_calls(rt, alloc, gate, &round.calls)?;
-        self.write_page(alloc, round.moment, out)
+        let Round {
+            moment,
+            setup,
+            calls,
+        } = round;
+        self.set_up(alloc, setup)?;
+        self.make_calls(rt, alloc, gate, calls)?;
+        self.write_page(alloc, moment, out)
     }
 
-    /// Does the setup lines in order.
-    fn set_up(&mut self, alloc: Global, setup: &[Setup]) -> Result<(), Memory>
-        requires { AreBuiltSetups setup.now }
+    /// Does the setup lines in order. They are taken from the end of a list that is turned round, so that the room of those
+    /// which are done is given back on the way.
+    fn set_up(&mut self, alloc: Global, mut setup: Vec<Setup>) -> Result<(), Memory>
+        requires { AreBuiltSetups setup.items }
         ensures settings { self.new.exporter.settings ≡ self.old.exporter.settings }
         ensures rest { AllRest self.old.exporter → AllRest self.new.exporter }
         ensures placed { OnOk result (KnowsPlaces self.old → KnowsPlaces self.new) }
-        ensures stepped { OnOk result (state_of self.new ≡ fold setup_step (state_of self.old) (map setup_of setup.now)) }
+        ensures stepped { OnOk result (state_of self.new ≡ fold setup_step (state_of self.old) (map setup_of setup.items)) }
     {
-        for line in setup {
+        setup.reverse();
+        while let Some(line) = setup.pop() {
             self.set_up_line(alloc, line)?;
+            give_room_back(&mut setup);
         }
         Ok(())
     }
 
     /// Does one setup line.
-    fn set_up_line(&mut self, alloc: Global, line: &Setup) -> Result<(), Memory>
-        requires { IsBuiltSetup (setup_of line.now) }
+    fn set_up_line(&mut self, alloc: Global, line: Setup) -> Result<(), Memory>
+        requires { IsBuiltSetup (setup_of line) }
         ensures settings { self.new.exporter.settings ≡ self.old.exporter.settings }
         ensures rest { AllRest self.old.exporter → AllRest self.new.exporter }
         ensures placed { OnOk result (KnowsPlaces self.old → KnowsPlaces self.new) }
-        ensures stepped { OnOk result (state_of self.new ≡ setup_step (state_of self.old) (setup_of line.now)) }
+        ensures stepped { OnOk result (state_of self.new ≡ setup_step (state_of self.old) (setup_of line)) }
     {
         let Setup::Register { kind, key } = line;
         let id = match kind {
-            MetricKind::Counter => self.exporter.register_counter(alloc, key)?,
-            MetricKind::Gauge => self.exporter.register_gauge(alloc, key)?,
+            MetricKind::Counter => self.exporter.register_owned_counter(alloc, key)?,
+            MetricKind::Gauge => self.exporter.register_owned_gauge(alloc, key)?,
             MetricKind::Histogram => unreachable!(),
         };
-        let place = place_in_kind(&self.exporter, id);
+        let place = kept_place(place_in_kind(&self.exporter, id));
         self.handles.push(id)?;
         self.places.push(place)?;
         Ok(())
     }
 
     /// Makes the calls of a round: its lanes run side by side, each with its own passes, and all passes are back at the end.
-    /// A lane that is refused memory makes no further call.
+    /// A lane that is refused memory makes no further call. The call lines are let go once the lanes have them.
     fn make_calls<R: Threads + Wait + Sync, G: Gate + Sync>(
         &mut self,
         rt: &R,
         alloc: Global,
         gate: &G,
-        calls: &[CallLine],
+        calls: Vec<CallLine>,
     ) -> Result<(), Memory>
-        requires fit { All (λ line. FitsHandle self.old.handles.items (call_line_of line)) calls.now }
+        requires fit { All (λ line. FitsHandle self.old.handles.items (call_line_of line)) calls.items }
         requires rest { AllRest self.old.exporter }
         requires placed { KnowsPlaces self.old }
         ensures rest { AllRest self.new.exporter }
         ensures placed { KnowsPlaces self.new }
         ensures settings { self.new.exporter.settings ≡ self.old.exporter.settings }
-        ensures called { OnOk result ((round : RoundText) → round.calls ≡ map call_line_of calls.now → IsCalled (state_of self.old) round (state_of self.new)) }
+        ensures called { OnOk result ((round : RoundText) → round.calls ≡ map call_line_of calls.items → IsCalled (state_of self.old) round (state_of self.new)) }
     {
-        let lanes = lanes_of(alloc, &self.exporter, &self.handles, &self.places, calls)?;
+        let lanes = lanes_of(alloc, &self.exporter, &self.handles, &self.places, &calls)?;
+        drop(calls);
         run_lanes(rt, alloc, &GateHook { gate }, &mut self.exporter, &lanes)
     }
 
@@ -204,6 +216,16 @@ impl Player {
             Ok(()) => Ok(()),
             Err(_) => Err(DriveFault::WriteFault),
         }
+    }
+}
+
+/// Gives the room of lines that were taken away back, where it is at least half of all.
+fn give_room_back(setup: &mut Vec<Setup>)
+    ensures same { setup.new.items ≡ setup.old.items }
+    ensures len { vec_len setup.new ≡ vec_len setup.old }
+{
+    if setup.len() <= setup.capacity() / 2 {
+        setup.shrink_to_fit();
     }
 }
 

@@ -1,18 +1,18 @@
 //! Reading a whole source, up to the limit of a script.
 
-ghost use Rattle.std.specs.Prelude.{◌≡◌, ◌+◌, ◌<◌, ◌≤◌, IfErr, IfOk, IfSome, length, vec_len};
+ghost use Rattle.std.specs.Prelude.{◌≡◌, ◌+◌, ◌<◌, ◌≤◌, IfErr, IfOk, IfSome, OnOk, length, take, vec_len};
 ghost use Rattle.metrics_core.specs.Outside.{Rose};
-ghost use Rattle.script_runs.specs.Reading.{IsTaken, IsPieceFault, IsReadFault};
+ghost use Rattle.script_runs.specs.Reading.{HasRoom, IsTaken, IsPieceFault, IsReadFault};
 ghost use Rattle.script_runs.specs.Headline.{script_limit};
 
 use drive_script::DriveFault;
-use metrics_core::Source;
+use metrics_core::{Memory, Source};
 use std::alloc::Global;
 
 /// The most bytes that a script may have.
 pub const SCRIPT_LIMIT: usize = 67_108_864;
 
-/// How many bytes are asked for at a time.
+/// How many bytes room is made for at a time.
 const CHUNK: usize = 65_536;
 
 /// Reads a source to its end. More than `SCRIPT_LIMIT` bytes are refused, and no more than one byte past them is read.
@@ -21,42 +21,56 @@ pub fn read_all<S: Source>(alloc: Global, source: &mut S) -> Result<Vec<u8>, Dri
     ensures within { IfOk result (λ all. length all.items ≤ script_limit) }
     ensures refused { IfErr result (IsReadFault (S.left source.old) (Rose (S.faults source.old) (S.faults source.new))) }
 {
-    let mut chunk = match vec![in alloc; 0u8; CHUNK] {
-        Ok(chunk) => chunk,
-        Err(_) => return Err(DriveFault::Memory),
-    };
     let mut bytes = Vec::new(alloc);
+    let mut filled = 0;
     for _ in 0..SCRIPT_LIMIT + 1 {
-        let room = CHUNK.min(SCRIPT_LIMIT + 1 - bytes.len());
-        let count = read_piece(source, &mut chunk[..room], &mut bytes)?;
+        let count = read_piece(source, &mut bytes, filled)?;
         if count == 0 {
+            bytes.truncate(filled);
             return Ok(bytes);
         }
-        if bytes.len() > SCRIPT_LIMIT {
+        filled += count;
+        if filled > SCRIPT_LIMIT {
             return Err(DriveFault::TooLong);
         }
     }
     Err(DriveFault::TooLong)
 }
 
-/// Reads once, and puts what came behind the bytes so far. It answers how many bytes came, none at the end of the input.
+/// Reads once, into the room behind the first `filled` bytes, which are those so far. It answers how many bytes came, none
+/// at the end of the input.
 fn read_piece<S: Source>(
     source: &mut S,
-    chunk: &mut [u8],
     bytes: &mut Vec<u8>,
+    filled: usize,
 ) -> Result<usize, DriveFault>
-    requires { 0 < length chunk.old }
-    ensures bound { IfOk result (λ n. n ≤ length chunk.old) }
-    ensures grew { IfOk result (λ n. vec_len bytes.new ≡ vec_len bytes.old + n) }
-    ensures taken { IfOk result (λ n. IfSome (S.left source.old) (λ rest. IsTaken rest (S.left source.new) bytes.old.items bytes.new.items n)) }
+    requires { HasRoom filled (vec_len bytes.old) }
+    ensures room { IfOk result (λ n. filled + n ≤ vec_len bytes.new) }
+    ensures limit { vec_len bytes.new ≤ script_limit + 1 }
+    ensures taken { IfOk result (λ n. IfSome (S.left source.old) (λ rest. IsTaken rest (S.left source.new) (take filled bytes.old.items) (take (filled + n) bytes.new.items) n)) }
     ensures refused { IfErr result (IsPieceFault (Rose (S.faults source.old) (S.faults source.new))) }
     ensures never_falls { S.faults source.old ≤ S.faults source.new }
 {
-    let Ok(count) = source.read(chunk) else {
-        return Err(DriveFault::ReadFault);
-    };
-    match bytes.extend_from_slice(&chunk[..count]) {
-        Ok(()) => Ok(count),
-        Err(_) => Err(DriveFault::Memory),
+    match make_room(bytes, filled) {
+        Ok(()) => (),
+        Err(_) => return Err(DriveFault::Memory),
     }
+    match source.read(&mut bytes[filled..]) {
+        Ok(count) => Ok(count),
+        Err(_) => Err(DriveFault::ReadFault),
+    }
+}
+
+/// Makes room behind the first `filled` bytes, where there is none.
+fn make_room(bytes: &mut Vec<u8>, filled: usize) -> Result<(), Memory>
+    requires { HasRoom filled (vec_len bytes.old) }
+    ensures room { OnOk result (filled < vec_len bytes.new) }
+    ensures limit { vec_len bytes.new ≤ script_limit + 1 }
+    ensures same { take filled bytes.new.items ≡ take filled bytes.old.items }
+{
+    let len = bytes.len();
+    if filled == len {
+        bytes.resize(len + CHUNK.min(SCRIPT_LIMIT + 1 - len), 0)?;
+    }
+    Ok(())
 }

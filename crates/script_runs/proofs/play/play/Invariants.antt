@@ -1,5 +1,7 @@
-use Rattle.std.proofs.Common.{◌≡◌, ◌≤◌, map, drop}
+use Rattle.std.proofs.Common.{◌≡◌, ◌≤◌, map}
+use Rattle.std.specs.Vec.Iter.{into_iter_items}
 use Rattle.drive_script.specs.Texts.{script_of, settings_of, round_of}
+use Rattle.script_runs.specs.Built.{AreBuiltRounds}
 use Rattle.script_runs.specs.Fitting.{CallsFit}
 use Rattle.script_runs.specs.Play.{exporter_settings}
 use Rattle.script_runs.specs.Player.{KnowsPlaces, state_of}
@@ -9,10 +11,11 @@ use Rattle.script_runs.proofs.play.play.Given as goal
 
 abbrev pub invariant-loop-round : goal.invariant-loop-round
 invariant-loop-round g l = record {
-  settings : l.player.exporter.settings ≡ exporter_settings (settings_of l.script.settings);
+  built : AreBuiltRounds (into_iter_items l.round-iterator);
+  settings : l.player.exporter.settings ≡ exporter_settings (settings_of l.fn.script.settings);
   rest : AllRest l.player.exporter;
   placed : KnowsPlaces l.player;
-  fit : CallsFit l.player.handles.items (map round_of (drop l.round-index l.script.rounds.items));
+  fit : CallsFit l.player.handles.items (map round_of (into_iter_items l.round-iterator));
   never_falls : g.K.Sink.faults l.initial.out ≤ g.K.Sink.faults l.out;
-  so_far : IsSoFar (script_of l.script) (state_of l.player) (map round_of (drop l.round-index l.script.rounds.items)) (g.K.Sink.written l.initial.out) (g.K.Sink.written l.out);
+  so_far : IsSoFar (script_of l.fn.script) (state_of l.player) (map round_of (into_iter_items l.round-iterator)) (g.K.Sink.written l.initial.out) (g.K.Sink.written l.out);
 }

@@ -1,4 +1,6 @@
-use Rattle.std.proofs.Common.{rules, arith}
+use Rattle.std.proofs.Common.{◌≡◌, ℕ, ◌+◌, List, take, ap, sym, subst, ◌∙◌, refl, rules, arith}
+use Rattle.std.proofs.lemmas.List.{length-take}
+use Rattle.std.specs.Prelude.{IfSome}
 use Rattle.script_runs.proofs.Returned.{if_handed_on}
 use Rattle.metrics_core.specs.Outside.{Rose}
 use Rattle.drive_script.specs.declared.faults.DriveFault.{DriveFault}
@@ -9,17 +11,15 @@ use Rattle.script_runs.proofs.reading.read_all.Goals as goal
 pub loop-init : goal.loop-init
 loop-init g c = record {
   room = search rules;
-  within = omega arith;
   turns = omega arith;
   never_falls = omega arith;
-  so_far = nothing_read _ _ c.new-bytes.ensures.items;
+  so_far = nothing_read _ _ refl;
 }
 
 pub loop-preserved : goal.loop-preserved
 loop-preserved g c = record {
-  room = c.loop.invariant.room;
-  within = omega arith;
-  turns = omega (arith, c.in_ok-count.ensures.grew);
+  room = (c.in_ok-count.ensures.room, omega arith, c.in_ok-count.ensures.limit);
+  turns = omega arith;
   never_falls = omega (arith, c.in_ok-count.ensures.never_falls);
   so_far = read_more _ _ _ _ _ _ c.loop.invariant.so_far c.in_ok-count.ensures.taken;
 }
@@ -32,8 +32,12 @@ returns-in_err-count-clause-refused g c =
 
 pub returns-then-count-eq0-clause-whole : goal.returns-then-count-eq0-clause-whole
 returns-then-count-eq0-clause-whole g c =
-    read_whole _ _ _ _ _ _ c.if-count-eq0.true c.loop.invariant.so_far c.in_ok-count.ensures.taken
+    let none : c.loop.filled + c.in_ok-count.count ≡ c.loop.filled = omega (arith, c.if-count-eq0.true) in
+    subst (λ items. IfSome (g.S.Source.left c.args.source.now) (λ all. items ≡ all)) (ap (λ n. take n c.read_piece.new.bytes.items) none ∙ sym {A = List ℕ} c.truncate.ensures.items)
+    (read_whole _ _ _ _ _ _ c.if-count-eq0.true c.loop.invariant.so_far c.in_ok-count.ensures.taken)
 
-pub returns-then-len-gt-SCRIPT_LIMIT-clause-refused : goal.returns-then-len-gt-SCRIPT_LIMIT-clause-refused
-returns-then-len-gt-SCRIPT_LIMIT-clause-refused g c =
-    read_too_much _ _ _ (omega arith) (read_more _ _ _ _ _ _ c.loop.invariant.so_far c.in_ok-count.ensures.taken)
+pub returns-then-filled-gt-SCRIPT_LIMIT-clause-refused : goal.returns-then-filled-gt-SCRIPT_LIMIT-clause-refused
+returns-then-filled-gt-SCRIPT_LIMIT-clause-refused g c =
+    let bytes = c.read_piece.new.bytes in
+    let many = length-take (c.loop.filled + c.in_ok-count.count) bytes.items in
+    read_too_much _ _ _ (omega (arith, many, bytes.ok.0, c.in_ok-count.ensures.room)) (read_more _ _ _ _ _ _ c.loop.invariant.so_far c.in_ok-count.ensures.taken)

@@ -1,6 +1,6 @@
 use Rattle.std.proofs.Common.{◌++◌, ◌∷◌, [], sym, subst}
-use Rattle.script_runs.specs.Places.{ArePlaced}
-use Rattle.script_runs.proofs.PlaceSteps.{counter_stands, gauge_stands, one_placed, still_placed}
+use Rattle.script_runs.specs.Places.{ArePlaced, IsPlaced}
+use Rattle.script_runs.proofs.PlaceSteps.{counter_stands, gauge_stands, kept_placed, one_placed, still_placed}
 use Rattle.script_runs.proofs.RestingSteps.{counter_rests, gauge_rests}
 use Rattle.script_runs.proofs.play.Player.set_up_line.Goals.{in-Counter+in_ok-id-in-Counter, in-Gauge+in_ok-id-in-Gauge}
 use Rattle.script_runs.proofs.play.Player.set_up_line.Goals as goal
@@ -36,4 +36,4 @@ returns-clause-placed c = λ knows.
     ] in
     subst (λ handles. ArePlaced now.exporter handles c.push-2.new.self.items) (sym c.in_ok-push.ensures.items)
     (subst (λ places. ArePlaced now.exporter (now.handles.items ++ c.match-kind.id ∷ []) places) (sym c.in_ok-push-2.ensures.items)
-    (one_placed now.exporter now.handles.items now.places.items c.match-kind.id c.place_in_kind-place.result c.place_in_kind-place.ensures moved))
+    (one_placed now.exporter now.handles.items now.places.items c.match-kind.id c.kept_place-place.result (kept_placed (IsPlaced now.exporter c.match-kind.id) _ _ c.place_in_kind.ensures.placed c.kept_place-place.ensures.kept) moved))

@@ -1,0 +1,26 @@
+use Rattle.std.proofs.Common.{◌≡◌, ◌≤◌, ℕ, List, length, subst, sym}
+use Rattle.std.specs.Prelude.{IfSome}
+use Rattle.metrics_core.specs.Outside.{Rose}
+use Rattle.script_runs.specs.Headline.{script_limit}
+use Rattle.script_runs.specs.Reading.{IsUnread}
+use Rattle.script_runs.proofs.DriveSteps.{read_as, unread_script, unread_whole}
+use Rattle.script_runs.proofs.Returned.{if_handed_on}
+use Rattle.script_runs.proofs.driving.read_whole_script.Goals as goal
+
+pub returns-in_err-bytes-clause-refused : goal.returns-in_err-bytes-clause-refused
+returns-in_err-bytes-clause-refused g c =
+    let left = g.S.Source.left c.args.source.now in
+    let Failed : Type 0 = Rose (g.S.Source.faults c.args.source.now) (g.S.Source.faults c.read_all.new.source) in
+    if_handed_on c.from_residual.result _ (IsUnread left Failed) c.from_residual.ensures.1 (unread_whole left Failed _ c.in_err-bytes.ensures.refused)
+
+pub returns-clause-read : goal.returns-clause-read
+returns-clause-read g c =
+    let Whole : List ℕ → Type 0 = λ items. IfSome (g.S.Source.left c.args.source.now) (λ bytes. items ≡ bytes) in
+    let Within : List ℕ → Type 0 = λ items. length items ≤ script_limit in
+    read_as c.read_script.result _ c.deref.result.now (subst Whole (sym c.deref.ensures.value) c.in_ok-bytes.ensures.whole) (subst Within (sym c.deref.ensures.value) c.in_ok-bytes.ensures.within) c.read_script.ensures.valid
+
+pub returns-clause-refused : goal.returns-clause-refused
+returns-clause-refused g c =
+    let Whole : List ℕ → Type 0 = λ items. IfSome (g.S.Source.left c.args.source.now) (λ bytes. items ≡ bytes) in
+    let Within : List ℕ → Type 0 = λ items. length items ≤ script_limit in
+    unread_script c.read_script.result _ _ c.deref.result.now (subst Whole (sym c.deref.ensures.value) c.in_ok-bytes.ensures.whole) (subst Within (sym c.deref.ensures.value) c.in_ok-bytes.ensures.within) c.read_script.ensures.refused
