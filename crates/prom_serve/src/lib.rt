@@ -6,7 +6,21 @@
 #![tactic(auto)]
 
 mod answers;
+mod conns;
+mod devices;
+mod errors;
+mod failing_calls;
 mod heads;
+mod listeners;
 mod paths;
+mod readings;
+mod serving;
+mod sockets;
 
 pub use answers::{answers_are_determined, respond};
+pub use conns::Conn;
+pub use devices::{Exchange, MemoryConn, MemoryListener};
+pub use errors::ServeError;
+pub use listeners::Listener;
+pub use serving::{Served, serve};
+pub use sockets::{SocketConn, SocketListener};

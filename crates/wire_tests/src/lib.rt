@@ -7,3 +7,5 @@ mod address_tests;
 mod answer_tests;
 #[cfg(test)]
 mod payload_tests;
+#[cfg(test)]
+mod serving_tests;

@@ -1,0 +1,76 @@
+-- What serving does to its connections, to its listener and to the exporter.
+use Rattle.std.specs.Prelude.{◌≡◌, ℕ, zero, suc, ◌-◌, ◌⊎◌, ◌↔◌, Bool, IsTrue, List, [], ◌∷◌, ◌++◌, length, take, Option, None, Some, IfSome, All, ⊤}
+use Rattle.std.specs.List.{Any}
+use Rattle.std.specs.declared.net.ip_addr.IpAddr.{IpAddr}
+use Rattle.net_addresses.specs.Addresses.{NetworkText, Holds}
+use Rattle.prom_exporter.specs.State.{page_step}
+use Rattle.prom_exporter.specs.Exporter.{Exporter, AllHome, LooksOn, state_of, page_body}
+use Rattle.prom_serve.specs.Answers.{IsAnswer}
+use Rattle.prom_serve.specs.Connections.{Told, Ended, IsFresh, CountedOn}
+use Rattle.prom_serve.specs.Readings.{EndsReading}
+
+-- ---- whom the page is shown
+
+-- every peer is allowed where no list of networks is given, and otherwise one whose address a network of the list holds
+abbrev pub IsAllowed : Option (List NetworkText) → Option IpAddr → Type 0
+IsAllowed None who = ⊤
+IsAllowed (Some networks) None = ⊥
+IsAllowed (Some networks) (Some address) = Any (λ network. Holds network address) networks
+
+-- ---- renders
+
+-- one render at a moment
+pub record IsRendered (moment : ℕ) (old new : Exporter) : Type 0 where
+  pub read : LooksOn old new
+  pub home : AllHome old → new ≡ old
+  pub stepped : state_of new ≡ page_step new.settings.idle moment (state_of new)
+
+-- one render at a moment, or none
+abbrev pub MayRender : ℕ → Exporter → Exporter → Type 0
+MayRender moment old new = (new ≡ old) ⊎ IsRendered moment old new
+
+-- at most so many renders at a moment
+abbrev pub Renders : ℕ → ℕ → Exporter → Exporter → Type 0
+Renders moment zero old new = new ≡ old
+Renders moment (suc most) old new = (middle : Exporter) × Renders moment most old middle × MayRender moment middle new
+
+-- ---- connections
+
+-- a peer was answered: the bytes up to the end of the reading by that page
+pub record IsAnswered (networks : Option (List NetworkText)) (page : List ℕ) (who : Option IpAddr) (told : Told) : Type 0 where
+  pub allowed : Bool
+  pub is_allowed : IsTrue allowed ↔ IsAllowed networks who
+  pub ends : EndsReading told.taken told.left
+  pub answer : IsAnswer allowed told.taken page told.written
+
+-- and so was the peer of a connection that tells and of which nothing was read before
+abbrev pub IsAnsweredFirst : Option (List NetworkText) → List ℕ → Option IpAddr → Option Told → Option Told → Type 0
+IsAnsweredFirst networks page who old new =
+    IfSome old (λ before. IsFresh before → (told : Told) × (new ≡ Some told) × IsAnswered networks page who told)
+
+-- a connection that was given back without faults was answered, by the page of the exporter after renders at the moment
+abbrev pub IsServed : Option (List NetworkText) → ℕ → Exporter → Ended → Type 0
+IsServed networks moment exporter ended =
+    ended.faults ≡ 0 → (most : ℕ) × (shown : Exporter) × Renders moment most exporter shown × IsAnswered networks (page_body moment shown) ended.who ended.told
+
+-- ---- a call
+
+-- what a listener has given and, where it tells, what was given back to it
+pub record Listening : Type 0 where
+  pub given : ℕ
+  pub finished : Option (List Ended)
+
+-- so many connections were accepted and given back, each of which may have rendered once, and all but the last few were served
+pub record Accepts (networks : Option (List NetworkText)) (moment : ℕ) (accepted last : ℕ) (exporter_old exporter_new : Exporter) (old new : Listening) : Type 0 where
+  pub given : CountedOn old.given new.given accepted
+  pub renders : Renders moment accepted exporter_old exporter_new
+  pub finished : IfSome old.finished (λ before.
+      (ended : List Ended) × (new.finished ≡ Some (before ++ ended)) × (length ended ≡ accepted) × All (IsServed networks moment exporter_old) (take (accepted - last) ended))
+
+-- one connection was accepted and given back, which may have rendered once, and was served
+pub record AcceptsOne (networks : Option (List NetworkText)) (moment : ℕ) (was_served : Bool) (exporter_old exporter_new : Exporter) (old new : Listening) : Type 0 where
+  pub given : CountedOn old.given new.given 1
+  pub renders : MayRender moment exporter_old exporter_new
+  pub finished : IfSome old.finished (λ before.
+      (ended : Ended) × (new.finished ≡ Some (before ++ ended ∷ []))
+      × (IsTrue was_served → ended.faults ≡ 0 → IsAnswered networks (page_body moment exporter_new) ended.who ended.told))
