@@ -29,13 +29,10 @@ fn add_all(bag: &mut Bag, values: &[i64]) -> Result<(), Memory> {
     Ok(())
 }
 
-/// The quantiles of a bag at these numbers of billionths.
+/// The quantiles of a bag at these numbers of billionths, in one walk.
 fn answers(alloc: Global, bag: &Bag, asked: &[Fixed]) -> Result<Vec<Option<Fixed>>, Memory> {
-    let mut answers = Vec::new(alloc);
-    for quantile in parse_quantiles(alloc, asked)? {
-        answers.push(bag.quantile(&quantile))?;
-    }
-    Ok(answers)
+    let asked = parse_quantiles(alloc, asked)?;
+    bag.quantiles(alloc, asked.as_slice())
 }
 
 /// The quantiles 0, 0.5, 0.9 and 1 of a bag after values were added.
@@ -61,6 +58,47 @@ fn quantiles_are_the_nearest_ranks(rt: HostRuntime) -> Result<(), Fail> {
         let answers = quantiles_of(rt.alloc(), values)?;
         let expected = expected.map(|value| Some(Fixed(value)));
         assert_eq!(rt; answers.as_slice(), expected.as_slice());
+    }
+    Ok(())
+}
+
+/// The quantiles of a bag at these numbers of billionths, each in a walk of its own.
+fn single_answers(alloc: Global, bag: &Bag, asked: &[Fixed]) -> Result<Vec<Option<Fixed>>, Memory> {
+    let mut answers = Vec::new(alloc);
+    for quantile in parse_quantiles(alloc, asked)? {
+        answers.push(bag.quantile(&quantile))?;
+    }
+    Ok(answers)
+}
+
+/// The quantiles 1, 0, 0.9, 0.5 and 0.9 of values, in one walk, and whether they are those in a walk of each.
+fn mixed(alloc: Global, values: &[i64]) -> Result<(Vec<Option<Fixed>>, bool), Memory> {
+    let mut bag = Bag::new(alloc);
+    add_all(&mut bag, values)?;
+    let asked = [1_000_000_000, 0, 900_000_000, 500_000_000, 900_000_000].map(Fixed);
+    let together = answers(alloc, &bag, asked.as_slice())?;
+    let single = single_answers(alloc, &bag, asked.as_slice())?;
+    let same = together.as_slice() == single.as_slice();
+    Ok((together, same))
+}
+
+#[test]
+fn quantiles_in_any_order_are_those_of_single_walks(rt: HostRuntime) -> Result<(), Fail> {
+    for (values, expected) in [
+        ([].as_slice(), [None, None, None, None, None]),
+        (
+            [7].as_slice(),
+            [Some(7), Some(7), Some(7), Some(7), Some(7)],
+        ),
+        (
+            [5, -1, 4, 2, 3, 3].as_slice(),
+            [Some(5), Some(-1), Some(5), Some(3), Some(5)],
+        ),
+    ] {
+        let (together, same) = mixed(rt.alloc(), values)?;
+        let expected = expected.map(|value| value.map(Fixed));
+        assert_eq!(rt; together.as_slice(), expected.as_slice());
+        assert!(rt; same);
     }
     Ok(())
 }

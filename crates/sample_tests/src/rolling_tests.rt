@@ -43,7 +43,7 @@ fn shows(alloc: Global, summary: &mut RollingSummary, case: &Case<'_>) -> Result
     Ok((summary.bucket_len(), summary.count(), median) == case.shown)
 }
 
-/// Whether a case holds of a summary without samples. Here alone a summary is dropped.
+/// Whether a case holds of a summary without samples. Here and in `crowded` alone a summary is dropped.
 fn holds(alloc: Global, mut summary: RollingSummary, case: &Case<'_>) -> Result<bool, Memory> {
     shows(alloc, &mut summary, case)
 }
@@ -84,5 +84,34 @@ fn a_late_sample_is_counted(rt: HostRuntime) -> Result<(), Fail> {
     let buckets = NonZeroU32::new(2).ok_or("no buckets")?;
     let summary = RollingSummary::new(rt.alloc(), buckets, 5 * SECOND);
     assert!(rt; holds(rt.alloc(), summary, &case)?);
+    Ok(())
+}
+
+/// Adds a sample at each moment up to a count, and each again, which is late then.
+fn add_twice(alloc: Global, summary: &mut RollingSummary, moments: u32) -> Result<(), Memory> {
+    for moment in 0..moments {
+        summary.add(alloc, Fixed(ONE), u64::from(moment), 1)?;
+    }
+    for moment in 0..moments {
+        summary.add(alloc, Fixed(ONE), u64::from(moment), 1)?;
+    }
+    Ok(())
+}
+
+/// How many buckets and samples a summary has after so many moments, each with two samples.
+fn crowded(
+    alloc: Global,
+    mut summary: RollingSummary,
+    moments: u32,
+) -> Result<(usize, u64), Memory> {
+    add_twice(alloc, &mut summary, moments)?;
+    Ok((summary.bucket_len(), summary.count()))
+}
+
+#[test]
+fn very_many_buckets_take_little_time(rt: HostRuntime) -> Result<(), Fail> {
+    let buckets = NonZeroU32::new(u32::MAX).ok_or("no buckets")?;
+    let summary = RollingSummary::new(rt.alloc(), buckets, 1);
+    assert_eq!(rt; crowded(rt.alloc(), summary, 200_000)?, (200_000, 400_000));
     Ok(())
 }
