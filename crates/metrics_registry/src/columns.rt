@@ -8,7 +8,7 @@ ghost use Rattle.metrics_registry.specs.Live.{LiveSeries, id_of_key, cell_of, is
 ghost use Rattle.metrics_registry.specs.Retained.{AskedAt, Retains};
 
 use indexmap::IndexSet;
-use metrics_core::{Key, SeriesId};
+use metrics_core::{Key, Memory, SeriesId};
 use std::alloc::Global;
 use std::marker::Model;
 
@@ -36,6 +36,16 @@ impl<T> Column<T> {
         Column {
             items: Vec::new(alloc),
         }
+    }
+
+    /// Makes room for so many more series.
+    pub(crate) fn reserve(&mut self, keys: &mut IndexSet<Key>, count: usize) -> Result<(), Memory>
+        ensures keys { keys.new.keys ≡ keys.old.keys }
+        ensures items { self.new.items.items ≡ self.old.items.items }
+    {
+        keys.reserve(count)?;
+        self.items.reserve(count)?;
+        Ok(())
     }
 
     /// The id of the series with an equal key.

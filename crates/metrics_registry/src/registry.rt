@@ -64,6 +64,14 @@ impl<C: Drop, G: Drop, H: Drop> Registry<C, G, H> {
         })
     }
 
+    /// Makes room for so many more counters and gauges, so that adding them moves no series.
+    pub fn reserve(&mut self, counters: usize, gauges: usize) -> Result<(), Memory>
+        ensures same { self.new ≡ self.old }
+    {
+        self.counters.reserve(&mut self.counter_keys, counters)?;
+        self.gauges.reserve(&mut self.gauge_keys, gauges)
+    }
+
     /// How many series were ever made.
     pub fn made(&self) -> u64
         ensures made { result ≡ self.now.made }

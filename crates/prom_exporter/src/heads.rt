@@ -59,6 +59,14 @@ impl Heads {
         Ok(())
     }
 
+    /// Makes room for where so many more of them end.
+    pub(crate) fn reserve(&mut self, count: usize) -> Result<(), Memory>
+        ensures { self.new ≡ self.old }
+    {
+        self.ends.reserve(count)?;
+        Ok(())
+    }
+
     /// How many there are.
     pub(crate) fn len(&self) -> usize
         ensures { result ≡ length self.now }

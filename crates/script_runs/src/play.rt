@@ -141,11 +141,28 @@ impl Player {
         ensures placed { OnOk result (KnowsPlaces self.old → KnowsPlaces self.new) }
         ensures stepped { OnOk result (state_of self.new ≡ fold setup_step (state_of self.old) (map setup_of setup.items)) }
     {
+        self.make_room(&setup)?;
         setup.reverse();
         while let Some(line) = setup.pop() {
             self.set_up_line(alloc, line)?;
             give_room_back(&mut setup);
         }
+        Ok(())
+    }
+
+    /// Makes room for what setup lines make, where they are at least as many as those before them.
+    fn make_room(&mut self, setup: &[Setup]) -> Result<(), Memory>
+        ensures exporter { self.new.exporter ≡ self.old.exporter }
+        ensures handles { self.new.handles.items ≡ self.old.handles.items }
+        ensures places { self.new.places.items ≡ self.old.places.items }
+    {
+        if setup.len() < self.handles.len() {
+            return Ok(());
+        }
+        let counters = setup.iter().filter(|line| is_counter(line)).count();
+        self.exporter.reserve(counters, setup.len() - counters)?;
+        self.handles.reserve(setup.len())?;
+        self.places.reserve(setup.len())?;
         Ok(())
     }
 
@@ -217,6 +234,12 @@ impl Player {
             Err(_) => Err(DriveFault::WriteFault),
         }
     }
+}
+
+/// Whether a setup line registers a counter.
+fn is_counter(line: &Setup) -> bool {
+    let Setup::Register { kind, key: _ } = line;
+    *kind == MetricKind::Counter
 }
 
 /// Gives the room of lines that were taken away back, where it is at least half of all.

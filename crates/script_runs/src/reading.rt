@@ -1,6 +1,6 @@
 //! Reading a whole source, up to the limit of a script.
 
-ghost use Rattle.std.specs.Prelude.{◌≡◌, ◌+◌, ◌<◌, ◌≤◌, IfErr, IfOk, IfSome, OnOk, length, take, vec_len};
+ghost use Rattle.std.specs.Prelude.{◌≡◌, ◌+◌, ◌<◌, ◌≤◌, [], IfErr, IfOk, IfSome, OnOk, length, take, vec_len};
 ghost use Rattle.metrics_core.specs.Outside.{Rose};
 ghost use Rattle.script_runs.specs.Reading.{HasRoom, IsTaken, IsPieceFault, IsReadFault};
 ghost use Rattle.script_runs.specs.Headline.{script_limit};
@@ -21,7 +21,7 @@ pub fn read_all<S: Source>(alloc: Global, source: &mut S) -> Result<Vec<u8>, Dri
     ensures within { IfOk result (λ all. length all.items ≤ script_limit) }
     ensures refused { IfErr result (IsReadFault (S.left source.old) (Rose (S.faults source.old) (S.faults source.new))) }
 {
-    let mut bytes = Vec::new(alloc);
+    let mut bytes = empty_with_room(alloc);
     let mut filled = 0;
     for _ in 0..SCRIPT_LIMIT + 1 {
         let count = read_piece(source, &mut bytes, filled)?;
@@ -35,6 +35,18 @@ pub fn read_all<S: Source>(alloc: Global, source: &mut S) -> Result<Vec<u8>, Dri
         }
     }
     Err(DriveFault::TooLong)
+}
+
+/// No bytes yet, with room for the longest script, where that can be had: address space alone until bytes come, and none of
+/// them is moved later.
+fn empty_with_room(alloc: Global) -> Vec<u8>
+    ensures empty { result.items ≡ [] }
+    ensures len { vec_len result ≡ 0 }
+{
+    match Vec::with_capacity(alloc, SCRIPT_LIMIT + 1) {
+        Ok(bytes) => bytes,
+        Err(_) => Vec::new(alloc),
+    }
 }
 
 /// Reads once, into the room behind the first `filled` bytes, which are those so far. It answers how many bytes came, none
