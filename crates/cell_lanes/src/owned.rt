@@ -41,6 +41,21 @@ impl<C: SharedCell> OwnedCell<C> {
     pub fn new(alloc: Global, cell: C, root: C::Pass) -> Result<OwnedCell<C>, Memory>
         requires pass { C.is_pass cell root }
         requires root { (C.view root).number ≡ 0 }
+        ensures { IfOk result (λ made. made ≡ record { root = C.view root; fixed = cell }) }
+    {
+        let cell = Arc::new(alloc, cell)?;
+        Ok(OwnedCell {
+            cell,
+            out: u32::MAX,
+            root,
+        })
+    }
+
+    /// A cell that is kept, from the cell and its root pass, while no other pass is out: from then on those that are lent are
+    /// counted.
+    pub fn unlent(alloc: Global, cell: C, root: C::Pass) -> Result<OwnedCell<C>, Memory>
+        requires pass { C.is_pass cell root }
+        requires root { (C.view root).number ≡ 0 }
         requires home { (C.view root).out ≡ 0 }
         ensures { IfOk result (λ made. made ≡ record { root = C.view root; fixed = cell }) }
     {
@@ -96,7 +111,7 @@ impl<C: SharedCell> OwnedCell<C> {
         self.out = one_less(self.out);
     }
 
-    /// Whether no pass is out for sure. Where more than 2^32 - 2 were out at once it is never so again.
+    /// Whether no pass is out for sure. It is never so of a cell that `new` made, nor where more than 2^32 - 2 were out at once.
     pub fn is_home(&self) -> bool
         ensures { IsTrue result → self.now.root.out ≡ 0 }
     {

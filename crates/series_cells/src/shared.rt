@@ -98,7 +98,7 @@ impl PromCounter {
         ensures { IfOk result (λ made. (made.root ≡ first) × Settled made.root) }
     {
         let (counter, root) = PromCounter::new(alloc)?;
-        OwnedCell::new(alloc, counter, root)
+        OwnedCell::unlent(alloc, counter, root)
     }
 }
 
@@ -193,6 +193,6 @@ impl PromGauge {
         ensures { IfOk result (λ made. (made.root ≡ first) × Settled made.root) }
     {
         let (gauge, root) = PromGauge::new(alloc)?;
-        OwnedCell::new(alloc, gauge, root)
+        OwnedCell::unlent(alloc, gauge, root)
     }
 }
