@@ -22,4 +22,5 @@ pub mod Calls
 pub mod Series
 pub mod Outside
 pub mod Devices
+pub mod Words
 pub mod Vectors

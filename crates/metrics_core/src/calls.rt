@@ -2,7 +2,7 @@
 
 use crate::Fixed;
 
-/// One call on a series. Values of counters are plain counts, those of gauges are in billionths.
+/// One call on a series. Values of counters are plain counts, those of gauges and histograms are in billionths.
 #[derive(Clone, Copy, Debug, PartialEq, Eq)]
 pub enum SeriesCall {
     /// Adds to a counter, modulo 2^64.
@@ -15,4 +15,13 @@ pub enum SeriesCall {
     Subtract(Fixed),
     /// Sets a gauge.
     Set(Fixed),
+    /// Records a value of a histogram so many times; no time is no call.
+    Record {
+        /// The value.
+        value: Fixed,
+        /// When it was recorded, in nanoseconds.
+        moment: u64,
+        /// How often.
+        count: u32,
+    },
 }

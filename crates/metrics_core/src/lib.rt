@@ -28,6 +28,7 @@ mod slices;
 mod sources;
 mod texts;
 mod units;
+mod words;
 
 pub use adapters::{Reading, Writing};
 pub use calls::SeriesCall;
@@ -49,3 +50,4 @@ pub use slices::CowSlice;
 pub use sources::{Failed, Source};
 pub use texts::{CowStr, SharedString};
 pub use units::Unit;
+pub use words::{Lcg, Words};
