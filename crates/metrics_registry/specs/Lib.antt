@@ -11,6 +11,7 @@ pub mod Quantiles
 pub mod Cumulative
 pub mod Buckets
 pub mod Bags
+pub mod Reservoirs
 pub mod Ranks
 pub mod QuantileLaws
 pub mod RetainedLaws

@@ -277,6 +277,14 @@ impl<'a, T> SeriesIter<'a, T> {
         Some(key)
     }
 
+    /// The id of the series at a place, from 0, if there is one.
+    pub fn id(&self, place: usize) -> Option<SeriesId>
+        ensures { result ≡ option_map (λ series. series.id) (slice_get self.now place) }
+    {
+        let _key = self.keys.get(place)?;
+        Some(self.series.get(place)?.id)
+    }
+
     /// The cell of the series at a place, from 0, if there is one.
     pub fn cell(&self, place: usize) -> Option<&'a T>
         ensures { option_copied result ≡ option_map (λ series. series.cell) (slice_get self.now place) }

@@ -15,6 +15,7 @@ mod quantiles;
 mod ranks;
 mod recency;
 mod registry;
+mod reservoir;
 
 pub use bag::Bag;
 pub use columns::SeriesIter;
@@ -23,3 +24,4 @@ pub use laws::same_in_any_cuts;
 pub use quantiles::{Quantile, parse_quantiles};
 pub use recency::{MetricKindMask, Recency};
 pub use registry::Registry;
+pub use reservoir::Reservoir;

@@ -252,6 +252,13 @@ impl<C: Drop, G: Drop, H: Drop> Registry<C, G, H> {
         }
     }
 
+    /// How many gauges are live.
+    pub fn gauge_count(&self) -> usize
+        ensures { result ≡ length self.now.gauges }
+    {
+        self.gauge_keys.len()
+    }
+
     /// The place of a live gauge among them, from 0. It is `None` exactly where none with the id is live.
     pub fn place_of_gauge(&self, id: SeriesId) -> Option<usize>
         ensures place { IsPlace id self.now.gauges result }
@@ -352,6 +359,13 @@ impl<C: Drop, G: Drop, H: Drop> Registry<C, G, H> {
             Some(place) => Some(self.histogram_at(place)),
             None => None,
         }
+    }
+
+    /// How many histograms are live.
+    pub fn histogram_count(&self) -> usize
+        ensures { result ≡ length self.now.histograms }
+    {
+        self.histogram_keys.len()
     }
 
     /// The place of a live histogram among them, from 0. It is `None` exactly where none with the id is live.
