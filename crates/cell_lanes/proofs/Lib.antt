@@ -6,4 +6,6 @@ pub mod Jobs
 pub mod Resting
 pub mod Rows
 pub mod Played
+pub mod Mapped
+pub mod Asked
 pub mod Facts

@@ -1,5 +1,5 @@
 -- How what a lane asks for stands in a history.
-use Rattle.std.specs.Prelude.{◌≡◌, ◌⊎◌, List, [], ◌∷◌, ◌++◌}
+use Rattle.std.specs.Prelude.{◌≡◌, ◌⊎◌, ℕ, ◌%◌, ◌^◌, ◌≤◌, List, [], ◌∷◌, ◌++◌, length}
 use Rattle.legal_history.specs.declared.history.Entry.{Entry}
 use Rattle.legal_history.specs.declared.history.View.{View}
 use Rattle.legal_history.specs.History.{after, calls, looked, Sees}
@@ -21,3 +21,7 @@ module _ {M : Type 0} where
   -- the value after a history that begins with all that the pass had seen; the pass has then seen it
   abbrev pub Shows : {R : Type 0} → (List M → R) → View M → R → View M → Type 0
   Shows value_of v reading w = (log : List (Entry M)) × Sees v log × (reading ≡ value_of (calls log)) × (w ≡ looked v log)
+
+  -- n is, modulo 2 ^ 64, the number of calls that were counted: of those of a history that begins with all that the pass had seen. For the root with no other pass out it is the number of all calls
+  abbrev pub CountsCalls : View M → ℕ → Type 0
+  CountsCalls v n = (count : ℕ) × (n ≡ count % 2 ^ 64) × ((log : List (Entry M)) × Sees v log × (count ≤ length log)) × (v.number ≡ 0 → v.out ≡ 0 → count ≡ length v.seen)

@@ -103,3 +103,16 @@ pub trait ValueCell: SharedCell {
         ensures pass { Self.is_pass self.now pass.new }
         ensures value { Shows value_of (Self.view pass.old) result (Self.view pass.new) };
 }
+
+/// A cell that counts the calls that are made on it. Reading the count changes nothing.
+pub trait CountedCell: ValueCell {
+    ghost use Rattle.std.specs.Prelude.{◌≡◌};
+    ghost use Rattle.cell_lanes.specs.Calls.{CountsCalls};
+
+    /// The number of calls that were counted, modulo 2^64. Where no other pass is out it is the number of all calls.
+    fn updates(&self, pass: &mut Self::Pass) -> u64
+        requires { Self.is_pass self.now pass.old }
+        ensures pass { Self.is_pass self.now pass.new }
+        ensures same { Self.view pass.new ≡ Self.view pass.old }
+        ensures count { CountsCalls (Self.view pass.old) result };
+}

@@ -3,7 +3,7 @@ ghost use Rattle.std.specs.Prelude.{◌≡◌, ◌-◌, ℕ, true};
 ghost use Rattle.cell_lanes.specs.Owned.{counts};
 ghost use Rattle.std.specs.Arc.{arc_value};
 
-use crate::cell::{SharedCell, ValueCell};
+use crate::cell::{CountedCell, SharedCell, ValueCell};
 use crate::lender::Lender;
 use crate::lent::LentCell;
 use metrics_core::Memory;
@@ -139,6 +139,18 @@ impl<C: ValueCell> OwnedCell<C> {
         ensures cell { self.new.fixed ≡ self.old.fixed }
     {
         self.cell.value(&mut self.root)
+    }
+}
+
+impl<C: CountedCell> OwnedCell<C> {
+    ghost use Rattle.cell_lanes.specs.Calls.{CountsCalls};
+
+    /// The number of calls that were counted, modulo 2^64. Where no pass is out it is the number of all calls.
+    pub fn updates(&mut self) -> u64
+        ensures count { CountsCalls self.old.root result }
+        ensures same { self.new ≡ self.old }
+    {
+        self.cell.updates(&mut self.root)
     }
 }
 

@@ -5,3 +5,5 @@ pub mod Orders
 pub mod Placed
 pub mod Rounds
 pub mod Objects
+pub mod Mapped
+pub mod Told

@@ -3,3 +3,4 @@ pub mod Places
 pub mod Order
 pub mod News
 pub mod Object
+pub mod Mapped

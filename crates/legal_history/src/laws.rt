@@ -1,5 +1,5 @@
 //! Laws of histories, for every type of call.
-ghost use Rattle.std.specs.Prelude.{◌≡◌, ◌≤◌, ℕ, List, [], ◌∷◌, ◌++◌, true, length};
+ghost use Rattle.std.specs.Prelude.{◌≡◌, ◌≤◌, ℕ, List, [], ◌∷◌, ◌++◌, true, length, map};
 ghost use Rattle.legal_history.specs.declared.history.Entry.{Entry};
 ghost use Rattle.legal_history.specs.declared.history.Held.{Held};
 ghost use Rattle.legal_history.specs.declared.history.View.{View};
@@ -8,6 +8,7 @@ ghost use Rattle.legal_history.specs.History.{In, Among, Settled, Sees, after, t
 ghost use Rattle.legal_history.specs.Places.{has, places, places_from, run_of, Ascend};
 ghost use Rattle.legal_history.specs.Order.{GrewInOrder};
 ghost use Rattle.legal_history.specs.News.{TookIn, lane_calls};
+ghost use Rattle.legal_history.specs.Mapped.{IsOneToOne, mapped_log, mapped_view};
 
 /// The places of a pass ascend, and are positions of what it has seen.
 pub fn places_ascend<C>()
@@ -43,4 +44,15 @@ pub fn places_are_apart<C>()
 /// the calls of these passes, in one order of lanes.
 pub fn lanes_stand_in_one_order<C>()
     ensures { (v w : View C) (news : List (ℕ × Held C)) (lists : ℕ → List C) → Settled v → Settled w → TookIn news v w → ((l : ℕ) → lane_calls news l ≡ lists l) → GrewInOrder lists v.seen w.seen }
+{}
+
+/// Where the calls of a history are seen as others, what a pass finds is seen so too.
+pub fn a_mapped_pass_sees_as_much<C, D>()
+    ensures { (f : C → D) (v : View C) (log : List (Entry C)) → Sees v log → Sees (mapped_view f v) (mapped_log f log) }
+{}
+
+/// Where no two calls are seen as one, and a history is seen to grow by the images of the calls of lanes, it grew by these calls,
+/// in an order of lanes.
+pub fn a_mapped_history_grew_by_its_own_calls<C, D>()
+    ensures { (f : C → D) (lists : ℕ → List C) (before now : List (Entry C)) → IsOneToOne f → GrewInOrder (λ l. map f (lists l)) (mapped_log f before) (mapped_log f now) → GrewInOrder lists before now }
 {}

@@ -4,7 +4,7 @@ use Rattle.legal_history.specs.declared.history.View.{View}
 use Rattle.legal_history.specs.History.{calls}
 use Rattle.legal_history.specs.Order.{taken, IsOrder}
 use Rattle.metrics_core.specs.declared.calls.SeriesCall.{SeriesCall}
-use Rattle.metrics_core.specs.declared.calls.SeriesCall.TheVariants.{Increment, Absolute, Add, Subtract, Set}
+use Rattle.metrics_core.specs.declared.calls.SeriesCall.TheVariants.{Increment, Absolute, Add, Subtract, Set, Record}
 use Rattle.metrics_core.specs.declared.numbers.Fixed.{Fixed as FixedOf}
 use Rattle.metrics_core.specs.Calls.{counter_value, gauge_value}
 use Rattle.series_cells.specs.Values.{calls_of}
@@ -16,6 +16,7 @@ as_counter (Absolute n) = Absolute n ∷ []
 as_counter (Add v) = []
 as_counter (Subtract v) = []
 as_counter (Set v) = []
+as_counter (Record value moment count) = []
 
 -- those that a call on a gauge makes
 abbrev pub as_gauge : SeriesCall → List SeriesCall
@@ -24,6 +25,7 @@ as_gauge (Absolute n) = []
 as_gauge (Add v) = Add v ∷ []
 as_gauge (Subtract v) = Subtract v ∷ []
 as_gauge (Set v) = Set v ∷ []
+as_gauge (Record value moment count) = []
 
 abbrev pub StandsAsCounter : SeriesCall → List SeriesCall → Type 0
 StandsAsCounter call made = made ≡ as_counter call

@@ -3,7 +3,7 @@
 use crate::counter::PromCounter;
 use crate::gauge::PromGauge;
 use crate::pass::CellPass;
-use cell_lanes::{OwnedCell, SharedCell, ValueCell};
+use cell_lanes::{CountedCell, OwnedCell, SharedCell, ValueCell};
 use metrics_core::{Fixed, Memory, SeriesCall};
 use std::alloc::Global;
 use std::sync::Wait;
@@ -46,7 +46,10 @@ impl SharedCell for PromCounter {
         match *call {
             SeriesCall::Increment(value) => self.increment(pass, value),
             SeriesCall::Absolute(value) => self.absolute(pass, value),
-            SeriesCall::Add(_) | SeriesCall::Subtract(_) | SeriesCall::Set(_) => self.look(pass),
+            SeriesCall::Add(_)
+            | SeriesCall::Subtract(_)
+            | SeriesCall::Set(_)
+            | SeriesCall::Record { .. } => self.look(pass),
         }
         Ok(())
     }
@@ -75,6 +78,12 @@ impl ValueCell for PromCounter {
 
     fn value(&self, pass: &mut CellPass) -> u64 {
         self.load(pass)
+    }
+}
+
+impl CountedCell for PromCounter {
+    fn updates(&self, pass: &mut CellPass) -> u64 {
+        PromCounter::updates(self, pass)
     }
 }
 
@@ -141,7 +150,9 @@ impl SharedCell for PromGauge {
             SeriesCall::Add(value) => self.increment(pass, value),
             SeriesCall::Subtract(value) => self.decrement(pass, value),
             SeriesCall::Set(value) => self.set(pass, value),
-            SeriesCall::Increment(_) | SeriesCall::Absolute(_) => self.look(pass),
+            SeriesCall::Increment(_) | SeriesCall::Absolute(_) | SeriesCall::Record { .. } => {
+                self.look(pass);
+            }
         }
         Ok(())
     }
@@ -170,6 +181,12 @@ impl ValueCell for PromGauge {
 
     fn value(&self, pass: &mut CellPass) -> Fixed {
         self.load(pass)
+    }
+}
+
+impl CountedCell for PromGauge {
+    fn updates(&self, pass: &mut CellPass) -> u64 {
+        PromGauge::updates(self, pass)
     }
 }
 
