@@ -17,6 +17,7 @@ mod matchers;
 mod names;
 mod numbers;
 mod printed;
+mod rows;
 mod suffixes;
 mod undo;
 
@@ -33,3 +34,4 @@ pub use matchers::{Matcher, matchers_are_ordered};
 pub use names::{is_metric_name, sanitize_label_key, sanitize_metric_name};
 pub use numbers::{push_count, push_fixed};
 pub use printed::{sanitize_description, sanitize_label_value};
+pub use rows::{printed_rows_are_rows, write_row};
