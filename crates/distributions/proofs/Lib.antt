@@ -1,3 +1,3 @@
 mod Fitting
-mod Recorded
+pub mod Recorded
 mod Building

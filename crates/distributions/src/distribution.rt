@@ -1,18 +1,21 @@
 //! The distributions of histogram series.
 
-ghost use Rattle.std.specs.Prelude.{◌≡◌, ◌<◌, ◌*◌, ◌^◌, [], length, map, take, IfOk, IfErr, OnOk, OnErr};
+ghost use Rattle.std.specs.Prelude.{◌≡◌, ◌<◌, ◌*◌, ◌*ℤ◌, ◌^◌, [], pos, length, map, take, fold, replicate, FitsSigned, IfOk, IfErr, OnOk, OnErr};
+ghost use Rattle.std.specs.Int.{w128};
 ghost use Rattle.std.specs.List.{FoldsTo};
 ghost use Rattle.std.specs.Arc.{arc_value};
 ghost use Rattle.std.specs.Int.NonZero.{non_zero_u32_get};
+ghost use Rattle.metrics_core.specs.Numbers.{add_128};
 ghost use Rattle.distributions.specs.Kinds as kinds;
 ghost use Rattle.distributions.specs.Recording.{
   Records,
+  RecordsTimes,
   StandsFor,
-  StandsForOneMore,
   StandsForMore,
   sample_of,
   samples_of,
   summed,
+  count_of,
   done_of,
 };
 
@@ -98,34 +101,72 @@ impl Distribution {
             StandsForMore self.old first self.new) }
     {
         for (done, (value, moment)) in samples.iter().enumerate() {
-            let Ok(()) = self.record(alloc, *value, *moment) else {
+            let Ok(()) = self.record(alloc, *value, *moment, 1) else {
                 return Err(RecordSamplesFault::Memory { done });
             };
         }
         Ok(())
     }
 
-    /// Records one sample, or changes nothing.
-    fn record(&mut self, alloc: Global, value: Fixed, moment: u64) -> Result<(), Memory>
-        ensures recorded { OnOk result (Records self.old (sample_of (value, moment)) self.new) }
-        ensures stands { OnOk result (StandsForOneMore self.old (sample_of (value, moment)) self.new) }
+    /// Records a value at a moment, in nanoseconds, as `count` equal samples, or changes nothing. It takes as long as one
+    /// sample does. A count of 0 changes nothing.
+    pub fn record(
+        &mut self,
+        alloc: Global,
+        value: Fixed,
+        moment: u64,
+        count: u32,
+    ) -> Result<(), Memory>
+        ensures recorded { OnOk result (RecordsTimes self.old (sample_of (value, moment)) count self.new) }
+        ensures stands { OnOk result (StandsForMore self.old (replicate count (sample_of (value, moment))) self.new) }
         ensures refused { OnErr result (self.new ≡ self.old) }
+        ensures none { count ≡ 0 → self.new ≡ self.old }
     {
-        match self {
-            Distribution::Histogram(histogram) => histogram.observe(value, 1),
-            Distribution::Summary(window, _, _) => window.add(alloc, value, moment, 1)?,
-            Distribution::NativeHistogram(histogram) => histogram.observe(alloc, value, 1)?,
+        if count == 0 {
+            return Ok(());
         }
-        self.add_to_sum(value);
+        match self {
+            Distribution::Histogram(histogram) => histogram.observe(value, count),
+            Distribution::Summary(window, _, _) => window.add(alloc, value, moment, count)?,
+            Distribution::NativeHistogram(histogram) => histogram.observe(alloc, value, count)?,
+        }
+        self.add_to_sum(value, count);
         Ok(())
     }
 
-    /// Adds a value to the sum, where one is kept beside the window.
-    fn add_to_sum(&mut self, value: Fixed)
-        ensures { self.new ≡ summed value.0 self.old }
+    /// The number of samples so far, modulo 2^64.
+    pub fn count(&self) -> u64
+        ensures { result ≡ count_of self.now }
     {
-        if let Distribution::Summary(_, _, sum) = self {
-            *sum = sum.wrapping_add(i128::from(value.0));
+        match self {
+            Distribution::Histogram(histogram) => histogram.count(),
+            Distribution::Summary(window, _, _) => window.count(),
+            Distribution::NativeHistogram(histogram) => histogram.count(),
         }
     }
+
+    /// Adds a value so many times to the sum, where one is kept beside the window.
+    fn add_to_sum(&mut self, value: Fixed, count: u32)
+        ensures { self.new ≡ summed value.0 count self.old }
+    {
+        if let Distribution::Summary(_, _, sum) = self {
+            *sum = sum_with(*sum, value, count);
+        }
+    }
+}
+
+/// A sum with a value added so many times.
+fn sum_with(sum: i128, value: Fixed, count: u32) -> i128
+    ensures { result ≡ fold add_128 sum (replicate count value.0) }
+{
+    sum.wrapping_add(product(value, count))
+}
+
+/// A value so many times.
+fn product(value: Fixed, count: u32) -> i128
+    ensures product { result ≡ value.0 *ℤ pos count }
+    ensures fits { FitsSigned w128 result }
+    ensures value_fits { FitsSigned w128 value.0 }
+{
+    i128::from(value.0) * i128::from(count)
 }
