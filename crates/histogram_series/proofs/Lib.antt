@@ -1,0 +1,5 @@
+mod Held
+mod Taken
+mod Kept
+mod Drained
+mod Shown

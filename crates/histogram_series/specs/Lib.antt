@@ -1,0 +1,5 @@
+pub mod Entries
+pub mod Series
+pub mod Drains
+pub mod Rows
+pub mod Growth
