@@ -1,6 +1,6 @@
 -- Numbers and values: what is read is their spelling, and each spelling is read.
 use Rattle.std.proofs.Common.{◌≡◌, ℕ, zero, suc, ◌+◌, ◌-◌, ◌*◌, ◌^◌, ◌<◌, ◌≤◌, Bool, true, false, ◌&&◌, leb, List, [], ◌∷◌, ◌++◌, length, take, drop, Option, Some, None, refl, sym, ap, subst, ◌∙◌, append_assoc, arith, lit<, lit≤}
-use Rattle.std.specs.Prelude.{codes, decimal, ℤ}
+use Rattle.std.specs.Prelude.{codes, decimal, ℤ, if◌then◌else◌}
 use Rattle.std.specs.Str.Parse.{AllDigits, digits_value}
 use Rattle.std.proofs.lemmas.Bool.{and_parts, leb-true, le-leb}
 use Rattle.std.proofs.lemmas.Bool.Decides.{nat_tests}
@@ -16,9 +16,10 @@ use Rattle.std.proofs.lemmas.Option.{cond_some, same_Some}
 use Rattle.std.proofs.lemmas.Str.Parse.{digit_from_value, parse_digits, digits_value_short}
 use Rattle.metrics_core.specs.Numbers.{one}
 use Rattle.drive_script.specs.Words.{IsDec, sign, signed, point_and, billionths, greatest}
-use Rattle.drive_script.specs.Reading.{◌>>=◌, both, behind, digit_count, number_at, fraction_of, fraction_behind, fraction_at, value_of, signed_at, sign_behind, fixed_at}
+use Rattle.drive_script.specs.Reading.{◌>>=◌, both, behind, digit_count, number_at, positive_at, fraction_of, fraction_behind, fraction_at, value_of, signed_at, sign_behind, fixed_at}
 use Rattle.drive_script.proofs.Fields.{bind_some, behind_takes, behind_again, number_takes, number_again, digits_front, digit_count-append, own}
-use Rattle.drive_script.proofs.Readers.{IsReader, Ends, SpellsBoth, both_reads}
+use Rattle.drive_script.proofs.Readers.{IsReader, stops_less, SpellsBoth, both_reads}
+use Rattle.drive_script.proofs.Spaced.{WordEnds}
 
 -- no digit stands at the front
 abbrev pub NoDigit : List ℕ → Type 0
@@ -32,6 +33,35 @@ number_reads most small = record {
   takes = λ bytes n rest e. let h = number_takes most n bytes rest e in (decimal n, (refl, h.1), h.0);
   again = λ n front rest h stop. ap (λ l. number_at most (l ++ rest)) h.0 ∙ number_again most n rest small h.1 stop;
 }
+
+-- numbers end before a space too
+pub no_digit : (rest : List ℕ) → WordEnds rest → NoDigit rest
+no_digit [] stop = refl
+no_digit (b ∷ rest) stop = subst (λ c. NoDigit (c ∷ rest)) (sym stop) refl
+
+pub number_words : (most : ℕ) → most < 2 ^ 64 → IsReader (number_at most) (SpellsNumber most) WordEnds
+number_words most small = stops_less (number_at most) (SpellsNumber most) NoDigit WordEnds (number_reads most small) no_digit
+
+-- a number from 1 on
+abbrev pub SpellsPositive : ℕ → ℕ → List ℕ → Type 0
+SpellsPositive most n front = (1 ≤ n) × SpellsNumber most n front
+
+pub positive_reads : (most : ℕ) → most < 2 ^ 64 → IsReader (positive_at most) (SpellsPositive most) WordEnds
+unfolding positive_at
+positive_reads most small = record { takes = takes; again = again }
+  where
+    takes : (bytes : List ℕ) (n : ℕ) (rest : List ℕ) → positive_at most bytes ≡ Some (n, rest) → (front : List ℕ) × SpellsPositive most n front × (bytes ≡ front ++ rest)
+    takes bytes n rest e =
+        let m = bind_some (number_at most bytes) (λ n. if leb 1 n.0 then Some n else None) (n, rest) e in
+        let tested = cond_some (leb 1 m.0.0) m.0 (n, rest) m.2 in
+        let some : 1 ≤ m.0.0 = leb-true 1 m.0.0 tested.0 in
+        let h = (number_words most small).takes bytes m.0.0 m.0.1 m.1 in
+        subst (λ (p : ℕ × List ℕ). (front : List ℕ) × SpellsPositive most p.0 front × (bytes ≡ front ++ p.1)) {x = m.0} {y = (n, rest)} tested.1 (h.0, (some, h.1), h.2)
+
+    again : (n : ℕ) (front rest : List ℕ) → SpellsPositive most n front → WordEnds rest → positive_at most (front ++ rest) ≡ Some (n, rest)
+    again n front rest (some, number) stop =
+        let within : leb 1 n ≡ true = le-leb 1 n some in
+        ap (λ o. o >>= λ n. if leb 1 n.0 then Some n else None) ((number_words most small).again n front rest number stop) ∙ rw within refl
 
 -- ---- fractions
 
@@ -62,33 +92,34 @@ fraction_takes bytes n rest e = by (behind (codes ".") bytes) refl e
         let split : bytes ≡ codes "." ++ (some ++ rest) = behind_takes (codes ".") bytes digits is ∙ ap (λ l. codes "." ++ l) (sym (take-append-drop (digit_count digits) digits) ∙ ap (λ (p : ℕ × List ℕ). some ++ p.1) same) in
         (point_and some, (some, leb-true (length some) 9 parts.1, digits_front digits, refl, value), split ∙ ap (λ l. l ++ rest) (sym (pointed some (leb-true 1 (length some) parts.0))))
 
--- a number with nothing behind it
-abbrev with_nothing : ℕ → Option (ℕ × List ℕ)
-with_nothing n = Some (n, [])
+-- a number before these bytes
+abbrev number_before : List ℕ → ℕ → Option (ℕ × List ℕ)
+number_before rest n = Some (n, rest)
 
-nothing_read : fraction_at [] ≡ Some (0, [])
+nothing_read : (rest : List ℕ) → WordEnds rest → fraction_at rest ≡ Some (0, rest)
 unfolding fraction_at behind
-nothing_read = refl
+nothing_read [] stop = refl
+nothing_read (b ∷ rest) stop = subst (λ c. fraction_at (c ∷ rest) ≡ Some (0, c ∷ rest)) (sym stop) refl
 
-fraction_again : (n : ℕ) (front rest : List ℕ) → SpellsFraction n front → Ends rest → fraction_at (front ++ rest) ≡ Some (n, rest)
+fraction_again : (n : ℕ) (front rest : List ℕ) → SpellsFraction n front → WordEnds rest → fraction_at (front ++ rest) ≡ Some (n, rest)
 unfolding fraction_at
-fraction_again n front rest (digits, few, all, spelled, value) stop = ap fraction_at (ap (λ l. l ++ rest) spelled ∙ ap (λ l. point_and digits ++ l) stop) ∙ by digits few all value ∙ ap (λ l. Some (n, l)) (sym stop)
+fraction_again n front rest (digits, few, all, spelled, value) stop = ap fraction_at (ap (λ l. l ++ rest) spelled) ∙ by digits few all value
   where
-    by : (digits : List ℕ) → length digits ≤ 9 → AllDigits 10 digits → n ≡ digits_value 10 digits * 10 ^ (9 - length digits) → fraction_at (point_and digits ++ []) ≡ Some (n, [])
-    by [] few all value = nothing_read ∙ ap with_nothing (sym value)
+    by : (digits : List ℕ) → length digits ≤ 9 → AllDigits 10 digits → n ≡ digits_value 10 digits * 10 ^ (9 - length digits) → fraction_at (point_and digits ++ rest) ≡ Some (n, rest)
+    by [] few all value = nothing_read rest stop ∙ ap (number_before rest) (sym value)
     by (d ∷ digits) few all value =
         let ds : List ℕ = d ∷ digits in
-        let behind_point : List ℕ = ds ++ [] in
-        let count : digit_count behind_point ≡ length ds = digit_count-append ds [] all refl in
-        let front_is : take (digit_count behind_point) behind_point ≡ ds = ap (λ k. take k behind_point) count ∙ take_at ds [] (length ds) refl in
-        let back_is : drop (digit_count behind_point) behind_point ≡ [] = ap (λ k. drop k behind_point) count ∙ drop_at ds [] (length ds) refl in
+        let behind_point : List ℕ = ds ++ rest in
+        let count : digit_count behind_point ≡ length ds = digit_count-append ds rest all (no_digit rest stop) in
+        let front_is : take (digit_count behind_point) behind_point ≡ ds = ap (λ k. take k behind_point) count ∙ take_at ds rest (length ds) refl in
+        let back_is : drop (digit_count behind_point) behind_point ≡ rest = ap (λ k. drop k behind_point) count ∙ drop_at ds rest (length ds) refl in
         let some : leb 1 (length ds) ≡ true = le-leb 1 (length ds) (omega arith) in
         let within : leb (length ds) 9 ≡ true = le-leb (length ds) 9 few in
         ap (λ o. fraction_behind o (codes "." ++ behind_point)) (behind_again (codes ".") behind_point)
         ∙ ap (λ l. fraction_of l >>= λ v. Some (v, drop (digit_count behind_point) behind_point)) front_is
-        ∙ rw (some, within, back_is) (ap with_nothing (sym value))
+        ∙ rw (some, within, back_is) (ap (number_before rest) (sym value))
 
-fraction_reads : IsReader fraction_at SpellsFraction Ends
+fraction_reads : IsReader fraction_at SpellsFraction WordEnds
 fraction_reads = record { takes = fraction_takes; again = fraction_again }
 
 -- ---- values
@@ -96,15 +127,15 @@ fraction_reads = record { takes = fraction_takes; again = fraction_again }
 abbrev most_whole : ℕ
 most_whole = 9223372036
 
-no_digit_at_point : (digits rest : List ℕ) → Ends rest → NoDigit (point_and digits ++ rest)
-no_digit_at_point [] rest stop = ap digit_count stop
+no_digit_at_point : (digits rest : List ℕ) → WordEnds rest → NoDigit (point_and digits ++ rest)
+no_digit_at_point [] rest stop = no_digit rest stop
 no_digit_at_point (d ∷ digits) rest stop = refl
 
 abbrev SpellsParts : ℕ × ℕ → List ℕ → Type 0
 SpellsParts = SpellsBoth (SpellsNumber most_whole) (λ _. SpellsFraction)
 
-parts_reads : IsReader (both (number_at most_whole) (λ _. fraction_at)) SpellsParts Ends
-parts_reads = both_reads (number_at most_whole) (λ _. fraction_at) (SpellsNumber most_whole) (λ _. SpellsFraction) NoDigit Ends (number_reads most_whole (lit< tt)) (λ _. fraction_reads)
+parts_reads : IsReader (both (number_at most_whole) (λ _. fraction_at)) SpellsParts WordEnds
+parts_reads = both_reads (number_at most_whole) (λ _. fraction_at) (SpellsNumber most_whole) (λ _. SpellsFraction) NoDigit WordEnds (number_reads most_whole (lit< tt)) (λ _. fraction_reads)
     (λ a b y rest h stop. subst (λ l. NoDigit (l ++ rest)) (sym h.3) (no_digit_at_point h.0 rest stop))
 
 -- a value behind its sign
@@ -135,7 +166,7 @@ whole_small : (negative : Bool) (whole n : ℕ) → whole * one + n ≤ greatest
 whole_small true whole n h = omega (arith, h)
 whole_small false whole n h = omega (arith, h)
 
-signed_again : (negative : Bool) (whole : ℕ) (digits rest : List ℕ) (value : ℤ) → length digits ≤ 9 → AllDigits 10 digits → value ≡ signed negative (billionths whole digits) → billionths whole digits ≤ greatest negative → Ends rest
+signed_again : (negative : Bool) (whole : ℕ) (digits rest : List ℕ) (value : ℤ) → length digits ≤ 9 → AllDigits 10 digits → value ≡ signed negative (billionths whole digits) → billionths whole digits ≤ greatest negative → WordEnds rest
     → signed_at negative ((decimal whole ++ point_and digits) ++ rest) ≡ Some (value, rest)
 signed_again negative whole digits rest value few all meant fits stop =
     let fraction : ℕ = digits_value 10 digits * 10 ^ (9 - length digits) in
@@ -161,7 +192,7 @@ no_sign (d ∷ digits) rest some all =
     let range = digit_from_value d all.0 in
     grind (arith, nat_tests)
 
-fixed_again : (value : ℤ) (front rest : List ℕ) → IsDec front value → Ends rest → fixed_at (front ++ rest) ≡ Some (value, rest)
+fixed_again : (value : ℤ) (front rest : List ℕ) → IsDec front value → WordEnds rest → fixed_at (front ++ rest) ≡ Some (value, rest)
 unfolding fixed_at
 fixed_again value front rest h stop = ap (λ l. fixed_at (l ++ rest)) h.spelled ∙ by h.negative h.meant h.fits
   where
@@ -178,7 +209,10 @@ fixed_again value front rest h stop = ap (λ l. fixed_at (l ++ rest)) h.spelled 
         let none : behind (codes "-") (unsigned ++ rest) ≡ None = ap (behind (codes "-")) (append_assoc (decimal h.whole) (point_and h.digits) rest) ∙ no_sign (decimal h.whole) (point_and h.digits ++ rest) (decimal_nonempty h.whole (whole_fits false fits)) numeral.0.1 in
         ap (λ o. sign_behind o (unsigned ++ rest)) none ∙ signed_again false h.whole h.digits rest value h.few h.each_digit meant fits stop
 
-pub fixed_reads : IsReader fixed_at (λ value front. IsDec front value) Ends
+abbrev pub SpellsDec : ℤ → List ℕ → Type 0
+SpellsDec value front = IsDec front value
+
+pub fixed_reads : IsReader fixed_at SpellsDec WordEnds
 fixed_reads = record { takes = fixed_takes; again = fixed_again }
 
 -- ---- what `parse` says of the digits of a fraction

@@ -1,44 +1,25 @@
 -- A line is read as what it says, and so it says at most one thing.
-use Rattle.std.proofs.Common.{◌≡◌, ℕ, ◌+◌, ◌-◌, ◌^◌, ◌<◌, ◌==◌, List, [], ◌∷◌, ◌++◌, map, Option, Some, None, refl, sym, ap, subst, ◌∙◌, append_assoc, arith, inl, inr, lit<}
-use Rattle.std.specs.Prelude.{codes, decimal, ℤ, if◌then◌else◌}
+use Rattle.std.proofs.Common.{◌≡◌, ℕ, ◌+◌, ◌-◌, ◌^◌, ◌<◌, ◌==◌, List, [], ◌∷◌, ◌++◌, map, get_or, Option, Some, None, refl, sym, ap, subst, ◌∙◌, append_assoc, arith, inl, inr, lit<}
+use Rattle.std.specs.Prelude.{codes, decimal, ℤ, option_map, if◌then◌else◌}
 use Rattle.std.proofs.lemmas.Bool.Decides.{nat_tests}
 use Rattle.std.proofs.lemmas.Fmt.{decimal_digit}
-use Rattle.std.proofs.lemmas.List.{append-nil}
 use Rattle.std.proofs.lemmas.Option.{same_Some}
 use Rattle.metrics_core.specs.Keys.{LabelText, KeyText}
 use Rattle.metrics_core.specs.Kinds.{kind_text}
 use Rattle.metrics_core.specs.declared.kinds.MetricKind.{MetricKind}
 use Rattle.metrics_core.specs.declared.kinds.MetricKind.TheVariants as kinds
-use Rattle.drive_script.specs.Words.{spaced, quoted, label_word, IsDec}
-use Rattle.drive_script.specs.Script.{Register, Describe, Act, Inc, Abs, Add, Sub, Set, Rec, RecN, CallLine, ScriptLine, Global, Round, Setup, CallOf, IsLine, IsRegistered, AreActWords}
-use Rattle.drive_script.specs.Reading.{◌or◌, both, after, behind, standing, number_at, fixed_at, text_at, labels_at, verb_at, registered_kind_at, argument_at, global_at, round_at, Registered, register_at, CallParts, call_parts_at, call_of_parts, call_at}
+use Rattle.drive_script.specs.Words.{spaced, quoted, label_word}
+use Rattle.drive_script.specs.Script.{Register, Describe, Act, Inc, Abs, Add, Sub, Set, Rec, RecN, CallLine, HeaderLine, Quantiles, Buckets, BucketsFor, Summary, Idle, Global, ScriptLine, Header, Round, Setup, CallOf, IsLine, IsRegistered, AreActWords}
+use Rattle.drive_script.specs.Reading.{◌or◌, both, after, behind, standing, number_at, fixed_at, text_at, labels_at, verb_at, registered_kind_at, argument_at, quantiles_at, buckets_at, buckets_for_at, summary_at, idle_at, global_at, round_at, Registered, register_at, CallParts, call_parts_at, call_of_parts, call_at}
 use Rattle.drive_script.specs.declared.lines.Verb.{Verb}
 use Rattle.drive_script.specs.declared.lines.Verb.TheVariants as verbs
 use Rattle.drive_script.proofs.Readers.{IsReader, Ends, Anywhere, stops_less, SpellsBoth, both_reads, SpellsSeen, seen_reads, SpellsAfter, after_reads, standing_takes, or_some, whole_takes, whole_again}
-use Rattle.drive_script.proofs.Decimals.{NoDigit, SpellsNumber, number_reads, fixed_reads}
-use Rattle.drive_script.proofs.TextFields.{SpellsText, text_reads, label_spelled, label_spells, label_seen_reads, spaced_labels, SpellsLabels, labels_read}
-
--- ---- global lines
-
-pub global_takes : (line : List ℕ) (label : LabelText) → global_at line ≡ Some label → IsLine line (Global label)
-unfolding global_at
-global_takes line label e =
-    let read = after_reads (codes "global ") _ _ Anywhere (label_seen_reads (codes " ")) in
-    let (front, spelled, split) = whole_takes _ _ Anywhere read line label e in
-    let is = label_spelled (codes " ") label front spelled in
-    record { words = codes "global" ∷ quoted label.key ∷ quoted label.value ∷ []; formed = (is.0, refl); spelled = split ∙ ap (λ l. codes "global " ++ l) is.1 }
-
-pub global_again : (line : List ℕ) (label : LabelText) → IsLine line (Global label) → global_at line ≡ Some label
-unfolding global_at
-global_again line label h =
-    let read = after_reads (codes "global ") _ _ Anywhere (label_seen_reads (codes " ")) in
-    let front : List ℕ = quoted label.key ++ (codes " " ++ quoted label.value) in
-    whole_again _ _ Anywhere read tt line label (front, label_spells (codes " ") label front h.formed.0 refl, h.spelled ∙ ap spaced h.formed.1)
+use Rattle.drive_script.proofs.Spaced.{WordEnds, ends_word}
+use Rattle.drive_script.proofs.Decimals.{NoDigit, SpellsNumber, number_reads, SpellsDec, fixed_reads}
+use Rattle.drive_script.proofs.TextFields.{SpellsText, text_reads, spaced_labels, SpellsLabels, labels_read}
+use Rattle.drive_script.proofs.HeaderForms.{behind_spaces, words_spaced, number_to_end, quantiles_again, buckets_again, buckets_for_again, summary_again, idle_again, global_again}
 
 -- ---- round lines
-
-number_to_end : (most : ℕ) → most < 2 ^ 64 → IsReader (number_at most) (SpellsNumber most) Ends
-number_to_end most small = stops_less (number_at most) (SpellsNumber most) NoDigit Ends (number_reads most small) (λ rest stop. subst NoDigit (sym stop) refl)
 
 round_reads : IsReader (after (codes "round ") (number_at (2 ^ 64 - 1))) (SpellsAfter (codes "round ") (SpellsNumber (2 ^ 64 - 1))) Ends
 round_reads = after_reads (codes "round ") (number_at (2 ^ 64 - 1)) (SpellsNumber (2 ^ 64 - 1)) Ends (number_to_end (2 ^ 64 - 1) (lit< tt))
@@ -93,12 +74,13 @@ register_reads = both_reads registered_kind_at (λ _. both text_at (λ _. labels
 abbrev pub key_of : Registered → KeyText
 key_of registered = record { name = registered.1.0; labels = registered.1.1 }
 
--- words behind a first one
+-- labels behind a first word
 spaced_words : (first : List ℕ) (labels : List LabelText) → spaced (first ∷ map label_word labels) ≡ first ++ spaced_labels labels
-spaced_words first [] = sym (append-nil first)
-spaced_words first (label ∷ labels) =
-    ap (λ l. first ++ (codes " " ++ l)) (spaced_words (label_word label) labels)
-    ∙ ap (λ l. first ++ l) (sym (append_assoc (codes " ") (label_word label) (spaced_labels labels)))
+spaced_words first labels = words_spaced first (map label_word labels) ∙ ap (λ l. first ++ l) (behind_labels labels)
+  where
+    behind_labels : (labels : List LabelText) → behind_spaces (map label_word labels) ≡ spaced_labels labels
+    behind_labels [] = refl
+    behind_labels (label ∷ labels) = ap (λ l. codes " " ++ (label_word label ++ l)) (behind_labels labels)
 
 register_spaced : (kind : MetricKind) (name : List ℕ) (labels : List LabelText) → spaced (codes "register" ∷ kind_text kind ∷ quoted name ∷ map label_word labels) ≡ register_text kind ++ (quoted name ++ spaced_labels labels)
 register_spaced kind name labels =
@@ -173,7 +155,7 @@ abbrev SpellsCount : (ℕ → Act) → Act → List ℕ → Type 0
 SpellsCount act = SpellsSeen act (SpellsNumber (2 ^ 64 - 1))
 
 abbrev SpellsValue : (ℤ → Act) → Act → List ℕ → Type 0
-SpellsValue act = SpellsSeen act (λ value front. IsDec front value)
+SpellsValue act = SpellsSeen act SpellsDec
 
 abbrev SpellsArgument : Verb → Act → List ℕ → Type 0
 SpellsArgument verbs.Inc = SpellsCount Inc
@@ -182,12 +164,15 @@ SpellsArgument verbs.Add = SpellsValue Add
 SpellsArgument verbs.Sub = SpellsValue Sub
 SpellsArgument verbs.Set = SpellsValue Set
 
+fixed_to_end : IsReader fixed_at SpellsDec Ends
+fixed_to_end = stops_less fixed_at SpellsDec WordEnds Ends fixed_reads ends_word
+
 argument_reads : (verb : Verb) → IsReader (argument_at verb) (SpellsArgument verb) Ends
 argument_reads verbs.Inc = seen_reads Inc (number_at (2 ^ 64 - 1)) (SpellsNumber (2 ^ 64 - 1)) Ends (number_to_end (2 ^ 64 - 1) (lit< tt))
 argument_reads verbs.Abs = seen_reads Abs (number_at (2 ^ 64 - 1)) (SpellsNumber (2 ^ 64 - 1)) Ends (number_to_end (2 ^ 64 - 1) (lit< tt))
-argument_reads verbs.Add = seen_reads Add fixed_at (λ value front. IsDec front value) Ends fixed_reads
-argument_reads verbs.Sub = seen_reads Sub fixed_at (λ value front. IsDec front value) Ends fixed_reads
-argument_reads verbs.Set = seen_reads Set fixed_at (λ value front. IsDec front value) Ends fixed_reads
+argument_reads verbs.Add = seen_reads Add fixed_at SpellsDec Ends fixed_to_end
+argument_reads verbs.Sub = seen_reads Sub fixed_at SpellsDec Ends fixed_to_end
+argument_reads verbs.Set = seen_reads Set fixed_at SpellsDec Ends fixed_to_end
 
 abbrev SpellsHandled : Verb → ℕ × Act → List ℕ → Type 0
 SpellsHandled verb = SpellsBoth (SpellsNumber (2 ^ 32 - 1)) (λ _. SpellsAfter (codes " ") (SpellsArgument verb))
@@ -278,60 +263,101 @@ abbrev pub registered_line : Registered → ScriptLine
 registered_line registered = Setup (Register registered.0 (key_of registered))
 
 -- a line that is read in none of the forms says nothing
-pub no_reading : (line : List ℕ) → call_at line ≡ None → round_at line ≡ None → register_at line ≡ None → global_at line ≡ None → (says : ScriptLine) → ¬ IsLine line says
-no_reading line no_call no_round no_register no_global (Global label) h = let read = global_again line label h in cc
-no_reading line no_call no_round no_register no_global (Round moment) h = let read = round_again line moment h in cc
-no_reading line no_call no_round no_register no_global (Setup (Register kind key)) h = let read = register_again line kind key h in cc
-no_reading line no_call no_round no_register no_global (Setup (Describe kind name unit text)) h = absurd h.formed
-no_reading line no_call no_round no_register no_global (CallOf call) h = let read = call_again line call h in cc
+pub no_reading : (line : List ℕ) → call_at line ≡ None → round_at line ≡ None → register_at line ≡ None → ((header : HeaderLine) → ¬ IsLine line (Header header)) → (says : ScriptLine) → ¬ IsLine line says
+no_reading line no_call no_round no_register no_header (Header header) h = no_header header h
+no_reading line no_call no_round no_register no_header (Round moment) h = let read = round_again line moment h in cc
+no_reading line no_call no_round no_register no_header (Setup (Register kind key)) h = let read = register_again line kind key h in cc
+no_reading line no_call no_round no_register no_header (Setup (Describe kind name unit text)) h = absurd h.formed
+no_reading line no_call no_round no_register no_header (CallOf call) h = let read = call_again line call h in cc
 
--- which form a line has, by its first two bytes
-abbrev form_at : List ℕ → ℕ
-form_at (c ∷ d ∷ line) = if c == 103 then 0 else if c == 114 then (if d == 111 then 1 else 2) else 3
-form_at _ = 3
+-- the forms of line
+data Form : Type 0 where
+  quantiles : Form
+  buckets : Form
+  buckets_for : Form
+  summary : Form
+  idle : Form
+  global : Form
+  round : Form
+  register : Form
+  call : Form
 
-abbrev form_of : ScriptLine → ℕ
-form_of (Global label) = 0
-form_of (Round moment) = 1
-form_of (Setup setup) = 2
-form_of (CallOf call) = 3
+abbrev form_of : ScriptLine → Form
+form_of (Header (Quantiles values)) = quantiles
+form_of (Header (Buckets values)) = buckets
+form_of (Header (BucketsFor matcher values)) = buckets_for
+form_of (Header (Summary count duration)) = summary
+form_of (Header (Idle mask timeout)) = idle
+form_of (Header (Global label)) = global
+form_of (Round moment) = round
+form_of (Setup setup) = register
+form_of (CallOf call_line) = call
+
+-- which form a line has, by some of its bytes
+abbrev form_at : List ℕ → Form
+form_at (c ∷ d ∷ line) =
+    if c == 103 then global
+    else if c == 114 then (if d == 111 then round else register)
+    else if c == 113 then quantiles
+    else if c == 115 then summary
+    else if c == 105 then idle
+    else if c == 98 then (if get_or line 5 0 == 45 then buckets_for else buckets)
+    else call
+form_at _ = call
+
+-- a line read in one form
+abbrev read_as : Form → List ℕ → Option ScriptLine
+read_as quantiles line = option_map (λ values. Header (Quantiles values)) (quantiles_at line)
+read_as buckets line = option_map (λ values. Header (Buckets values)) (buckets_at line)
+read_as buckets_for line = option_map (λ rule. Header (BucketsFor rule.0 rule.1)) (buckets_for_at line)
+read_as summary line = option_map (λ s. Header (Summary s.0 s.1)) (summary_at line)
+read_as idle line = option_map (λ i. Header (Idle i.0 i.1)) (idle_at line)
+read_as global line = option_map (λ label. Header (Global label)) (global_at line)
+read_as round line = option_map Round (round_at line)
+read_as register line = option_map registered_line (register_at line)
+read_as call line = option_map CallOf (call_at line)
+
+read_so : (line : List ℕ) (says : ScriptLine) → IsLine line says → read_as (form_of says) line ≡ Some says
+read_so line (Header (Quantiles values)) h = ap (option_map (λ values. Header (Quantiles values))) (quantiles_again line values h)
+read_so line (Header (Buckets values)) h = ap (option_map (λ values. Header (Buckets values))) (buckets_again line values h)
+read_so line (Header (BucketsFor matcher values)) h = ap (option_map (λ rule. Header (BucketsFor rule.0 rule.1))) (buckets_for_again line matcher values h)
+read_so line (Header (Summary count duration)) h = ap (option_map (λ s. Header (Summary s.0 s.1))) (summary_again line count duration h)
+read_so line (Header (Idle mask timeout)) h = ap (option_map (λ i. Header (Idle i.0 i.1))) (idle_again line mask timeout h)
+read_so line (Header (Global label)) h = ap (option_map (λ label. Header (Global label))) (global_again line label h)
+read_so line (Round moment) h = ap (option_map Round) (round_again line moment h)
+read_so line (Setup (Register kind key)) h = ap (option_map registered_line) (register_again line kind key h)
+read_so line (Setup (Describe kind name unit text)) h = absurd h.formed
+read_so line (CallOf call_line) h = ap (option_map CallOf) (call_again line call_line h)
 
 -- a line whose first byte is a digit
-digit_form : (d : ℕ) (line : List ℕ) → d < 10 → form_at ((48 + d) ∷ line) ≡ 3
+digit_form : (d : ℕ) (line : List ℕ) → d < 10 → form_at ((48 + d) ∷ line) ≡ call
 digit_form d [] small = refl
 digit_form d (c ∷ line) small = grind (arith, nat_tests)
 
+buckets_form : (decs : List (List ℕ)) → form_at (codes "buckets" ++ behind_spaces decs) ≡ buckets
+buckets_form [] = refl
+buckets_form (word ∷ decs) = refl
+
 formed : (line : List ℕ) (says : ScriptLine) → IsLine line says → form_at line ≡ form_of says
-formed line (Global label) h = ap form_at (h.spelled ∙ ap spaced h.formed.1)
+formed line (Header (Quantiles values)) h = ap form_at (h.spelled ∙ ap spaced h.formed.2 ∙ words_spaced (codes "quantiles") h.formed.0)
+formed line (Header (Buckets values)) h = ap form_at (h.spelled ∙ ap spaced h.formed.2 ∙ words_spaced (codes "buckets") h.formed.0) ∙ buckets_form h.formed.0
+formed line (Header (BucketsFor matcher values)) h = ap form_at (h.spelled ∙ ap spaced h.formed.3)
+formed line (Header (Summary count duration)) h = ap form_at (h.spelled ∙ ap spaced h.formed.3)
+formed line (Header (Idle mask timeout)) h = ap form_at (h.spelled ∙ ap spaced h.formed.3)
+formed line (Header (Global label)) h = ap form_at (h.spelled ∙ ap spaced h.formed.1)
 formed line (Round moment) h = ap form_at (h.spelled ∙ ap spaced h.formed.1)
 formed line (Setup (Register kind key)) h = ap form_at (h.spelled ∙ ap spaced h.formed.2)
 formed line (Setup (Describe kind name unit text)) h = absurd h.formed
-formed line (CallOf call) h =
+formed line (CallOf line_call) h =
     let (rest, act, lane_fits, handle_fits, words_are) = h.formed in
-    let w = worded rest call.handle call.act act in
-    let behind_lane : List ℕ = verb_text w.verb ++ (decimal call.handle ++ (codes " " ++ w.argument)) in
-    let whole_line : line ≡ decimal call.lane ++ behind_lane = h.spelled ∙ ap spaced (words_are ∙ ap (λ l. decimal call.lane ∷ l) w.words_are) ∙ call_spaced w.verb (decimal call.lane) (decimal call.handle) w.argument in
-    ap form_at (whole_line ∙ ap (λ l. l ++ behind_lane) (decimal_digit call.lane (omega (arith, lane_fits)))) ∙ digit_form call.lane behind_lane (omega (arith, lane_fits))
+    let w = worded rest line_call.handle line_call.act act in
+    let behind_lane : List ℕ = verb_text w.verb ++ (decimal line_call.handle ++ (codes " " ++ w.argument)) in
+    let whole_line : line ≡ decimal line_call.lane ++ behind_lane = h.spelled ∙ ap spaced (words_are ∙ ap (λ l. decimal line_call.lane ∷ l) w.words_are) ∙ call_spaced w.verb (decimal line_call.lane) (decimal line_call.handle) w.argument in
+    ap form_at (whole_line ∙ ap (λ l. l ++ behind_lane) (decimal_digit line_call.lane (omega (arith, lane_fits)))) ∙ digit_form line_call.lane behind_lane (omega (arith, lane_fits))
 
-register_told : (kind other : MetricKind) (key same : KeyText) → ◌≡◌ {A = Option Registered} (Some (kind, (key.name, key.labels))) (Some (other, (same.name, same.labels))) → ◌≡◌ {A = ScriptLine} (Setup (Register kind key)) (Setup (Register other same))
-register_told kind other key same e = ap registered_line (same_Some (kind, (key.name, key.labels)) (other, (same.name, same.labels)) e)
+-- a line is read in its form
+read_in_form : (line : List ℕ) (says : ScriptLine) → IsLine line says → read_as (form_at line) line ≡ Some says
+read_in_form line says h = ap (λ f. read_as f line) (formed line says h) ∙ read_so line says h
 
 pub one_reading : (line : List ℕ) (s t : ScriptLine) → IsLine line s → IsLine line t → s ≡ t
-one_reading line (Global l) (Global m) a b = ap Global (same_Some l m (sym (global_again line l a) ∙ global_again line m b))
-one_reading line (Round m) (Round n) a b = ap Round (same_Some m n (sym (round_again line m a) ∙ round_again line n b))
-one_reading line (Setup (Register kind key)) (Setup (Register other same)) a b = register_told kind other key same (sym (register_again line kind key a) ∙ register_again line other same b)
-one_reading line (Setup (Describe kind name unit text)) t a b = absurd a.formed
-one_reading line s (Setup (Describe kind name unit text)) a b = absurd b.formed
-one_reading line (CallOf c) (CallOf d) a b = ap CallOf (same_Some c d (sym (call_again line c a) ∙ call_again line d b))
-one_reading line (Global l) (Round n) a b = absurd (omega (arith, formed line (Global l) a, formed line (Round n) b))
-one_reading line (Global l) (Setup (Register kind key)) a b = absurd (omega (arith, formed line (Global l) a, formed line (Setup (Register kind key)) b))
-one_reading line (Global l) (CallOf c) a b = absurd (omega (arith, formed line (Global l) a, formed line (CallOf c) b))
-one_reading line (Round n) (Global l) a b = absurd (omega (arith, formed line (Round n) a, formed line (Global l) b))
-one_reading line (Round n) (Setup (Register kind key)) a b = absurd (omega (arith, formed line (Round n) a, formed line (Setup (Register kind key)) b))
-one_reading line (Round n) (CallOf c) a b = absurd (omega (arith, formed line (Round n) a, formed line (CallOf c) b))
-one_reading line (Setup (Register kind key)) (Global l) a b = absurd (omega (arith, formed line (Setup (Register kind key)) a, formed line (Global l) b))
-one_reading line (Setup (Register kind key)) (Round n) a b = absurd (omega (arith, formed line (Setup (Register kind key)) a, formed line (Round n) b))
-one_reading line (Setup (Register kind key)) (CallOf c) a b = absurd (omega (arith, formed line (Setup (Register kind key)) a, formed line (CallOf c) b))
-one_reading line (CallOf c) (Global l) a b = absurd (omega (arith, formed line (CallOf c) a, formed line (Global l) b))
-one_reading line (CallOf c) (Round n) a b = absurd (omega (arith, formed line (CallOf c) a, formed line (Round n) b))
-one_reading line (CallOf c) (Setup (Register kind key)) a b = absurd (omega (arith, formed line (CallOf c) a, formed line (Setup (Register kind key)) b))
+one_reading line s t a b = same_Some s t (sym (read_in_form line s a) ∙ read_in_form line t b)

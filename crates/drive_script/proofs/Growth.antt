@@ -1,5 +1,5 @@
 -- The lines of a valid script and one more: they are a valid script just where that line is the script's next.
-use Rattle.std.proofs.Common.{◌≡◌, ℕ, zero, suc, ◌+◌, ◌-◌, ◌<◌, ◌≤◌, ◌⊎◌, List, [], ◌∷◌, ◌++◌, map, length, get_or, take, refl, sym, ap, subst, ◌∙◌, arith, inl, inr, lit≤}
+use Rattle.std.proofs.Common.{◌≡◌, ℕ, zero, suc, ◌+◌, ◌-◌, ◌<◌, ◌≤◌, List, [], ◌∷◌, ◌++◌, map, length, get_or, take, refl, sym, ap, subst, ◌∙◌, arith, inl, inr, lit≤}
 use Rattle.std.specs.Prelude.{All, AllPairs, IfSome, flat_map, filter_map, sum_by}
 use Rattle.std.specs.List.{AllZip, AllByRecursion}
 use Rattle.std.specs.List.Sorted.{IsNonDecreasingBy}
@@ -9,13 +9,14 @@ use Rattle.std.proofs.lemmas.List.Elements.{All-nil, All-push, All-take, All-get
 use Rattle.std.proofs.lemmas.List.Quantifiers.{all_pairs_push}
 use Rattle.std.proofs.lemmas.List.Sorted.{IsNonDecreasingBy-push, IsNonDecreasingBy-short}
 use Rattle.std.proofs.lemmas.List.Sums.{sum_by-cons}
-use Rattle.metrics_core.specs.Keys.{LabelText, KeyText}
+use Rattle.metrics_core.specs.Keys.{KeyText}
 use Rattle.metrics_core.proofs.Lists.{both_parts, AllZip-push}
 use Rattle.metrics_core.specs.declared.kinds.MetricKind.{MetricKind}
-use Rattle.drive_script.specs.Script.{ScriptText, RoundText, SetupLine, Register, Describe, Act, Inc, Abs, Add, Sub, Set, Rec, RecN, CallLine, ScriptLine, Global, Round, Setup, CallOf, IsLine, IsScript, AreActWords, header_lines, round_lines, only_globals, global_labels, SettingsText}
+use Rattle.drive_script.specs.Script.{ScriptText, RoundText, SetupLine, Register, Describe, Act, Inc, Abs, Add, Sub, Set, Rec, RecN, CallLine, HeaderLine, ScriptLine, Header, Round, Setup, CallOf, IsLine, IsScript, AreActWords, sayable, header_lines, round_lines, only_globals, global_labels, SettingsText}
 use Rattle.drive_script.specs.Valid.{Registration, registration_of, registered_in, registered, HasHandle, HaveHandles, sample_count, PrintApart, IsValid, AreValidLines}
-use Rattle.drive_script.specs.Growth.{AddsGlobal, BeginsRound, SetsUp, AddsCall, IsNext}
+use Rattle.drive_script.specs.Growth.{AddsHeader, BeginsRound, SetsUp, AddsCall, IsNext}
 use Rattle.drive_script.proofs.Forms.{one_reading}
+use Rattle.drive_script.proofs.HeaderGrowth.{last_of, header_behind, with_header_sayable, HeaderLast, no_header, last_one, header_last, before_sayable, no_header_said}
 
 -- the lines are this valid script
 abbrev pub Valid : List (List ℕ) → ScriptText → Type 0
@@ -36,15 +37,6 @@ zip_last R [] [] x y h = (tt, h.0)
 zip_last R [] (b ∷ ys) x y h = absurd (zip_none R ys y h.1)
 zip_last R (a ∷ xs) [] x y h = absurd (zip_no_more R xs x h.1)
 zip_last R (a ∷ xs) (b ∷ ys) x y h = let rest = zip_last R xs ys x y h.1 in ((h.0, rest.0), rest.1)
-
--- a list is empty, or has a last element
-pub last_of : {A : Type 0} (xs : List A) → (xs ≡ []) ⊎ ((ys : List A) × (y : A) × (xs ≡ ys ++ y ∷ []))
-last_of [] = inl refl
-last_of (x ∷ xs) =
-    elim (last_of xs) [
-      | inl e ↦ inr ([], x, ap (λ l. x ∷ l) e)
-      | inr (ys, y, e) ↦ inr (x ∷ ys, y, ap (λ l. x ∷ l) e)
-    ]
 
 -- ---- the lines and the register lines of rounds
 
@@ -68,20 +60,23 @@ said_grown before old new says e = lines_push before new ∙ ap (λ l. lines_sai
 
 -- all lines of a script
 abbrev script_lines : ScriptText → List ScriptLine
-script_lines s = header_lines s.settings ++ lines_said s.rounds
+script_lines s = map Header (header_lines s.settings) ++ lines_said s.rounds
 
--- what the next line adds, where that is no global line
+-- what the next line adds, where that is no header line
 rounds_next : (old new : ScriptText) (says : ScriptLine) → new.settings ≡ old.settings → lines_said new.rounds ≡ lines_said old.rounds ++ says ∷ [] → script_lines new ≡ script_lines old ++ says ∷ []
-rounds_next old new says settings e = (λ j. header_lines (settings j) ++ e j) ∙ sym (append_assoc (header_lines old.settings) (lines_said old.rounds) (says ∷ []))
+rounds_next old new says settings e = (λ j. map Header (header_lines (settings j)) ++ e j) ∙ sym (append_assoc (map Header (header_lines old.settings)) (lines_said old.rounds) (says ∷ []))
 
 -- what the next line adds
 next_said : (old new : ScriptText) (says : ScriptLine) → IsNext old says new → script_lines new ≡ script_lines old ++ says ∷ []
-next_said old new (Global label) h =
-    let globals = old.settings.globals in
+next_said old new (Header line) h =
+    let lines = header_lines old.settings in
     ap script_lines h.grown
-    ∙ ap (λ rs. map Global (globals ++ label ∷ []) ++ lines_said rs) h.no_round
-    ∙ append-nil (map Global (globals ++ label ∷ [])) ∙ map_push Global globals label
-    ∙ ap (λ l. l ++ Global label ∷ []) (sym (append-nil (map Global globals)) ∙ ap (λ rs. map Global globals ++ lines_said rs) (sym h.no_round))
+    ∙ (λ j. map Header (header_behind old.settings line h.order j) ++ lines_said (h.no_round j))
+    ∙ append_nil_map (lines ++ line ∷ []) ∙ map_push Header lines line
+    ∙ ap (λ l. l ++ Header line ∷ []) (sym (append_nil_map lines) ∙ ap (λ rs. map Header lines ++ lines_said rs) (sym h.no_round))
+  where
+    append_nil_map : (lines : List HeaderLine) → map Header lines ++ lines_said [] ≡ map Header lines
+    append_nil_map lines = append-nil (map Header lines)
 next_said old new (Round moment) h =
     rounds_next old new (Round moment) (ap (λ (s : ScriptText). s.settings) h.grown) (ap (λ (s : ScriptText). lines_said s.rounds) h.grown ∙ lines_push old.rounds (record { moment = moment; setup = []; calls = [] }))
 next_said old new (Setup setup) h =
@@ -111,7 +106,7 @@ IsPlain (CallOf call) = sample_count call.act ≡ 0
 IsPlain _ = Unit {0}
 
 line_plain : (line : List ℕ) (says : ScriptLine) → IsLine line says → IsPlain says
-line_plain line (Global label) h = tt
+line_plain line (Header header) h = tt
 line_plain line (Round moment) h = tt
 line_plain line (Setup setup) h = tt
 line_plain line (CallOf call) h = act_plain h.formed.0 call.handle call.act h.formed.1
@@ -139,7 +134,7 @@ plain_rounds (r ∷ rounds) h =
     sum_by-cons samples_of r rounds ∙ omega (arith, rest)
 
 script_plain : (lines : List (List ℕ)) (script : ScriptText) → IsScript lines script → sum_by samples_of script.rounds ≡ 0
-script_plain lines script h = plain_rounds script.rounds (both_parts IsPlain (header_lines script.settings) (lines_said script.rounds) (lines_plain lines (script_lines script) h.each)).1
+script_plain lines script h = plain_rounds script.rounds (both_parts IsPlain (map Header (header_lines script.settings)) (lines_said script.rounds) (lines_plain lines (script_lines script) h.each)).1
 
 -- ---- lists of pairs and of moments, with the last element apart
 
@@ -244,21 +239,20 @@ round_registered old new moment h = ap (λ (s : ScriptText). registered s) h.gro
 
 -- ---- one more line
 
--- the settings but for global labels are those of a script without header lines
-next_settings : (old new : ScriptText) (says : ScriptLine) → IsNext old says new → old.settings ≡ only_globals old.settings.globals → new.settings ≡ only_globals new.settings.globals
-next_settings old new (Global label) h plain =
-    let given : new.settings ≡ only_globals (old.settings.globals ++ label ∷ []) = ap (λ (s : ScriptText). s.settings) h.grown ∙ ap (λ (s : SettingsText). record s { globals = old.settings.globals ++ label ∷ [] }) plain in
-    given ∙ ap only_globals (sym (ap (λ (s : SettingsText). s.globals) given))
-next_settings old new (Round moment) h plain = subst (λ (s : SettingsText). s ≡ only_globals s.globals) (sym (ap (λ (s : ScriptText). s.settings) h.grown)) plain
-next_settings old new (Setup setup) h plain = subst (λ (s : SettingsText). s ≡ only_globals s.globals) (sym (ap (λ (s : ScriptText). s.settings) h.grown)) plain
-next_settings old new (CallOf call) h plain = subst (λ (s : SettingsText). s ≡ only_globals s.globals) (sym (ap (λ (s : ScriptText). s.settings) h.grown)) plain
+-- the settings without header lines are as they were
+next_settings : (old new : ScriptText) (says : ScriptLine) → IsNext old says new → old.settings ≡ sayable old.settings → new.settings ≡ sayable new.settings
+next_settings old new (Header line) h plain =
+    subst (λ (s : SettingsText). s ≡ sayable s) (sym (ap (λ (s : ScriptText). s.settings) h.grown)) (with_header_sayable old.settings line plain)
+next_settings old new (Round moment) h plain = subst (λ (s : SettingsText). s ≡ sayable s) (sym (ap (λ (s : ScriptText). s.settings) h.grown)) plain
+next_settings old new (Setup setup) h plain = subst (λ (s : SettingsText). s ≡ sayable s) (sym (ap (λ (s : ScriptText). s.settings) h.grown)) plain
+next_settings old new (CallOf call) h plain = subst (λ (s : SettingsText). s ≡ sayable s) (sym (ap (λ (s : ScriptText). s.settings) h.grown)) plain
 
 same_length : {A : Type 0} (xs : List A) (x y : A) → length (xs ++ x ∷ []) ≡ length (xs ++ y ∷ [])
 same_length xs x y = length_push xs x ∙ sym (length_push xs y)
 
 -- without rounds there are no moments, handles and registrations to speak of
-new_no_rounds : (old new : ScriptText) (label : LabelText) → AddsGlobal old label new → new.rounds ≡ []
-new_no_rounds old new label h = ap (λ (s : ScriptText). s.rounds) h.grown ∙ h.no_round
+new_no_rounds : (old new : ScriptText) (line : HeaderLine) → AddsHeader old line new → new.rounds ≡ []
+new_no_rounds old new line h = ap (λ (s : ScriptText). s.rounds) h.grown ∙ h.no_round
 
 no_moments : (rounds : List RoundText) → rounds ≡ [] → Sorted rounds
 no_moments rounds none = IsNonDecreasingBy-short (λ (r : RoundText). r.moment) rounds (omega (arith, ap length none))
@@ -267,13 +261,13 @@ no_pairs : (R : Registration → Registration → Type 0) (rs : List Registratio
 no_pairs R rs none = λ i j d before within. absurd (omega (arith, within, ap length none))
 
 next_moments : (old new : ScriptText) (says : ScriptLine) → IsNext old says new → Sorted old.rounds → Sorted new.rounds
-next_moments old new (Global label) h sorted = no_moments new.rounds (new_no_rounds old new label h)
+next_moments old new (Header line) h sorted = no_moments new.rounds (new_no_rounds old new line h)
 next_moments old new (Round moment) h sorted = subst (λ (s : ScriptText). Sorted s.rounds) (sym h.grown) (sorted_push old.rounds (record { moment = moment; setup = []; calls = [] }) sorted h.not_before)
 next_moments old new (Setup setup) h sorted = subst (λ (s : ScriptText). Sorted s.rounds) (sym h.grown) (sorted_same h.before h.round (record h.round { setup = h.round.setup ++ setup ∷ [] }) refl (subst Sorted h.last sorted))
 next_moments old new (CallOf call) h sorted = subst (λ (s : ScriptText). Sorted s.rounds) (sym h.grown) (sorted_same h.before h.round (record h.round { calls = h.round.calls ++ call ∷ [] }) refl (subst Sorted h.last sorted))
 
 next_registrations : (old new : ScriptText) (says : ScriptLine) → IsNext old says new → length (registered old) ≤ 1000000 → length (registered new) ≤ 1000000
-next_registrations old new (Global label) h few = let e : length (registered new) ≡ 0 = ap (λ rs. length (flat_map registered_in rs)) (new_no_rounds old new label h) in omega arith
+next_registrations old new (Header line) h few = let e : length (registered new) ≡ 0 = ap (λ rs. length (flat_map registered_in rs)) (new_no_rounds old new line h) in omega arith
 next_registrations old new (Round moment) h few = omega (arith, few, ap length (round_registered old new moment h))
 next_registrations old new (Setup setup) h few = h.room
 next_registrations old new (CallOf call) h few =
@@ -286,7 +280,7 @@ same_apart : (old new : ScriptText) → new.settings ≡ old.settings → regist
 same_apart old new settings same apart = subst (λ (s : SettingsText). AllPairs (PrintApart (global_labels s)) (registered new)) (sym settings) (subst (Apart old) (sym same) apart)
 
 next_heads : (old new : ScriptText) (says : ScriptLine) → IsNext old says new → Apart old (registered old) → Apart new (registered new)
-next_heads old new (Global label) h apart = no_pairs (PrintApart (global_labels new.settings)) (registered new) (ap (flat_map registered_in) (new_no_rounds old new label h))
+next_heads old new (Header line) h apart = no_pairs (PrintApart (global_labels new.settings)) (registered new) (ap (flat_map registered_in) (new_no_rounds old new line h))
 next_heads old new (Round moment) h apart = same_apart old new (ap (λ (s : ScriptText). s.settings) h.grown) (round_registered old new moment h) apart
 next_heads old new (Setup (Describe kind name unit text)) h apart =
     same_apart old new (ap (λ (s : ScriptText). s.settings) h.grown) (setup_registered old new (Describe kind name unit text) h ∙ append-nil (registered old)) apart
@@ -296,7 +290,7 @@ next_heads old new (Setup (Register kind key)) h apart =
 next_heads old new (CallOf call) h apart = same_apart old new (ap (λ (s : ScriptText). s.settings) h.grown) (none_registered old new call h) apart
 
 next_handles : (old new : ScriptText) (says : ScriptLine) → IsNext old says new → HaveHandles [] old.rounds → HaveHandles [] new.rounds
-next_handles old new (Global label) h handles = subst (HaveHandles []) (sym (new_no_rounds old new label h)) tt
+next_handles old new (Header line) h handles = subst (HaveHandles []) (sym (new_no_rounds old new line h)) tt
 next_handles old new (Round moment) h handles =
     let round : RoundText = record { moment = moment; setup = []; calls = [] } in
     subst (λ (s : ScriptText). HaveHandles [] s.rounds) (sym h.grown) (handles_push [] old.rounds round handles (All-nil (HasHandle (flat_map registered_in (old.rounds ++ round ∷ [])))))
@@ -341,7 +335,7 @@ pub record Last (lines : List (List ℕ)) (line : List ℕ) (new : ScriptText) :
 
 -- what is valid of a script beside its samples
 record Fine (s : ScriptText) : Type 0 where
-  settings : s.settings ≡ only_globals s.settings.globals
+  settings : s.settings ≡ sayable s.settings
   moments : Sorted s.rounds
   handles : HaveHandles [] s.rounds
   registrations : length (registered s) ≤ 1000000
@@ -440,26 +434,27 @@ module _ (lines : List (List ℕ)) (line : List ℕ) (new : ScriptText) (h : Val
         | inl g ↦ elim (last_of round.setup) [ inr (setup, last, f) ↦ last_setup setup last g f | inl f ↦ last_round g f ]
       ]
 
--- without rounds the last line is a global line
-last_global : (lines : List (List ℕ)) (line : List ℕ) (new : ScriptText) → Valid (lines ++ line ∷ []) new → new.rounds ≡ [] → Last lines line new
-last_global lines line new h none =
-    elim (last_of new.settings.globals) [
-      | inl no_global ↦ absurd (zip_no_more IsLine lines line (subst (AllZip IsLine (lines ++ line ∷ [])) (λ j. map Global (no_global j) ++ lines_said (none j)) h.0.each))
-      | inr (globals, label, f) ↦
-          let old : ScriptText = record { settings = only_globals globals; rounds = [] } in
-          let settings : new.settings ≡ only_globals (globals ++ label ∷ []) = h.0.settings ∙ ap only_globals f in
-          let next : AddsGlobal old label new = record { no_round = refl; grown = λ j. record { settings = settings j; rounds = none j } } in
-          make_last lines line new old (Global label) h next (record { settings = refl; moments = no_moments [] refl; handles = tt; registrations = lit≤ tt; heads = no_pairs (PrintApart (global_labels old.settings)) [] refl })
-    ]
+-- without rounds the last line is a header line
+last_header : (lines : List (List ℕ)) (line : List ℕ) (new : ScriptText) → Valid (lines ++ line ∷ []) new → new.rounds ≡ [] → Last lines line new
+last_header lines line new h none = by (header_last new.settings)
+  where
+    by : HeaderLast new.settings → Last lines line new
+    by (no_header e) = absurd (zip_no_more IsLine lines line (subst (AllZip IsLine (lines ++ line ∷ [])) (λ j. map Header (e j) ++ lines_said (none j)) h.0.each))
+    by (last_one before says order grown) =
+        let old : ScriptText = record { settings = before; rounds = [] } in
+        let next : AddsHeader old says new = record { no_round = refl; order = order; grown = λ j. record { settings = grown j; rounds = none j } } in
+        let plain : before ≡ sayable before = before_sayable before says (subst (λ (s : SettingsText). s ≡ sayable s) grown h.0.settings) in
+        make_last lines line new old (Header says) h next
+        (record { settings = plain; moments = no_moments [] refl; handles = tt; registrations = lit≤ tt; heads = no_pairs (PrintApart (global_labels before)) [] refl })
 
 pub last_line : (lines : List (List ℕ)) (line : List ℕ) (new : ScriptText) → Valid (lines ++ line ∷ []) new → Last lines line new
 last_line lines line new h =
-    elim (last_of new.rounds) [ inl e ↦ last_global lines line new h e | inr (before, round, e) ↦ last_of_round lines line new h before round e ]
+    elim (last_of new.rounds) [ inl e ↦ last_header lines line new h e | inr (before, round, e) ↦ last_of_round lines line new h before round e ]
 
 -- ---- lines are one script at most
 
 next_one : (old : ScriptText) (says : ScriptLine) (new other : ScriptText) → IsNext old says new → IsNext old says other → new ≡ other
-next_one old (Global label) new other a b = a.grown ∙ sym b.grown
+next_one old (Header line) new other a b = a.grown ∙ sym b.grown
 next_one old (Round moment) new other a b = a.grown ∙ sym b.grown
 next_one old (Setup setup) new other a b =
     let same = same_from_push a.before b.before a.round b.round (sym a.last ∙ b.last) in
@@ -472,14 +467,14 @@ no_rounds : (rounds : List RoundText) → AllZip IsLine [] (lines_said rounds) �
 no_rounds [] h = refl
 no_rounds (r ∷ rounds) h = absurd h
 
-no_globals : (globals : List LabelText) (says : List ScriptLine) → AllZip IsLine [] (map Global globals ++ says) → (globals ≡ []) × AllZip IsLine [] says
-no_globals [] says h = (refl, h)
-no_globals (l ∷ globals) says h = absurd h
-
 no_lines : (script : ScriptText) → IsScript [] script → script ≡ record { settings = only_globals []; rounds = [] }
 no_lines script h =
-    let none = no_globals script.settings.globals (lines_said script.rounds) h.each in
-    (λ j. record { settings = (h.settings ∙ ap only_globals none.0) j; rounds = no_rounds script.rounds none.1 j })
+    let none = zip_nothing (map Header (header_lines script.settings)) (lines_said script.rounds) h.each in
+    (λ j. record { settings = (h.settings ∙ no_header_said script.settings none.0) j; rounds = no_rounds script.rounds none.1 j })
+  where
+    zip_nothing : (says others : List ScriptLine) → AllZip IsLine [] (says ++ others) → (says ≡ []) × AllZip IsLine [] others
+    zip_nothing [] others h = (refl, h)
+    zip_nothing (s ∷ says) others h = absurd h
 
 one_script_of : (n : ℕ) (lines : List (List ℕ)) (s t : ScriptText) → length lines ≡ n → Valid lines s → Valid lines t → s ≡ t
 one_script_of zero lines s t len a b =

@@ -1,10 +1,14 @@
 pub mod Fields
 pub mod Readers
+pub mod Spaced
 pub mod Decimals
+pub mod Masks
 pub mod TextFields
+pub mod HeaderForms
 pub mod Forms
 pub mod Loops
 pub mod HeadSteps
+pub mod HeaderGrowth
 pub mod Growth
 pub mod Laws
 pub mod Pieces

@@ -1,29 +1,21 @@
--- Characters and labels are read one after another: what was read so far, and what the rest is read as.
+-- Characters are read one after another: what was read so far, and what the rest is read as.
 use Rattle.std.proofs.Common.{◌≡◌, ℕ, zero, suc, ◌+◌, ◌-◌, ◌<◌, ◌≤◌, Bool, true, false, cond, not, ◌==◌, ◌≢◌, List, [], ◌∷◌, ◌++◌, length, get_or, take, drop, Option, Some, None, refl, sym, ap, subst, ◌∙◌, append_assoc, arith}
 use Rattle.std.specs.Prelude.{codes, ◌||◌, if◌then◌else◌}
 use Rattle.std.proofs.Math.Numerals.{one-add}
 use Rattle.std.proofs.lemmas.Bool.Decides.{nat_tests}
-use Rattle.std.proofs.lemmas.List.{append-nil, length-append, length-drop}
+use Rattle.std.proofs.lemmas.List.{append-nil, length-drop}
 use Rattle.std.proofs.lemmas.Option.{some_pair_parts}
 use Rattle.std.proofs.lemmas.Slice.{first_rest}
 use Rattle.metrics_core.specs.Characters.{quote, backslash, newline}
 use Rattle.metrics_core.specs.Keys.{LabelText}
 use Rattle.metrics_core.specs.declared.kinds.MetricKind.{MetricKind}
-use Rattle.drive_script.specs.Reading.{◌>>=◌, after, escaped_by, escape_at, character_at, some_characters_at, characters_at, label_at, some_labels_at, labels_at, and_then, run_length, behind, text_of, text_behind, text_at, registered_kind_at, register_at}
+use Rattle.drive_script.specs.Reading.{◌>>=◌, escaped_by, escape_at, character_at, some_characters_at, characters_at, each_at, fixed_at, values_at, label_at, labels_at, and_then, run_length, behind, text_of, text_behind, text_at, registered_kind_at, register_at}
 use Rattle.drive_script.proofs.Fields.{bind_some, behind_takes}
-use Rattle.drive_script.proofs.TextFields.{spaced_label_reads}
+use Rattle.drive_script.proofs.Spaced.{nothing_before, one_more, all_read}
 
 -- what was read, and the bytes behind it
 abbrev before_rest : {A : Type 0} → List A → List ℕ → Option (List A × List ℕ)
 before_rest read rest = Some (read, rest)
-
-pub nothing_before : {A : Type 0} (o : Option (List A × List ℕ)) → o ≡ and_then [] o
-nothing_before None = refl
-nothing_before (Some others) = refl
-
-one_more : {A : Type 0} (done : List A) (a : A) (o : Option (List A × List ℕ)) → and_then done (o >>= λ others. Some (a ∷ others.0, others.1)) ≡ and_then (done ++ a ∷ []) o
-one_more done a None = refl
-one_more done a (Some others) = ap (λ l. before_rest l others.1) (sym (append_assoc done (a ∷ []) others.0))
 
 -- the first of some bytes, and the others
 pub split_first : (bytes : List ℕ) → 0 < length bytes → bytes ≡ get_or bytes 0 0 ∷ take (length bytes - 1) (drop 1 bytes)
@@ -162,63 +154,19 @@ next_run whole text rest c others d left split other found h = behind_run (next_
           all = h.all ∙ ap (and_then (text ++ d ∷ [])) front.2 ∙ and_then_twice (text ++ d ∷ []) (take (run_length left) left) (some_characters_at front.0 (drop (run_length left) left));
         }
 
--- ---- labels
+-- ---- labels and values
 
-pub record LabelsLeft (start : List ℕ) (labels : List LabelText) (rest : List ℕ) : Type 0 where
-  most : ℕ
-  enough : length rest ≤ most
-  all : labels_at start ≡ and_then labels (some_labels_at most rest)
-
-pub labels_begin : (start : List ℕ) → LabelsLeft start [] start
+-- labels are each thing that is read to the end
+pub labels_each : (bytes : List ℕ) → labels_at bytes ≡ each_at label_at bytes
 unfolding labels_at
-labels_begin start = record { most = length start; enough = omega arith; all = nothing_before (some_labels_at (length start) start) }
+labels_each bytes = refl
 
-pub spaced_label_shorter : (rest : List ℕ) (label : LabelText) (left : List ℕ) → after (codes " ") label_at rest ≡ Some (label, left) → length left < length rest
-spaced_label_shorter rest label left found =
-    let h = spaced_label_reads.takes rest label left found in
-    let (word, spelled, front) = h.1 in
-    omega (arith, ap length h.2, length-append h.0 left, ap length front)
+pub values_each : (bytes : List ℕ) → values_at bytes ≡ each_at fixed_at bytes
+unfolding values_at
+values_each bytes = refl
 
-pub labels_end : (start : List ℕ) (labels : List LabelText) (rest : List ℕ) → rest ≡ [] → LabelsLeft start labels rest → labels_at start ≡ Some (labels, rest)
-labels_end start labels rest none h = h.all ∙ ap (λ l. and_then labels (some_labels_at h.most l)) none ∙ by h.most ∙ ap (λ l. before_rest labels l) (sym none)
-  where
-    by : (most : ℕ) → and_then labels (some_labels_at most []) ≡ Some (labels, [])
-    by zero = ap (λ l. before_rest l []) (append-nil labels)
-    by (suc most) = ap (λ l. before_rest l []) (append-nil labels)
-
-pub bad_label : (start : List ℕ) (labels : List LabelText) (rest : List ℕ) → 0 < length rest → after (codes " ") label_at rest ≡ None → LabelsLeft start labels rest → labels_at start ≡ None
-bad_label start labels rest some none h = by h.most rest some h.enough none h.all
-  where
-    by : (most : ℕ) (rest : List ℕ) → 0 < length rest → length rest ≤ most → after (codes " ") label_at rest ≡ None → labels_at start ≡ and_then labels (some_labels_at most rest) → labels_at start ≡ None
-    by most [] some few none e = absurd (omega (arith, some))
-    by zero (b ∷ rest) some few none e = absurd (omega (arith, few))
-    by (suc most) (b ∷ rest) some few none e = e ∙ rw none refl
-
-pub next_label : (start : List ℕ) (labels : List LabelText) (rest : List ℕ) (label : LabelText) (left : List ℕ) → 0 < length rest → after (codes " ") label_at rest ≡ Some (label, left) → LabelsLeft start labels rest → LabelsLeft start (labels ++ label ∷ []) left
-next_label start labels rest label left some found h = by h.most rest some h.enough found h.all
-  where
-    by : (most : ℕ) (rest : List ℕ) → 0 < length rest → length rest ≤ most → after (codes " ") label_at rest ≡ Some (label, left) → labels_at start ≡ and_then labels (some_labels_at most rest) → LabelsLeft start (labels ++ label ∷ []) left
-    by most [] some few found e = absurd (omega (arith, some))
-    by zero (b ∷ rest) some few found e = absurd (omega (arith, few))
-    by (suc most) (b ∷ rest) some few found e = record {
-      most = most;
-      enough = omega (arith, few, spaced_label_shorter (b ∷ rest) label left found);
-      all = e ∙ rw found (one_more labels label (some_labels_at most left));
-    }
-
--- labels are read to the end
-labels_to_end : (most : ℕ) (bytes : List ℕ) (labels : List LabelText) (rest : List ℕ) → some_labels_at most bytes ≡ Some (labels, rest) → rest ≡ []
-labels_to_end zero [] labels rest e = sym (some_pair_parts [] labels [] rest e).1
-labels_to_end (suc most) [] labels rest e = sym (some_pair_parts [] labels [] rest e).1
-labels_to_end zero (b ∷ bytes) labels rest e = absurd cc
-labels_to_end (suc most) (b ∷ bytes) labels rest e =
-    let m = bind_some (after (codes " ") label_at (b ∷ bytes)) (λ label. some_labels_at most label.1 >>= λ others. Some (label.0 ∷ others.0, others.1)) (labels, rest) e in
-    let k = bind_some (some_labels_at most m.0.1) (λ others. Some (m.0.0 ∷ others.0, others.1)) (labels, rest) m.2 in
-    sym (some_pair_parts (m.0.0 ∷ k.0.0) labels k.0.1 rest k.2).1 ∙ labels_to_end most m.0.1 k.0.0 k.0.1 k.1
-
-pub all_labels_read : (bytes : List ℕ) (labels : List LabelText) (rest : List ℕ) → labels_at bytes ≡ Some (labels, rest) → rest ≡ []
-unfolding labels_at
-all_labels_read bytes labels rest e = labels_to_end (length bytes) bytes labels rest e
+all_labels_read : (bytes : List ℕ) (labels : List LabelText) (rest : List ℕ) → labels_at bytes ≡ Some (labels, rest) → rest ≡ []
+all_labels_read bytes labels rest e = all_read label_at bytes labels rest (sym (labels_each bytes) ∙ e)
 
 pub registered_read : (line behind_kind behind_name rest : List ℕ) (kind : MetricKind) (name : List ℕ) (labels : List LabelText) → registered_kind_at line ≡ Some (kind, behind_kind) → text_at behind_kind ≡ Some (name, behind_name) → labels_at behind_name ≡ Some (labels, rest)
     → register_at line ≡ Some (kind, (name, labels))

@@ -7,7 +7,7 @@ use Rattle.std.specs.declared.alloc.Global.{Global}
 use Rattle.std.specs.String.{string_vec}
 use Rattle.std.specs.Str.{is_utf8}
 use Rattle.std.proofs.lemmas.Bool.{eqb-true}
-use Rattle.std.proofs.lemmas.List.{append-nil, length-append}
+use Rattle.std.proofs.lemmas.List.{length-append}
 use Rattle.std.proofs.lemmas.List.Elements.{All-nil, All-cons, All-head, All-tail}
 use Rattle.std.proofs.lemmas.Option.{cond_some, same_Some, some_pair_parts}
 use Rattle.std.proofs.lemmas.Str.{IsUtf8-from_is_utf8, is_utf8-from_IsUtf8, IsUtf8-string_bytes}
@@ -15,9 +15,10 @@ use Rattle.metrics_core.specs.Characters.{quote, backslash, newline}
 use Rattle.metrics_core.specs.Keys.{LabelText}
 use Rattle.prom_format.specs.Printed.{escaped_character, escaped_label_value}
 use Rattle.drive_script.specs.Words.{quoted, label_word, IsLabelUtf8}
-use Rattle.drive_script.specs.Reading.{◌>>=◌, both, seen, after, behind, escape_at, character_at, some_characters_at, characters_at, text_of, text_at, label_at, some_labels_at, labels_at}
+use Rattle.drive_script.specs.Reading.{◌>>=◌, both, seen, after, behind, each_at, escape_at, character_at, some_characters_at, characters_at, text_of, text_at, label_at, labels_at}
 use Rattle.drive_script.proofs.Fields.{bind_some, behind_takes}
 use Rattle.drive_script.proofs.Readers.{IsReader, Ends, Anywhere, SpellsBoth, SpellsSeen, SpellsAfter, both_reads, seen_reads, after_reads}
+use Rattle.drive_script.proofs.Spaced.{SpellsEach, each_reads}
 
 -- ---- characters
 
@@ -185,7 +186,7 @@ SpellsLabel label front = IsLabelUtf8 label × (front ≡ label_word label)
 word_split : (label : LabelText) → label_word label ≡ quoted label.key ++ (codes "=" ++ quoted label.value)
 word_split label = append_assoc (quoted label.key) (codes "=") (quoted label.value)
 
-label_reads : IsReader label_at SpellsLabel Anywhere
+pub label_reads : IsReader label_at SpellsLabel Anywhere
 unfolding label_at
 label_reads = record { takes = takes; again = again }
   where
@@ -205,53 +206,26 @@ spaced_labels labels = flat_map (λ label. codes " " ++ label_word label) labels
 abbrev pub SpellsLabels : List LabelText → List ℕ → Type 0
 SpellsLabels labels front = All IsLabelUtf8 labels × (front ≡ spaced_labels labels)
 
-pub spaced_label_reads : IsReader (after (codes " ") label_at) (SpellsAfter (codes " ") SpellsLabel) Anywhere
-spaced_label_reads = after_reads (codes " ") label_at SpellsLabel Anywhere label_reads
+spelled_labels : (labels : List LabelText) (front : List ℕ) → SpellsEach SpellsLabel labels front → SpellsLabels labels front
+spelled_labels [] front h = (All-nil IsLabelUtf8, h)
+spelled_labels (label ∷ labels) front (word, others, spelled, more, split) =
+    let rest = spelled_labels labels others more in
+    (All-cons IsLabelUtf8 label labels spelled.0 rest.0, split ∙ (λ j. codes " " ++ (spelled.1 j ++ rest.1 j)))
 
-no_labels_taken : (labels : List LabelText) (rest : List ℕ) → ◌≡◌ {A = Option (List LabelText × List ℕ)} (Some ([], [])) (Some (labels, rest)) → (front : List ℕ) × SpellsLabels labels front × ([] ≡ front ++ rest)
-no_labels_taken labels rest e =
-    let same = some_pair_parts [] labels [] rest e in
-    ([], (subst (All IsLabelUtf8) same.0 (All-nil IsLabelUtf8), ap spaced_labels same.0), same.1)
+labels_spelled : (labels : List LabelText) (front : List ℕ) → SpellsLabels labels front → SpellsEach SpellsLabel labels front
+labels_spelled [] front h = h.1
+labels_spelled (label ∷ labels) front h =
+    (label_word label, spaced_labels labels, (All-head IsLabelUtf8 label labels h.0, refl), labels_spelled labels (spaced_labels labels) (All-tail IsLabelUtf8 label labels h.0, refl), h.1)
 
--- one label before others
-label_before : (bytes : List ℕ) (label : LabelText) (labels : List LabelText) (middle rest : List ℕ) → (front : List ℕ) × SpellsAfter (codes " ") SpellsLabel label front × (bytes ≡ front ++ middle) → (front : List ℕ) × SpellsLabels labels front × (middle ≡ front ++ rest) → (front : List ℕ) × SpellsLabels (label ∷ labels) front × (bytes ≡ front ++ rest)
-label_before bytes label labels middle rest first others =
-    let (word, spelled, behind_space) = first.1 in
-    let front_is : first.0 ≡ codes " " ++ label_word label = behind_space ∙ ap (λ l. codes " " ++ l) spelled.1 in
-    (first.0 ++ others.0, (All-cons IsLabelUtf8 label labels spelled.0 others.1.0, (λ j. front_is j ++ others.1.1 j)), first.2 ∙ ap (λ l. first.0 ++ l) others.2 ∙ sym (append_assoc first.0 others.0 rest))
-
-labels_take : (most : ℕ) (bytes : List ℕ) (labels : List LabelText) (rest : List ℕ) → some_labels_at most bytes ≡ Some (labels, rest) → (front : List ℕ) × SpellsLabels labels front × (bytes ≡ front ++ rest)
-labels_take zero [] labels rest e = no_labels_taken labels rest e
-labels_take (suc most) [] labels rest e = no_labels_taken labels rest e
-labels_take zero (b ∷ bytes) labels rest e = absurd cc
-labels_take (suc most) (b ∷ bytes) labels rest e =
-    let m = bind_some (after (codes " ") label_at (b ∷ bytes)) (λ label. some_labels_at most label.1 >>= λ others. Some (label.0 ∷ others.0, others.1)) (labels, rest) e in
-    let k = bind_some (some_labels_at most m.0.1) (λ others. Some (m.0.0 ∷ others.0, others.1)) (labels, rest) m.2 in
-    let same : ◌≡◌ {A = List LabelText × List ℕ} (m.0.0 ∷ k.0.0, k.0.1) (labels, rest) = same_Some (m.0.0 ∷ k.0.0, k.0.1) (labels, rest) k.2 in
-    subst (λ (p : List LabelText × List ℕ). (front : List ℕ) × SpellsLabels p.0 front × (b ∷ bytes ≡ front ++ p.1)) {x = (m.0.0 ∷ k.0.0, k.0.1)} {y = (labels, rest)} same
-    (label_before (b ∷ bytes) m.0.0 k.0.0 m.0.1 k.0.1 (spaced_label_reads.takes (b ∷ bytes) m.0.0 m.0.1 m.1) (labels_take most m.0.1 k.0.0 k.0.1 k.1))
-
-labels_again : (most : ℕ) (labels : List LabelText) → All IsLabelUtf8 labels → length (spaced_labels labels) ≤ most → some_labels_at most (spaced_labels labels) ≡ Some (labels, [])
-labels_again zero [] utf8 few = refl
-labels_again (suc most) [] utf8 few = refl
-labels_again zero (label ∷ labels) utf8 few = absurd (omega (arith, few, length-append (codes " " ++ label_word label) (spaced_labels labels)))
-labels_again (suc most) (label ∷ labels) utf8 few =
-    let shorter : length (spaced_labels labels) ≤ most = omega (arith, few, length-append (codes " " ++ label_word label) (spaced_labels labels)) in
-    let first = spaced_label_reads.again label (codes " " ++ label_word label) (spaced_labels labels) (label_word label, (All-head IsLabelUtf8 label labels utf8, refl), refl) tt in
-    ap (λ o. o >>= λ first. some_labels_at most first.1 >>= λ others. Some (first.0 ∷ others.0, others.1)) first
-    ∙ rw (labels_again most labels (All-tail IsLabelUtf8 label labels utf8) shorter) refl
+each_label_reads : IsReader (each_at label_at) (SpellsEach SpellsLabel) Ends
+each_label_reads = each_reads label_at SpellsLabel Anywhere label_reads (λ rest stop. tt)
 
 pub labels_read : IsReader labels_at SpellsLabels Ends
 unfolding labels_at
-labels_read = record { takes = takes; again = again }
-  where
-    takes : (bytes : List ℕ) (labels : List LabelText) (rest : List ℕ) → labels_at bytes ≡ Some (labels, rest) → (front : List ℕ) × SpellsLabels labels front × (bytes ≡ front ++ rest)
-    takes bytes labels rest e = labels_take (length bytes) bytes labels rest e
-
-    again : (labels : List LabelText) (front rest : List ℕ) → SpellsLabels labels front → Ends rest → labels_at (front ++ rest) ≡ Some (labels, rest)
-    again labels front rest h stop =
-        let all : front ++ rest ≡ spaced_labels labels = (λ j. h.1 j ++ stop j) ∙ append-nil (spaced_labels labels) in
-        ap labels_at all ∙ labels_again (length (spaced_labels labels)) labels h.0 (omega arith) ∙ ap (λ r. Some (labels, r)) (sym stop)
+labels_read = record {
+  takes = λ bytes labels rest e. let h = each_label_reads.takes bytes labels rest e in (h.0, spelled_labels labels h.0 h.1, h.2);
+  again = λ labels front rest h stop. each_label_reads.again labels front rest (labels_spelled labels front h) stop;
+}
 
 -- ---- what `from_utf8` says of characters
 

@@ -4,6 +4,7 @@ pub mod Reading
 pub mod Valid
 pub mod Heads
 pub mod Growth
+pub mod Settings
 pub mod Faults
 pub mod Texts
 pub mod Vectors

@@ -7,12 +7,17 @@ use Rattle.std.specs.Str.{is_utf8}
 use Rattle.std.specs.Str.Parse.{digits_value}
 use Rattle.metrics_core.specs.Characters.{quote, backslash, newline}
 use Rattle.metrics_core.specs.Keys.{LabelText}
+use Rattle.metrics_core.specs.Kinds.{KindMask, mask_has}
 use Rattle.metrics_core.specs.Numbers.{one}
 use Rattle.metrics_core.specs.declared.kinds.MetricKind.{MetricKind}
 use Rattle.metrics_core.specs.declared.kinds.MetricKind.TheVariants as kinds
-use Rattle.drive_script.specs.Words.{signed, greatest}
+use Rattle.metrics_registry.specs.Masks.{only}
+use Rattle.prom_format.specs.Matchers.{MatcherText, Full, Prefix, Suffix}
+use Rattle.drive_script.specs.Words.{signed, greatest, with_kind}
 use Rattle.drive_script.specs.Script as text
-use Rattle.drive_script.specs.Script.{Act, CallLine, ScriptLine}
+use Rattle.drive_script.specs.Script.{Act, CallLine}
+use Rattle.drive_script.specs.declared.headers.MatcherForm.{MatcherForm}
+use Rattle.drive_script.specs.declared.headers.MatcherForm.TheVariants as forms
 use Rattle.drive_script.specs.declared.lines.Verb.{Verb}
 use Rattle.drive_script.specs.declared.lines.Verb.TheVariants as verbs
 
@@ -62,6 +67,16 @@ abbrev pub end_at : List ℕ → Option (Unit {0})
 end_at [] = Some tt
 end_at (b ∷ bytes) = None
 
+-- some things to the end, each behind a space; there are at most so many
+abbrev pub some_spaced_at : {A : Type 0} → Reader A → ℕ → Reader (List A)
+some_spaced_at read most [] = Some ([], [])
+some_spaced_at read zero (b ∷ bytes) = None
+some_spaced_at read (suc most) (b ∷ bytes) =
+    after (codes " ") read (b ∷ bytes) >>= λ first. some_spaced_at read most first.1 >>= λ others. Some (first.0 ∷ others.0, others.1)
+
+abbrev pub each_at : {A : Type 0} → Reader A → Reader (List A)
+each_at read bytes = some_spaced_at read (length bytes) bytes
+
 -- what is read to the end of a line
 abbrev pub whole : {A : Type 0} → Reader A → List ℕ → Option A
 whole read line = do
@@ -85,6 +100,12 @@ unfoldable pub number_at : ℕ → Reader ℕ
 number_at most bytes = do
   n ← number_of most (take (digit_count bytes) bytes)
   Some (n, drop (digit_count bytes) bytes)
+
+-- a number from 1 to `most`
+unfoldable pub positive_at : ℕ → Reader ℕ
+positive_at most bytes = do
+  n ← number_at most bytes
+  if nat_le 1 n.0 then Some n else None
 
 -- ---- decimals
 
@@ -121,6 +142,10 @@ sign_behind (Some rest) bytes = signed_at true rest
 -- a value
 unfoldable pub fixed_at : Reader ℤ
 fixed_at bytes = sign_behind (behind (codes "-") bytes) bytes
+
+-- values to the end, each behind a space
+unfoldable pub values_at : Reader (List ℤ)
+values_at = each_at fixed_at
 
 -- ---- texts
 
@@ -175,15 +200,52 @@ text_at bytes = after (codes "\"") characters_at bytes >>= text_of
 unfoldable pub label_at : Reader LabelText
 label_at = seen (λ texts. record { key = texts.0; value = texts.1 }) (both text_at (λ _. after (codes "=") text_at))
 
--- labels up to the end, each behind a space; there are at most so many
-abbrev pub some_labels_at : ℕ → Reader (List LabelText)
-some_labels_at most [] = Some ([], [])
-some_labels_at zero (b ∷ bytes) = None
-some_labels_at (suc most) (b ∷ bytes) =
-    after (codes " ") label_at (b ∷ bytes) >>= λ label. some_labels_at most label.1 >>= λ labels. Some (label.0 ∷ labels.0, labels.1)
-
+-- labels to the end, each behind a space
 unfoldable pub labels_at : Reader (List LabelText)
-labels_at bytes = some_labels_at (length bytes) bytes
+labels_at = each_at label_at
+
+-- ---- matchers
+
+unfoldable pub matcher_form_at : Reader MatcherForm
+matcher_form_at bytes =
+    standing (codes "full ") forms.Full bytes or standing (codes "prefix ") forms.Prefix bytes or standing (codes "suffix ") forms.Suffix bytes
+
+abbrev pub matcher_of : MatcherForm → List ℕ → MatcherText
+matcher_of forms.Full text = Full text
+matcher_of forms.Prefix text = Prefix text
+matcher_of forms.Suffix text = Suffix text
+
+-- a matcher
+unfoldable pub matcher_at : Reader MatcherText
+matcher_at = seen (λ parts. matcher_of parts.0 parts.1) (both matcher_form_at (λ _. text_at))
+
+-- ---- sets of kinds
+
+abbrev pub kind_of_letter : ℕ → Option MetricKind
+kind_of_letter c =
+    if c == 99 then Some kinds.Counter else if c == 103 then Some kinds.Gauge else if c == 104 then Some kinds.Histogram else None
+
+-- the kind of one letter
+abbrev pub kind_at : Reader MetricKind
+kind_at [] = None
+kind_at (c ∷ bytes) = kind_of_letter c >>= λ kind. Some (kind, bytes)
+
+-- what stands where there is none, or what is made of the one
+abbrev pub where_one : {A B : Type 0} → Option A → B → (A → B) → B
+where_one None other f = other
+where_one (Some x) other f = f x
+
+-- the kinds of all letters at the front, beside those of the set; none comes twice
+abbrev pub more_kinds_at : KindMask → Reader KindMask
+more_kinds_at mask [] = Some (mask, [])
+more_kinds_at mask (c ∷ bytes) =
+    where_one (kind_of_letter c) (Some (mask, c ∷ bytes)) (λ kind. if mask_has mask kind then None else more_kinds_at (with_kind mask kind) bytes)
+
+-- a set of kinds, by their letters
+unfoldable pub mask_at : Reader KindMask
+mask_at bytes = do
+  first ← kind_at bytes
+  more_kinds_at (only first.0) first.1
 
 -- ---- words
 
@@ -206,6 +268,26 @@ argument_at verbs.Sub = seen text.Sub fixed_at
 argument_at verbs.Set = seen text.Set fixed_at
 
 -- ---- the forms of line
+
+-- the values of a quantiles line
+unfoldable pub quantiles_at : List ℕ → Option (List ℤ)
+quantiles_at line = whole (after (codes "quantiles") values_at) line
+
+-- the values of a buckets line
+unfoldable pub buckets_at : List ℕ → Option (List ℤ)
+buckets_at line = whole (after (codes "buckets") values_at) line
+
+-- the matcher and the values of a buckets-for line
+unfoldable pub buckets_for_at : List ℕ → Option (MatcherText × List ℤ)
+buckets_for_at line = whole (after (codes "buckets-for ") (both matcher_at (λ _. values_at))) line
+
+-- the bucket count and the bucket duration of a summary line
+unfoldable pub summary_at : List ℕ → Option (ℕ × ℕ)
+summary_at line = whole (after (codes "summary ") (both (positive_at (2 ^ 32 - 1)) (λ _. after (codes " ") (number_at (2 ^ 64 - 1))))) line
+
+-- the kinds and the timeout of an idle line
+unfoldable pub idle_at : List ℕ → Option (KindMask × ℕ)
+idle_at line = whole (after (codes "idle ") (both mask_at (λ _. after (codes " ") (number_at (2 ^ 64 - 1))))) line
 
 -- a global line
 unfoldable pub global_at : List ℕ → Option LabelText

@@ -1,5 +1,5 @@
 -- The script grammar (this project's format): which lines are a script.
-use Rattle.std.specs.Prelude.{◌≡◌, ℕ, ◌^◌, ◌<◌, ◌==◌, Bool, false, List, [], ◌∷◌, ◌++◌, map, ℤ, Option, None, codes, decimal, flat_map}
+use Rattle.std.specs.Prelude.{◌≡◌, ℕ, ◌^◌, ◌<◌, ◌≤◌, ◌==◌, Bool, false, List, [], ◌∷◌, ◌++◌, map, ℤ, Option, None, option_map, option_to_list, codes, decimal, flat_map, IsUtf8}
 use Rattle.std.specs.List.{AllZip, slice_split}
 use Rattle.metrics_core.specs.declared.kinds.MetricKind.{MetricKind}
 use Rattle.metrics_core.specs.declared.kinds.MetricKind.TheVariants as kinds
@@ -9,8 +9,8 @@ use Rattle.metrics_core.specs.Kinds.{KindMask, kind_text}
 use Rattle.metrics_core.specs.Keys.{LabelText, KeyText, label_set}
 use Rattle.metrics_core.specs.Calls.{Call}
 use Rattle.metrics_core.specs.Calls as calls
-use Rattle.prom_format.specs.Matchers.{MatcherText}
-use Rattle.drive_script.specs.Words.{spaced, IsDec, quoted, label_word, IsLabelUtf8, IsKeyUtf8}
+use Rattle.prom_format.specs.Matchers.{MatcherText, matcher_bytes}
+use Rattle.drive_script.specs.Words.{spaced, IsDec, AreDecs, form_word, IsMask, quoted, label_word, IsLabelUtf8, IsKeyUtf8}
 
 -- ---- scripts
 
@@ -27,8 +27,8 @@ pub record SettingsText : Type 0 where
   pub buckets : Option (List ℤ)
   pub buckets_for : List (MatcherText × List ℤ)
   pub native_for : List NativeLine
-  pub summary : Option (ℕ × ℕ)  -- bucket count, bucket duration
-  pub idle : Option (KindMask × ℕ)
+  pub summary : Option (ℕ × ℕ)  -- bucket count, bucket duration in nanoseconds
+  pub idle : Option (KindMask × ℕ)  -- the kinds that fall idle, timeout in nanoseconds
   pub naming : Bool
   pub units : Bool
   pub globals : List LabelText
@@ -50,6 +50,19 @@ only_globals globals = record {
   naming = false;
   units = false;
   globals = globals;
+  dsd_limit = None;
+  dsd_aggressive = false;
+  dsd_prefix = None;
+  dsd_globals = [];
+  dsd_histograms = false;
+}
+
+-- the settings that there are header lines for; the others have none yet, and are as without
+abbrev pub sayable : SettingsText → SettingsText
+sayable settings = record settings {
+  native_for = [];
+  naming = false;
+  units = false;
   dsd_limit = None;
   dsd_aggressive = false;
   dsd_prefix = None;
@@ -95,9 +108,18 @@ pub record ScriptText : Type 0 where
 
 -- ---- lines
 
+-- what a header line says
+pub data HeaderLine : Type 0 where
+  Quantiles : List ℤ → HeaderLine
+  Buckets : List ℤ → HeaderLine
+  BucketsFor : MatcherText → List ℤ → HeaderLine
+  Summary : ℕ → ℕ → HeaderLine
+  Idle : KindMask → ℕ → HeaderLine
+  Global : LabelText → HeaderLine
+
 -- what one line says
 pub data ScriptLine : Type 0 where
-  Global : LabelText → ScriptLine
+  Header : HeaderLine → ScriptLine
   Round : ℕ → ScriptLine
   Setup : SetupLine → ScriptLine
   CallOf : CallLine → ScriptLine
@@ -106,6 +128,20 @@ pub data ScriptLine : Type 0 where
 abbrev pub IsRegistered : MetricKind → Type 0
 IsRegistered kinds.Histogram = ⊥
 IsRegistered _ = Unit {0}
+
+-- the words of a header line
+abbrev pub AreHeaderWords : List (List ℕ) → HeaderLine → Type 0
+AreHeaderWords words (Quantiles values) = (decs : List (List ℕ)) × AreDecs decs values × (words ≡ codes "quantiles" ∷ decs)
+AreHeaderWords words (Buckets values) = (decs : List (List ℕ)) × AreDecs decs values × (words ≡ codes "buckets" ∷ decs)
+AreHeaderWords words (BucketsFor matcher values) =
+    (decs : List (List ℕ)) × IsUtf8 (matcher_bytes matcher) × AreDecs decs values
+    × (words ≡ codes "buckets-for" ∷ form_word matcher ∷ quoted (matcher_bytes matcher) ∷ decs)
+AreHeaderWords words (Summary count duration) =
+    (1 ≤ count) × (count < 2 ^ 32) × (duration < 2 ^ 64) × (words ≡ codes "summary" ∷ decimal count ∷ decimal duration ∷ [])
+AreHeaderWords words (Idle mask timeout) =
+    (letters : List ℕ) × IsMask letters mask × (timeout < 2 ^ 64) × (words ≡ codes "idle" ∷ letters ∷ decimal timeout ∷ [])
+AreHeaderWords words (Global label) =
+    IsLabelUtf8 label × (words ≡ codes "global" ∷ quoted label.key ∷ quoted label.value ∷ [])
 
 -- the words of a setup line: it registers a series of a kind under a key
 abbrev pub AreSetupWords : List (List ℕ) → SetupLine → Type 0
@@ -124,7 +160,7 @@ AreActWords words handle _ = ⊥
 
 -- the words of each form of line; lanes are 0 to 7
 abbrev pub AreWords : List (List ℕ) → ScriptLine → Type 0
-AreWords words (Global label) = IsLabelUtf8 label × (words ≡ codes "global" ∷ quoted label.key ∷ quoted label.value ∷ [])
+AreWords words (Header line) = AreHeaderWords words line
 AreWords words (Round moment) = (moment < 2 ^ 64) × (words ≡ codes "round" ∷ decimal moment ∷ [])
 AreWords words (Setup setup) = AreSetupWords words setup
 AreWords words (CallOf call) =
@@ -138,9 +174,15 @@ pub record IsLine (bytes : List ℕ) (says : ScriptLine) : Type 0 where
 
 -- ---- the lines of a script
 
--- the header lines
-abbrev pub header_lines : SettingsText → List ScriptLine
-header_lines settings = map Global settings.globals
+-- the header lines, in their order
+abbrev pub header_lines : SettingsText → List HeaderLine
+header_lines settings =
+    option_to_list (option_map Quantiles settings.quantiles)
+    ++ option_to_list (option_map Buckets settings.buckets)
+    ++ map (λ rule. BucketsFor rule.0 rule.1) settings.buckets_for
+    ++ option_to_list (option_map (λ summary. Summary summary.0 summary.1) settings.summary)
+    ++ option_to_list (option_map (λ idle. Idle idle.0 idle.1) settings.idle)
+    ++ map Global settings.globals
 
 -- a round: its line, setup lines, call lines
 abbrev pub round_lines : RoundText → List ScriptLine
@@ -148,8 +190,8 @@ round_lines round = Round round.moment ∷ map Setup round.setup ++ map CallOf r
 
 -- the lines are a script: header lines, then rounds, each line of its form
 pub record IsScript (lines : List (List ℕ)) (script : ScriptText) : Type 0 where
-  pub settings : script.settings ≡ only_globals script.settings.globals
-  pub each : AllZip IsLine lines (header_lines script.settings ++ flat_map round_lines script.rounds)
+  pub settings : script.settings ≡ sayable script.settings
+  pub each : AllZip IsLine lines (map Header (header_lines script.settings) ++ flat_map round_lines script.rounds)
 
 -- ---- bytes and lines
 

@@ -1,10 +1,13 @@
 -- The script that a value of the program stands for.
-use Rattle.std.specs.Prelude.{◌≡◌, ℕ, List, map, flat_map, filter_map, string_bytes}
+use Rattle.std.specs.Prelude.{◌≡◌, ℕ, ℤ, List, map, flat_map, filter_map, option_map, string_bytes}
+use Rattle.std.specs.Int.NonZero.{non_zero_u32_get}
 use Rattle.std.specs.declared.string.String.{String}
 use Rattle.std.specs.declared.alloc.Global.{Global}
+use Rattle.metrics_core.specs.declared.numbers.Fixed.{Fixed}
 use Rattle.metrics_core.specs.declared.kinds.MetricKind.{MetricKind}
 use Rattle.metrics_core.specs.Keys.{LabelText, KeyText}
 use Rattle.prom_format.specs.LabelSets.{labels_of}
+use Rattle.prom_format.specs.MatcherTexts.{matcher_text}
 use Rattle.drive_script.specs.Heads.{AreNoted}
 use Rattle.drive_script.specs.Reading.{Registered}
 use Rattle.drive_script.specs.declared.script.Settings.{Settings}
@@ -18,6 +21,8 @@ use Rattle.drive_script.specs.declared.script.Setup.{Setup}
 use Rattle.drive_script.specs.declared.script.Setup.TheVariants as setups
 use Rattle.drive_script.specs.declared.script.Round.{Round}
 use Rattle.drive_script.specs.declared.script.Script.{Script}
+use Rattle.drive_script.specs.declared.headers.HeaderLine.{HeaderLine}
+use Rattle.drive_script.specs.declared.headers.HeaderLine.TheVariants as headers
 use Rattle.drive_script.specs.declared.lines.Statement.{Statement}
 use Rattle.drive_script.specs.declared.lines.Statement.TheVariants as lines
 
@@ -37,8 +42,17 @@ setup_of (setups.Register kind key) = text.Register kind key
 abbrev pub round_of : Round → text.RoundText
 round_of round = record { moment = round.moment; setup = map setup_of round.setup.items; calls = map call_line_of round.calls.items }
 
+abbrev pub values_of : List Fixed → List ℤ
+values_of values = map (λ value. value.0) values
+
 abbrev pub settings_of : Settings → text.SettingsText
-settings_of settings = text.only_globals (labels_of settings.globals.items)
+settings_of settings = record (text.only_globals (labels_of settings.globals.items)) {
+  quantiles = option_map (λ quantiles. values_of quantiles.items) settings.quantiles;
+  buckets = option_map (λ bounds. values_of bounds.items) settings.buckets;
+  buckets_for = map (λ rule. (matcher_text rule.0, values_of rule.1.items)) settings.buckets_for.items;
+  summary = option_map (λ summary. (non_zero_u32_get summary.0, summary.1)) settings.summary;
+  idle = settings.idle;
+}
 
 abbrev pub script_of : Script → text.ScriptText
 script_of script = record { settings = settings_of script.settings; rounds = map round_of script.rounds.items }
@@ -58,8 +72,16 @@ label_of label = record { key = string_bytes label.0; value = string_bytes label
 abbrev pub registered_of : MetricKind × KeyText → Registered
 registered_of registered = (registered.0, (registered.1.name, registered.1.labels))
 
+abbrev pub header_of : HeaderLine → text.HeaderLine
+header_of (headers.Quantiles values) = text.Quantiles (values_of values.items)
+header_of (headers.Buckets bounds) = text.Buckets (values_of bounds.items)
+header_of (headers.BucketsFor matcher bounds) = text.BucketsFor (matcher_text matcher) (values_of bounds.items)
+header_of (headers.Summary count duration) = text.Summary (non_zero_u32_get count) duration
+header_of (headers.Idle mask timeout) = text.Idle mask timeout
+header_of (headers.Global key value) = text.Global (label_of (key, value))
+
 abbrev pub line_of : Statement → text.ScriptLine
-line_of (lines.Global key value) = text.Global (label_of (key, value))
+line_of (lines.Header line) = text.Header (header_of line)
 line_of (lines.Round moment) = text.Round moment
 line_of (lines.Register kind key) = text.Setup (text.Register kind key)
 line_of (lines.Call call) = text.CallOf (call_line_of call)

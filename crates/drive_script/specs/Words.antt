@@ -1,10 +1,15 @@
 -- The words of a script line (this project's format): numbers, decimals, texts and labels.
-use Rattle.std.specs.Prelude.{◌≡◌, ℕ, ◌+◌, ◌-◌, ◌*◌, ◌^◌, ◌≤◌, Bool, List, [], ◌∷◌, ◌++◌, length, ℤ, pos, neg_ℤ, codes, decimal, IsUtf8, All, if◌then◌else◌}
-use Rattle.std.specs.List.{join_with_byte}
+use Rattle.std.specs.Prelude.{◌≡◌, ℕ, ◌+◌, ◌-◌, ◌*◌, ◌^◌, ◌<◌, ◌≤◌, Bool, false, List, [], ◌∷◌, ◌++◌, map, fold, length, ℤ, pos, neg_ℤ, codes, decimal, IsUtf8, All, if◌then◌else◌}
+use Rattle.std.specs.List.{AllZip, join_with_byte}
 use Rattle.std.specs.Str.Parse.{AllDigits, digits_value}
 use Rattle.metrics_core.specs.Characters.{space, full_stop, minus_sign}
 use Rattle.metrics_core.specs.Numbers.{one}
 use Rattle.metrics_core.specs.Keys.{LabelText, KeyText}
+use Rattle.metrics_core.specs.Kinds.{KindMask, mask_has}
+use Rattle.metrics_core.specs.declared.kinds.MetricKind.{MetricKind}
+use Rattle.metrics_core.specs.declared.kinds.MetricKind.TheVariants as kinds
+use Rattle.metrics_registry.specs.Masks.{no_kinds, only, union_of}
+use Rattle.prom_format.specs.Matchers.{MatcherText, Full, Prefix, Suffix}
 use Rattle.prom_format.specs.Printed.{escaped_label_value}
 
 -- words, one space between each two
@@ -44,6 +49,10 @@ pub record IsDec (word : List ℕ) (value : ℤ) : Type 0 where
   pub meant : value ≡ signed negative (billionths whole digits)
   pub fits : billionths whole digits ≤ greatest negative
 
+-- DECs, one for each value
+abbrev pub AreDecs : List (List ℕ) → List ℤ → Type 0
+AreDecs words values = AllZip IsDec words values
+
 -- TEXT: the text in quotes, with the escapes `\\`, `\"` and `\n`. A text is UTF-8, and all that stands in a line
 -- outside texts is ASCII, so each line is UTF-8.
 abbrev pub quoted : List ℕ → List ℕ
@@ -59,3 +68,32 @@ IsLabelUtf8 label = IsUtf8 label.key × IsUtf8 label.value
 -- the texts of a key are UTF-8
 abbrev pub IsKeyUtf8 : KeyText → Type 0
 IsKeyUtf8 key = IsUtf8 key.name × All IsLabelUtf8 key.labels
+
+-- FORM: how a matcher takes its text
+abbrev pub form_word : MatcherText → List ℕ
+form_word (Full _) = codes "full"
+form_word (Prefix _) = codes "prefix"
+form_word (Suffix _) = codes "suffix"
+
+-- the letter of a kind
+abbrev pub kind_letter : MetricKind → ℕ
+kind_letter kinds.Counter = 99
+kind_letter kinds.Gauge = 103
+kind_letter kinds.Histogram = 104
+
+-- the set with one more kind
+abbrev pub with_kind : KindMask → MetricKind → KindMask
+with_kind mask kind = union_of mask (only kind)
+
+-- each of these kinds is new: it is not in the set, and is none of those before it
+abbrev pub AreNewKinds : KindMask → List MetricKind → Type 0
+AreNewKinds mask [] = Unit {0}
+AreNewKinds mask (kind ∷ kinds) = (mask_has mask kind ≡ false) × AreNewKinds (with_kind mask kind) kinds
+
+-- MASK: the letters of one to three different kinds
+pub record IsMask (word : List ℕ) (mask : KindMask) : Type 0 where
+  pub kinds : List MetricKind
+  pub some : 0 < length kinds
+  pub different : AreNewKinds no_kinds kinds
+  pub spelled : word ≡ map kind_letter kinds
+  pub meant : mask ≡ fold with_kind no_kinds kinds

@@ -19,6 +19,7 @@ ghost use Rattle.std.specs.Prelude.{
   length,
   take,
   drop,
+  [],
 };
 ghost use Rattle.std.specs.Cow.{cow_str_bytes};
 ghost use Rattle.std.specs.Str.Parse.{AllDigits};
@@ -36,23 +37,37 @@ ghost use Rattle.drive_script.specs.Reading.{
   fraction_at,
   fraction_of,
   label_at,
+  kind_at,
+  kind_of_letter,
   labels_at,
+  mask_at,
+  matcher_at,
+  matcher_form_at,
   number_at,
+  positive_at,
   registered_kind_at,
   run_length,
   text_at,
   text_behind,
   value_of,
+  values_at,
   verb_at,
 };
-ghost use Rattle.drive_script.specs.Texts.{act_of};
+ghost use Rattle.std.specs.Int.NonZero.{non_zero_u32_get};
+ghost use Rattle.metrics_registry.specs.Masks.{only};
+ghost use Rattle.prom_format.specs.MatcherTexts.{matcher_text};
+ghost use Rattle.drive_script.specs.Texts.{act_of, values_of};
 
 use crate::Act;
+use crate::headers::MatcherForm;
 use crate::lines::Verb;
 use crate::recent::Recent;
 use metrics_core::{BILLIONTHS, Fixed, Label, Memory, MetricKind, SharedString};
+use metrics_registry::MetricKindMask;
+use prom_format::Matcher;
 use std::alloc::Global;
 use std::borrow::CowStr;
+use std::num::NonZeroU32;
 
 const ONE: u64 = BILLIONTHS as u64;
 
@@ -101,6 +116,16 @@ impl<'a> Cursor<'a> {
         Some(value)
     }
 
+    /// Takes a number from 1 to `most`.
+    #[tactic(auto, unfolding(crate::specs::Reading::positive_at))]
+    pub(crate) fn positive(&mut self, most: u32) -> Option<NonZeroU32>
+        ensures { MatchOption result (positive_at most self.old.rest.now ≡ None)
+            (λ n. positive_at most self.old.rest.now ≡ Some (non_zero_u32_get n, self.new.rest.now)) }
+    {
+        let number = self.number(u64::from(most))?;
+        NonZeroU32::new(number as u32)
+    }
+
     /// Takes a value: a sign or none, a whole part, and a point with one to nine digits or none.
     #[tactic(auto, unfolding(crate::specs::Reading::fixed_at))]
     pub(crate) fn fixed(&mut self) -> Option<Fixed>
@@ -127,6 +152,30 @@ impl<'a> Cursor<'a> {
         let (digits, rest) = self.rest.split_at(digit_count(self.rest));
         self.rest = rest;
         fraction_of(digits)
+    }
+
+    /// Takes values up to the end of the line, each behind a space.
+    pub(crate) fn values(&mut self, alloc: Global) -> Result<Option<Vec<Fixed>>, Memory>
+        ensures { IfOk result (λ values. MatchOption values (values_at self.old.rest.now ≡ None)
+            (λ values. values_at self.old.rest.now ≡ Some (values_of values.items, []))) }
+    {
+        let mut values = Vec::new(alloc);
+        while !self.rest.is_empty() {
+            let Some(value) = self.spaced_value() else {
+                return Ok(None);
+            };
+            values.push(value)?;
+        }
+        Ok(Some(values))
+    }
+
+    /// Takes a space and a value.
+    fn spaced_value(&mut self) -> Option<Fixed>
+        ensures { MatchOption result (after (codes " ") fixed_at self.old.rest.now ≡ None)
+            (λ value. after (codes " ") fixed_at self.old.rest.now ≡ Some (value.0, self.new.rest.now)) }
+    {
+        self.literal(b" ")?;
+        self.fixed()
     }
 
     /// Takes a text in quotes: as it stands in the line, or as a text of its own where something in it is escaped.
@@ -253,6 +302,71 @@ impl<'a> Cursor<'a> {
         Ok(Some((key, value.into_owned(alloc)?)))
     }
 
+    /// Takes a matcher: how it takes its text, and the text.
+    #[tactic(auto, unfolding(crate::specs::Reading::matcher_at))]
+    pub(crate) fn matcher(&mut self, alloc: Global) -> Result<Option<Matcher>, Memory>
+        ensures { IfOk result (λ matcher. MatchOption matcher (matcher_at self.old.rest.now ≡ None)
+            (λ matcher. matcher_at self.old.rest.now ≡ Some (matcher_text matcher, self.new.rest.now))) }
+    {
+        let Some(form) = self.matcher_form() else {
+            return Ok(None);
+        };
+        let Some(text) = self.text(alloc)? else {
+            return Ok(None);
+        };
+        let text = text.into_owned(alloc)?;
+        Ok(Some(match form {
+            MatcherForm::Full => Matcher::Full(text),
+            MatcherForm::Prefix => Matcher::Prefix(text),
+            MatcherForm::Suffix => Matcher::Suffix(text),
+        }))
+    }
+
+    /// Takes the word that says how a matcher takes its text.
+    #[tactic(auto, unfolding(crate::specs::Reading::matcher_form_at))]
+    fn matcher_form(&mut self) -> Option<MatcherForm>
+        ensures { MatchOption result (matcher_form_at self.old.rest.now ≡ None)
+            (λ form. matcher_form_at self.old.rest.now ≡ Some (form, self.new.rest.now)) }
+    {
+        if self.literal(b"full ").is_some() {
+            return Some(MatcherForm::Full);
+        }
+        if self.literal(b"prefix ").is_some() {
+            return Some(MatcherForm::Prefix);
+        }
+        self.literal(b"suffix ")?;
+        Some(MatcherForm::Suffix)
+    }
+
+    /// Takes the letters of one to three different kinds.
+    #[tactic(auto, unfolding(crate::specs::Reading::mask_at))]
+    pub(crate) fn mask(&mut self) -> Option<MetricKindMask>
+        ensures { MatchOption result (mask_at self.old.rest.now ≡ None)
+            (λ mask. mask_at self.old.rest.now ≡ Some (mask, self.new.rest.now)) }
+    {
+        let mut mask = mask_of(self.kind()?);
+        while let Some(kind) = self.kind() {
+            if mask.matches(kind) {
+                return None;
+            }
+            mask = mask.union(mask_of(kind));
+        }
+        Some(mask)
+    }
+
+    /// Takes the letter of a kind.
+    fn kind(&mut self) -> Option<MetricKind>
+        ensures kind { MatchOption result (kind_at self.old.rest.now ≡ None)
+            (λ kind. kind_at self.old.rest.now ≡ Some (kind, self.new.rest.now)) }
+        ensures stays { IfNone result (self.new ≡ self.old) }
+        ensures shorter { IfSome result (λ _. length self.new.rest.now < length self.old.rest.now) }
+    {
+        let (letter, rest) = self.rest.split_first()?;
+        let kind = kind_of_letter(*letter)?;
+        self.rest = rest;
+        Some(kind)
+    }
+
     /// Takes what a call line does.
     #[tactic(auto, unfolding(crate::specs::Reading::verb_at))]
     pub(crate) fn verb(&mut self) -> Option<Verb>
@@ -364,6 +478,29 @@ fn value_of(negative: bool, billionths: u64) -> Option<i64>
         0_i64.checked_sub_unsigned(billionths)
     } else {
         0_i64.checked_add_unsigned(billionths)
+    }
+}
+
+/// The kind that a letter stands for.
+fn kind_of_letter(letter: u8) -> Option<MetricKind>
+    ensures { result ≡ kind_of_letter letter }
+{
+    match letter {
+        b'c' => Some(MetricKind::Counter),
+        b'g' => Some(MetricKind::Gauge),
+        b'h' => Some(MetricKind::Histogram),
+        _ => None,
+    }
+}
+
+/// The set of one kind.
+fn mask_of(kind: MetricKind) -> MetricKindMask
+    ensures { result ≡ only kind }
+{
+    match kind {
+        MetricKind::Counter => MetricKindMask::COUNTER,
+        MetricKind::Gauge => MetricKindMask::GAUGE,
+        MetricKind::Histogram => MetricKindMask::HISTOGRAM,
     }
 }
 

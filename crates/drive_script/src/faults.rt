@@ -6,11 +6,43 @@ use metrics_core::Memory;
 use std::error::Error;
 use std::fmt;
 
+/// Why a script's settings are refused.
+#[derive(Clone, Copy, Debug, PartialEq, Eq)]
+pub enum SettingFault {
+    /// There is no quantile, or no bound of buckets.
+    Empty,
+    /// A bucket of a window has no width.
+    ZeroDuration,
+    /// A window's span, its number of buckets times their width, passes 64 bits of nanoseconds.
+    SpanTooLong,
+}
+
+impl fmt::Display for SettingFault {
+    ghost use Rattle.std.specs.Prelude.{Some};
+    ghost use Rattle.drive_script.specs.Faults.{setting_text};
+
+    ghost output = { λ fault. Some (setting_text fault) };
+
+    fn fmt<W: fmt::Write>(&self, f: &mut fmt::Formatter<W>) -> fmt::Result {
+        match self {
+            SettingFault::Empty => write!(f, "bucket bounds/quantiles cannot be empty"),
+            SettingFault::ZeroDuration => write!(f, "bucket durations cannot be set to zero"),
+            SettingFault::SpanTooLong => {
+                write!(f, "bucket durations exceed 64 bits of nanoseconds")
+            }
+        }
+    }
+}
+
+impl Error for SettingFault {}
+
 /// Why a script wasn't played to its end.
 #[derive(Clone, Copy, Debug, PartialEq, Eq)]
 pub enum DriveFault {
     /// The line, from 1, is the first bad one of the script.
     Script { line: u64 },
+    /// The setting is the first of the script that is refused.
+    Setting(SettingFault),
     /// The source gave more than 67,108,864 bytes.
     TooLong,
     /// The source failed.
@@ -30,6 +62,7 @@ impl fmt::Display for DriveFault {
     fn fmt<W: fmt::Write>(&self, f: &mut fmt::Formatter<W>) -> fmt::Result {
         match self {
             DriveFault::Script { line } => write!(f, "script: line {line}"),
+            DriveFault::Setting(fault) => write!(f, "{fault}"),
             DriveFault::TooLong => write!(f, "script: longer than 67108864 bytes"),
             DriveFault::ReadFault => write!(f, "read failed"),
             DriveFault::WriteFault => write!(f, "write failed"),
@@ -48,5 +81,16 @@ impl From<Memory> for DriveFault {
 
     fn from(_refused: Memory) -> DriveFault {
         DriveFault::Memory
+    }
+}
+
+impl From<SettingFault> for DriveFault {
+    ghost use Rattle.std.specs.Prelude.{◌≡◌};
+    ghost use Rattle.drive_script.specs.declared.faults.DriveFault.TheVariants as faults;
+
+    ghost from_gives = { λ setting fault. fault ≡ faults.Setting setting };
+
+    fn from(refused: SettingFault) -> DriveFault {
+        DriveFault::Setting(refused)
     }
 }

@@ -2,12 +2,13 @@
 
 ghost use Rattle.std.specs.Prelude.{◌≡◌, List, [], ◌∷◌, ◌++◌, All, IfOk, MatchBool, OnOk, string_bytes};
 ghost use Rattle.metrics_core.specs.Kinds.{kind_text};
-ghost use Rattle.metrics_core.specs.Keys.{put_label};
 ghost use Rattle.prom_format.specs.LabelSets.{labels_of};
 ghost use Rattle.drive_script.specs.Heads.{text_of_head, keys_by_head, AreHeadsOf, AllPrintPlainly, AreNoted};
-ghost use Rattle.drive_script.specs.Texts.{registrations_in, registrations_of};
+ghost use Rattle.drive_script.specs.Growth.{globals_with};
+ghost use Rattle.drive_script.specs.Texts.{header_of, registrations_in, registrations_of};
 ghost use Rattle.drive_script.specs.Valid.{Registration, PrintApart};
 
+use crate::headers::HeaderLine;
 use crate::{Round, Setup};
 use indexmap::IndexMap;
 use metrics_core::{Key, Memory, MetricKind};
@@ -34,13 +35,18 @@ impl Heads {
         }
     }
 
-    /// Adds a global label. Where one has this key its value is replaced.
-    pub(crate) fn add_global(&mut self, alloc: Global, key: &str, value: &str) -> Result<(), Memory>
+    /// Adds the global label of a header line that has one. Where another has its key, that one's value is replaced.
+    pub(crate) fn add_header(&mut self, alloc: Global, line: &HeaderLine) -> Result<(), Memory>
         ensures added { OnOk result (labels_of self.new.globals.entries
-            ≡ put_label (labels_of self.old.globals.entries) (record { key = key.now; value = value.now })) }
+            ≡ globals_with (labels_of self.old.globals.entries) (header_of line.now)) }
         ensures table { self.new.table ≡ self.old.table }
     {
-        put_label(&mut self.globals, key, value, alloc)
+        match line {
+            HeaderLine::Global(key, value) => {
+                put_label(&mut self.globals, key.as_str(), value.as_str(), alloc)
+            }
+            _ => Ok(()),
+        }
     }
 
     /// Notes one more register line behind those of the rounds. Answers whether all that print like it have an equal key.

@@ -1,12 +1,13 @@
-//! What a line says: one function for each form of line.
+//! What a line says: one function for each form of line but the header lines.
 
 ghost use Rattle.std.specs.Prelude.{◌≡◌, Option, Some, None, IfOk, MatchOption};
 ghost use Rattle.std.specs.Option.{option_map};
 ghost use Rattle.drive_script.specs.Script.{ScriptLine, IsLine};
-ghost use Rattle.drive_script.specs.Reading.{global_at, round_at, register_at, call_at};
-ghost use Rattle.drive_script.specs.Texts.{call_line_of, label_of, registered_of, line_of};
+ghost use Rattle.drive_script.specs.Reading.{round_at, register_at, call_at};
+ghost use Rattle.drive_script.specs.Texts.{call_line_of, registered_of, line_of};
 
 use crate::cursor::Cursor;
+use crate::headers::{HeaderLine, header_line};
 use crate::recent::Recent;
 use crate::{Act, CallLine};
 use metrics_core::{Key, KeyName, Memory, MetricKind};
@@ -18,8 +19,7 @@ const LAST_LANE: u64 = 7;
 /// What one line says.
 #[derive(Drop)]
 pub(crate) enum Statement {
-    /// The key and the value of a global label.
-    Global(String, String),
+    Header(HeaderLine),
     /// The moment of a round that begins.
     Round(u64),
     /// A series that is registered.
@@ -56,32 +56,8 @@ pub(crate) fn read_line<'a>(
     if let Some((kind, key)) = register_line(alloc, line, recent)? {
         return Ok(Some(Statement::Register { kind, key }));
     }
-    if let Some((key, value)) = global_line(alloc, line)? {
-        return Ok(Some(Statement::Global(key, value)));
-    }
-    Ok(None)
-}
-
-/// The key and the value of a global line.
-#[tactic(auto, unfolding(crate::specs::Reading::global_at))]
-fn global_line(alloc: Global, line: &[u8]) -> Result<Option<(String, String)>, Memory>
-    ensures { IfOk result (λ read. option_map label_of read ≡ global_at line.now) }
-{
-    let mut cursor = Cursor::new(line);
-    let Some(()) = cursor.literal(b"global ") else {
-        return Ok(None);
-    };
-    let Some(key) = cursor.text(alloc)? else {
-        return Ok(None);
-    };
-    let Some(()) = cursor.literal(b" ") else {
-        return Ok(None);
-    };
-    let Some(value) = cursor.text(alloc)? else {
-        return Ok(None);
-    };
-    match cursor.end() {
-        Some(()) => Ok(Some((key.into_owned(alloc)?, value.into_owned(alloc)?))),
+    match header_line(alloc, line)? {
+        Some(header) => Ok(Some(Statement::Header(header))),
         None => Ok(None),
     }
 }

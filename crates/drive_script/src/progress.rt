@@ -6,10 +6,11 @@ ghost use Rattle.metrics_core.specs.Keys.{KeyText};
 ghost use Rattle.metrics_core.specs.declared.kinds.MetricKind.{MetricKind};
 ghost use Rattle.drive_script.specs.Growth.{IsNext};
 ghost use Rattle.drive_script.specs.Taking.{Takes, MayRegister};
-ghost use Rattle.drive_script.specs.Texts.{call_line_of, script_of, label_of, script_so_far, IsKnown, StandsBehind};
+ghost use Rattle.drive_script.specs.Texts.{call_line_of, header_of, script_of, script_so_far, IsKnown, StandsBehind};
 ghost use Rattle.drive_script.specs.Valid.{registered, HasHandle, AreValidLines};
 ghost use Rattle.std.specs.List.Sorted.{IsNonDecreasingBy};
 
+use crate::headers::HeaderLine;
 use crate::heads::Heads;
 use crate::lines::{Statement, read_line};
 use crate::recent::Recent;
@@ -36,9 +37,7 @@ impl ScriptSoFar {
         ensures { StandsBehind [] result }
     {
         ScriptSoFar {
-            settings: Settings {
-                globals: Vec::new(alloc),
-            },
+            settings: Settings::new(alloc),
             rounds: Vec::new(alloc),
             kinds: Vec::new(alloc),
             heads: Heads::new(alloc),
@@ -58,7 +57,7 @@ impl ScriptSoFar {
     {
         match read_line(alloc, line, recent)? {
             None => Ok(false),
-            Some(Statement::Global(key, value)) => self.add_global(alloc, key, value),
+            Some(Statement::Header(line)) => self.add_header(alloc, line),
             Some(Statement::Round(moment)) => self.begin_round(alloc, moment),
             Some(Statement::Register { kind, key }) => self.register(alloc, kind, key),
             Some(Statement::Call(call)) => self.call(call),
@@ -77,15 +76,15 @@ impl ScriptSoFar {
         Script { settings, rounds }
     }
 
-    /// A global label, if it may stand here.
-    fn add_global(&mut self, alloc: Global, key: String, value: String) -> Result<bool, Memory>
-        ensures next { IsKnown self.old → IfOk result (Takes self.old self.new (text.Global (label_of (key, value)))) }
+    /// A header line, if it may stand here.
+    fn add_header(&mut self, alloc: Global, line: HeaderLine) -> Result<bool, Memory>
+        ensures next { IsKnown self.old → IfOk result (Takes self.old self.new (text.Header (header_of line))) }
     {
-        if !self.rounds.is_empty() {
+        if !self.rounds.is_empty() || !self.settings.may_follow(&line) {
             return Ok(false);
         }
-        self.heads.add_global(alloc, key.as_str(), value.as_str())?;
-        self.settings.globals.push((key, value))?;
+        self.heads.add_header(alloc, &line)?;
+        self.settings.add(line)?;
         Ok(true)
     }
 

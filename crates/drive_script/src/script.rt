@@ -1,10 +1,14 @@
 //! The values that a script is read into. Handles count the register lines of the whole script, from 0.
 
-ghost use Rattle.std.specs.Prelude.{◌≡◌};
-ghost use Rattle.drive_script.specs.Script.{kind_of};
-ghost use Rattle.drive_script.specs.Texts.{act_of};
+ghost use Rattle.std.specs.Prelude.{◌≡◌, []};
+ghost use Rattle.drive_script.specs.Script.{kind_of, only_globals};
+ghost use Rattle.drive_script.specs.Texts.{act_of, settings_of};
 
 use metrics_core::{Fixed, Key, MetricKind};
+use metrics_registry::MetricKindMask;
+use prom_format::Matcher;
+use std::alloc::Global;
+use std::num::NonZeroU32;
 
 /// A script: its settings, and its rounds, in the order in which they are played.
 #[derive(Drop)]
@@ -13,11 +17,37 @@ pub struct Script {
     pub rounds: Vec<Round>,
 }
 
-/// What the header lines of a script say.
+/// What the header lines of a script say, and no more: a line that isn't there is a none, or no entry of a list.
 #[derive(Drop)]
 pub struct Settings {
+    /// The quantiles of summaries, as they stand.
+    pub quantiles: Option<Vec<Fixed>>,
+    /// The bounds of histograms, as they stand.
+    pub buckets: Option<Vec<Fixed>>,
+    /// The bounds of histograms with names that match.
+    pub buckets_for: Vec<(Matcher, Vec<Fixed>)>,
+    /// How many buckets the window of a summary has, and the nanoseconds of each.
+    pub summary: Option<(NonZeroU32, u64)>,
+    /// The kinds of series that fall idle, and after how many nanoseconds.
+    pub idle: Option<(MetricKindMask, u64)>,
     /// The key and the value of each global label.
     pub globals: Vec<(String, String)>,
+}
+
+impl Settings {
+    /// No header line.
+    pub(crate) fn new(alloc: Global) -> Settings
+        ensures { settings_of result ≡ only_globals [] }
+    {
+        Settings {
+            quantiles: None,
+            buckets: None,
+            buckets_for: Vec::new(alloc),
+            summary: None,
+            idle: None,
+            globals: Vec::new(alloc),
+        }
+    }
 }
 
 /// One round: its moment in nanoseconds, what it sets up, and its calls.

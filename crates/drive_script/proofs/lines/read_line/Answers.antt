@@ -1,7 +1,7 @@
 use Rattle.std.proofs.Common.{◌≡◌, Some, None, sym, rules}
-use Rattle.drive_script.specs.Reading.{call_at, round_at, register_at, global_at}
-use Rattle.drive_script.specs.Texts.{call_line_of, label_of}
-use Rattle.drive_script.proofs.Forms.{call_takes, round_takes, register_takes, global_takes, no_reading}
+use Rattle.drive_script.specs.Reading.{call_at, round_at, register_at}
+use Rattle.drive_script.specs.Texts.{call_line_of}
+use Rattle.drive_script.proofs.Forms.{call_takes, round_takes, register_takes, no_reading}
 use Rattle.drive_script.proofs.lines.read_line.Goals as goal
 
 pub returns-in-Some : goal.returns-in-Some
@@ -15,15 +15,9 @@ returns-in-Some-2 c =
     let read : register_at c.args.line.now ≡ Some (c.in-Some-2.kind, (c.in-Some-2.key.name, c.in-Some-2.key.labels)) = search rules in
     register_takes c.args.line.now c.in-Some-2.kind c.in-Some-2.key read
 
-pub returns-in-Some-3 : goal.returns-in-Some-3
-returns-in-Some-3 c =
-    let read : global_at c.args.line.now ≡ Some (label_of (c.in-Some-3.key, c.in-Some-3.value)) = search rules in
-    global_takes c.args.line.now (label_of (c.in-Some-3.key, c.in-Some-3.value)) read
-
-pub returns : goal.returns
-returns c =
+pub returns-in-None : goal.returns-in-None
+returns-in-None c =
     let no_call : call_at c.args.line.now ≡ None = search rules in
     let no_round : round_at c.args.line.now ≡ None = search rules in
     let no_register : register_at c.args.line.now ≡ None = search rules in
-    let no_global : global_at c.args.line.now ≡ None = search rules in
-    no_reading c.args.line.now no_call no_round no_register no_global
+    no_reading c.args.line.now no_call no_round no_register (rw c.in-None.is at c.in_ok-header.ensures)

@@ -1,8 +1,8 @@
-use Rattle.std.proofs.Common.{◌≡◌, [], ◌∷◌, ◌++◌, ◌+◌, ◌∙◌, sym, ap, arith}
-use Rattle.std.proofs.lemmas.List.{append_assoc, length_push}
-use Rattle.drive_script.specs.Script.{lines_of}
+use Rattle.std.proofs.Common.{◌≡◌, [], ◌∷◌, ◌++◌, ◌+◌, ◌∙◌, length, sym, ap, subst, arith, rules}
+use Rattle.std.proofs.lemmas.List.{append-nil, append_assoc, length_push, nil_from_length}
+use Rattle.drive_script.specs.Script.{IsScript, lines_of}
 use Rattle.drive_script.specs.Texts.{script_so_far}
-use Rattle.drive_script.specs.Valid.{AreValidLines}
+use Rattle.drive_script.specs.Valid.{IsValid, AreValidLines}
 use Rattle.drive_script.proofs.Pieces.{first_bad}
 use Rattle.drive_script.proofs.reader.read_script.Goals as goal
 
@@ -24,3 +24,12 @@ loop-rest-preserved c =
       omega (arith, so_far.3, c.split_line.ensures.shorter),
       rw c.if-not-branch.false at (c.in_ok-take_line.ensures so_far.0 so_far.4),
     )
+
+pub returns-clause-valid : goal.returns-clause-valid
+returns-clause-valid c =
+    let so_far = c.loop-rest.invariant in
+    let rest = c.loop-rest.rest.now in
+    let none : length rest ≡ 0 = search rules in
+    let all : lines_of c.args.bytes.now ≡ so_far.0 = so_far.1 ∙ ap (λ r. so_far.0 ++ lines_of r) (nil_from_length rest none) ∙ append-nil so_far.0 in
+    subst (λ script. IsScript (lines_of c.args.bytes.now) script × IsValid script) (sym c.into_script.ensures)
+    (subst (λ lines. IsScript lines (script_so_far c.loop-rest.progress)) (sym all) so_far.4.script, so_far.4.valid)

@@ -1,6 +1,6 @@
 use Rattle.drive_script.specs.Script as text
 use Rattle.drive_script.specs.Script.{IsLine}
-use Rattle.drive_script.specs.Texts.{call_line_of, label_of}
+use Rattle.drive_script.specs.Texts.{call_line_of, header_of}
 use Rattle.drive_script.proofs.Growth.{no_next}
 use Rattle.drive_script.proofs.Steps.{step_taken}
 use Rattle.drive_script.proofs.progress.ScriptSoFar.take_line.Goals as goal
@@ -8,11 +8,11 @@ use Rattle.drive_script.proofs.progress.ScriptSoFar.take_line.Goals as goal
 pub returns-in-None : goal.returns-in-None
 returns-in-None c = λ lines h. no_next lines c.args.line.now (rw c.in-None.is at c.in_ok-read_line.ensures)
 
-pub returns-in-Some-Global : goal.returns-in-Some-Global
-returns-in-Some-Global c = λ lines h.
-    let says : text.ScriptLine = text.Global (label_of (c.in-Some-Global.key, c.in-Some-Global.value)) in
-    let is_line : IsLine c.args.line.now says = rw c.in-Some-Global.field-0-is at (rw c.in-Some-Global.is at c.in_ok-read_line.ensures) in
-    step_taken lines c.args.line.now c.args.self.now _ says c.add_global.result h is_line (c.add_global.ensures.next h.known)
+pub returns-in-Some-Header : goal.returns-in-Some-Header
+returns-in-Some-Header c = λ lines h.
+    let says : text.ScriptLine = text.Header (header_of c.in-Some-Header.line) in
+    let is_line : IsLine c.args.line.now says = rw c.in-Some-Header.field-0-is at (rw c.in-Some-Header.is at c.in_ok-read_line.ensures) in
+    step_taken lines c.args.line.now c.args.self.now _ says c.add_header.result h is_line (c.add_header.ensures.next h.known)
 
 pub returns-in-Some-Round : goal.returns-in-Some-Round
 returns-in-Some-Round c = λ lines h.
