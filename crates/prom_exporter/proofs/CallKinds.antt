@@ -21,6 +21,7 @@ counter_takes cell (calls.Absolute n) takes = refl
 counter_takes cell (calls.Add v) takes = absurd takes
 counter_takes cell (calls.Subtract v) takes = absurd takes
 counter_takes cell (calls.Set v) takes = absurd takes
+counter_takes cell (calls.Record v moment count) takes = absurd takes
 
 gauge_takes : (cell : PromGauge) (call : SeriesCall) → TakesCall (cells.Gauge cell) call → as_gauge call ≡ call ∷ []
 gauge_takes cell (calls.Increment n) takes = absurd takes
@@ -28,6 +29,7 @@ gauge_takes cell (calls.Absolute n) takes = absurd takes
 gauge_takes cell (calls.Add v) takes = refl
 gauge_takes cell (calls.Subtract v) takes = refl
 gauge_takes cell (calls.Set v) takes = refl
+gauge_takes cell (calls.Record v moment count) takes = absurd takes
 
 -- what a counter makes of a call that a cell takes of which it is a pass, and a gauge
 pub counter_makes : (cell : SeriesCell) (lent : Lease SeriesCall PromCounter) (call : SeriesCall) (w : View SeriesCall) → IsPassOf cell (passes.Counter lent) → TakesCall cell call → Made (StandsAsCounter call) lent.knows w → Calls call lent.knows w

@@ -1,8 +1,7 @@
 -- Cells of which no pass is out: what the exporter sees of them is the whole history.
 use Rattle.std.proofs.Common.{◌≡◌, List, [], ◌∷◌, ◌++◌, refl, sym, ap, subst, ◌∙◌, inl, inr, arith}
 use Rattle.std.specs.Prelude.{All}
-use Rattle.std.specs.List.{AllZip}
-use Rattle.std.proofs.lemmas.List.Elements.{All-head, All-tail, All-cons, All-append}
+use Rattle.std.proofs.lemmas.List.Elements.{All-cons, All-append}
 use Rattle.legal_history.specs.declared.history.View.{View}
 use mathlib.Core.List.{IsPrefix}
 use Rattle.legal_history.specs.declared.history.Held.{Held}
@@ -14,11 +13,11 @@ use Rattle.metrics_registry.specs.Live.{LiveSeries}
 use Rattle.metrics_core.specs.declared.calls.SeriesCall.{SeriesCall}
 use Rattle.prom_exporter.specs.Shared.{Shared, IsHome, unused, Looks, TakesBack}
 use Rattle.metrics_core.specs.declared.kinds.MetricKind.TheVariants.{Counter, Gauge}
-use Rattle.metrics_core.specs.Keys.{LabelText}
+use Rattle.prom_exporter.specs.Families.{ExporterSettings}
 use Rattle.series_cells.specs.declared.counter.PromCounter.{PromCounter}
 use Rattle.series_cells.specs.declared.gauge.PromGauge.{PromGauge}
 use Rattle.std.proofs.Common.{◌+◌}
-use Rattle.prom_exporter.specs.Exporter.{Cells, settings_with, Exporter, SeriesLooks, LooksOn, AllHome, AddsCounter, AddsGauge}
+use Rattle.prom_exporter.specs.Exporter.{Cells, Exporter, AllHome, AddsCounter, AddsGauge}
 
 among_last : (h : Held SeriesCall) (hs : List (Held SeriesCall)) → Among h (hs ++ h ∷ [])
 among_last h [] = inl refl
@@ -40,30 +39,6 @@ module _ {F : Type 0} where
   pub looks-home : (s t : Shared F) → IsHome s → Looks s t → t ≡ s
   looks-home s t home looks = looks.2 ∙ ap (λ log. record s { root = looked s.root log }) (looks.1.whole home.0 home.1).0
 
-  abbrev AllAtHome : List (LiveSeries (Shared F)) → Type 0
-  AllAtHome = All (λ series. IsHome series.cell)
-
-  pub series_look-home : (es fs : List (LiveSeries (Shared F))) → AllAtHome es → AllZip SeriesLooks es fs → fs ≡ es
-  series_look-home [] [] home looks = refl
-  series_look-home [] (f ∷ fs) home looks = absurd looks
-  series_look-home (e ∷ es) [] home looks = absurd looks
-  series_look-home (e ∷ es) (f ∷ fs) home looks =
-      let here = looks-home e.cell f.cell (All-head (λ (s : LiveSeries (Shared F)). IsHome s.cell) e es home) looks.0.2 in
-      let rest = series_look-home es fs (All-tail (λ (s : LiveSeries (Shared F)). IsHome s.cell) e es home) looks.1 in
-      (λ j. record { id = looks.0.0 j; key = looks.0.1 j; cell = here j } ∷ rest j)
-
-pub looks_on-home : (old new : Exporter) → AllHome old → LooksOn old new → new ≡ old
-looks_on-home old new home looks =
-    (λ j. record {
-      settings = looks.settings j;
-      series = record {
-        counters = series_look-home old.series.counters new.series.counters home.0 looks.counters j;
-        gauges = series_look-home old.series.gauges new.series.gauges home.1 looks.gauges j;
-        histograms = looks.histograms j;
-        made = looks.made j;
-      };
-    })
-
 -- a new cell has no pass out
 pub unused-home : {F : Type 0} (es : List (LiveSeries (Shared F))) (e : LiveSeries (Shared F)) (cell : F) → e.cell ≡ unused cell → All (λ (s : LiveSeries (Shared F)). IsHome s.cell) es → All (λ (s : LiveSeries (Shared F)). IsHome s.cell) (es ++ e ∷ [])
 unused-home {F} es e cell is home =
@@ -77,27 +52,27 @@ pub adds_gauge-home : (key : KeyText) (old new : Exporter) → AddsGauge key old
 adds_gauge-home key old new adds home = rw adds.1 (home.0, unused-home old.series.gauges _ adds.0 refl home.1)
 
 -- a counter that was made went last
-pub counter_added : (exporter : Exporter) (globals : List LabelText) (series after : Cells) (key copied : KeyText) (id : SeriesId) (cell : Shared PromCounter)
-    → record { settings = settings_with globals; series = series } ≡ exporter
+pub counter_added : (exporter : Exporter) (settings : ExporterSettings) (series after : Cells) (key copied : KeyText) (id : SeriesId) (cell : Shared PromCounter)
+    → record { settings = settings; series = series } ≡ exporter
     → after ≡ record series { counters = series.counters ++ record { id = id; key = copied; cell = cell } ∷ []; made = series.made + 1 }
     → id ≡ record { kind = Counter; number = series.made } → copied ≡ key → cell ≡ unused cell.cell
-    → AddsCounter key exporter (record { settings = settings_with globals; series = after })
-counter_added exporter globals series after key copied id cell is added numbered same fresh =
+    → AddsCounter key exporter (record { settings = settings; series = after })
+counter_added exporter settings series after key copied id cell is added numbered same fresh =
     rw (← is) (
       cell.cell,
-      ap (λ (cells : Cells). record { settings = settings_with globals; series = cells })
+      ap (λ (cells : Cells). record { settings = settings; series = cells })
           (added ∙ (λ j. record series { counters = series.counters ++ record { id = numbered j; key = same j; cell = fresh j } ∷ []; made = series.made + 1 })),
     )
 
 -- a gauge that was made went last
-pub gauge_added : (exporter : Exporter) (globals : List LabelText) (series after : Cells) (key copied : KeyText) (id : SeriesId) (cell : Shared PromGauge)
-    → record { settings = settings_with globals; series = series } ≡ exporter
+pub gauge_added : (exporter : Exporter) (settings : ExporterSettings) (series after : Cells) (key copied : KeyText) (id : SeriesId) (cell : Shared PromGauge)
+    → record { settings = settings; series = series } ≡ exporter
     → after ≡ record series { gauges = series.gauges ++ record { id = id; key = copied; cell = cell } ∷ []; made = series.made + 1 }
     → id ≡ record { kind = Gauge; number = series.made } → copied ≡ key → cell ≡ unused cell.cell
-    → AddsGauge key exporter (record { settings = settings_with globals; series = after })
-gauge_added exporter globals series after key copied id cell is added numbered same fresh =
+    → AddsGauge key exporter (record { settings = settings; series = after })
+gauge_added exporter settings series after key copied id cell is added numbered same fresh =
     rw (← is) (
       cell.cell,
-      ap (λ (cells : Cells). record { settings = settings_with globals; series = cells })
+      ap (λ (cells : Cells). record { settings = settings; series = cells })
           (added ∙ (λ j. record series { gauges = series.gauges ++ record { id = numbered j; key = same j; cell = fresh j } ∷ []; made = series.made + 1 })),
     )

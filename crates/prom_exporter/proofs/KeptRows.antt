@@ -1,9 +1,9 @@
 -- What is kept for rows: one more series, what leaves it as it is, and the text that it makes.
-use Rattle.std.proofs.Common.{◌≡◌, ℕ, zero, suc, ◌+◌, Bool, true, false, cond, List, [], ◌∷◌, ◌++◌, map, length, Some, refl, sym, ap, ◌∙◌, arith, add-zero, zero-add}
+use Rattle.std.proofs.Common.{◌≡◌, ℕ, zero, suc, ◌+◌, Bool, true, false, cond, List, [], ◌∷◌, ◌++◌, map, take, length, length-append, ◌≤◌, ◌<◌, None, Some, refl, sym, ap, ◌∙◌, arith, add-zero, add-one, zero-add}
 use Rattle.std.specs.Prelude.{slice_get, option_map, flat_map, ℤ, bytes_eq}
-use Rattle.std.specs.List.{AllZip, enumerate_from}
-use Rattle.std.proofs.lemmas.List.{map-append, length-map}
-use Rattle.std.proofs.lemmas.Option.{slice_get-map}
+use Rattle.std.specs.List.{enumerate_from}
+use Rattle.std.proofs.lemmas.List.{map-append, length-map, length-take, take_all, take-append-le}
+use Rattle.std.proofs.lemmas.Option.{slice_get-map, same_Some}
 use Rattle.std.proofs.lemmas.Slice.Eq.{bytes_eq-Decides}
 use Rattle.metrics_core.specs.Keys.{KeyText, LabelText}
 use Rattle.metrics_core.specs.declared.kinds.SeriesId.{SeriesId}
@@ -13,10 +13,10 @@ use Rattle.prom_format.specs.Names.{sanitized_metric_name}
 use Rattle.metrics_core.specs.Characters.{line}
 use Rattle.prom_format.specs.Pages.{row_text, body_text, type_line_text}
 use Rattle.prom_format.specs.declared.families.FamilyType.{FamilyType}
-use Rattle.prom_exporter.specs.Exporter.{Cells, SeriesLooks}
-use Rattle.prom_exporter.specs.Kept.{IsKept}
-use Rattle.prom_exporter.specs.Families.{distinct}
-use Rattle.prom_exporter.specs.Shared.{Shared}
+use Rattle.distributions.specs.Kinds.{DistributionRules}
+use Rattle.prom_exporter.specs.Exporter.{Cells}
+use Rattle.prom_exporter.specs.Kept.{KeepsFirst, IsKept}
+use Rattle.prom_exporter.specs.Families.{ExporterSettings, distinct}
 use Rattle.prom_exporter.specs.Rows.{RowsText, head_of, name_at, places_of, rows_of, keys_of, row_at, kept_block}
 use Rattle.prom_exporter.specs.Values.{named, grouped, with_member, member_of, metric_name, value_row, value_family, value_families}
 use Rattle.prom_exporter.proofs.Groups.{grouped-push}
@@ -51,21 +51,57 @@ rows-push globals keys key =
     ∙ ap (λ n. with_member (map places_of groups) (sanitized_metric_name key.name) n) (zero-add (length keys)) in
     (λ j. record { heads = map-append (head_of globals) keys (key ∷ []) j; families = grown j })
 
--- the last one stands behind the others
-stands-last : {X : Type 0} (xs : List X) (x : X) → slice_get (xs ++ x ∷ []) (length xs) ≡ Some x
-stands-last [] x = refl
-stands-last (y ∷ xs) x = stands-last xs x
+-- ---- what the first of some series want
 
-module _ {X : Type 0} (globals : List LabelText) where
-  pub last-there : (rows : RowsText) (others live : List (LiveSeries X)) (last : LiveSeries X) (n : ℕ) → n ≡ length rows.heads → rows ≡ rows_of globals (keys_of others) → live ≡ others ++ last ∷ []
-      → slice_get live n ≡ Some last
-  last-there rows others live last n many kept is =
-      let place : n ≡ length others = many ∙ ap (λ (r : RowsText). length r.heads) kept ∙ length-map (keys_of others) (head_of globals) ∙ length-map others (λ (series : LiveSeries X). series.key) in
-      (λ j. slice_get (is j) (place j)) ∙ stands-last others last
+-- one more of the first
+take_next : {X : Type 0} (xs : List X) (n : ℕ) (x : X) → slice_get xs n ≡ Some x → take (suc n) xs ≡ take n xs ++ x ∷ []
+take_next [] n x e = absurd cc
+take_next (y ∷ xs) zero x e = ap (λ z. z ∷ []) (same_Some y x e)
+take_next (y ∷ xs) (suc n) x e = ap (λ l. y ∷ l) (take_next xs n x e)
 
-  pub keys-last : (others live : List (LiveSeries X)) (last : LiveSeries X) (key : KeyText) → key ≡ last.key → live ≡ others ++ last ∷ [] → rows_of globals (keys_of others ++ key ∷ []) ≡ rows_of globals (keys_of live)
-  keys-last others live last key same is =
-      ap (rows_of globals) (ap (λ k. keys_of others ++ k ∷ []) same ∙ sym (map-append (λ (series : LiveSeries X). series.key) others (last ∷ [])) ∙ ap keys_of (sym is))
+module _ {X : Type 0} where
+  -- there are at most as many of them as series
+  pub first_many : (globals : List LabelText) (live : List (LiveSeries X)) (rows : RowsText) → KeepsFirst globals live rows → length rows.heads ≤ length live
+  first_many globals live rows first =
+      let many : length rows.heads ≡ length (take (length rows.heads) (keys_of live)) = ap (λ (r : RowsText). length r.heads) first ∙ length-map (take (length rows.heads) (keys_of live)) (head_of globals) in
+      omega (arith, many, length-take (length rows.heads) (keys_of live), length-map live (λ (series : LiveSeries X). series.key))
+
+  -- each place within has a key
+  pub none_within : (live : List (LiveSeries X)) (n : ℕ) → n < length live → None ≡ option_map (λ (series : LiveSeries X). series.key) (slice_get live n) → ⊥
+  none_within [] n within none = absurd (omega (arith, within))
+  none_within (s ∷ live) zero within none = absurd cc
+  none_within (s ∷ live) (suc n) within none = none_within live n (omega (arith, within)) none
+
+  -- one more of them
+  pub first_more : (globals : List LabelText) (live : List (LiveSeries X)) (rows more : RowsText) (key : KeyText) → KeepsFirst globals live rows
+      → Some key ≡ option_map (λ (series : LiveSeries X). series.key) (slice_get live (length rows.heads))
+      → ((keys : List KeyText) → rows ≡ rows_of globals keys → more ≡ rows_of globals (keys ++ key ∷ [])) → KeepsFirst globals live more × (length more.heads ≡ length rows.heads + 1)
+  first_more globals live rows more key first here pushed =
+      let n = length rows.heads in
+      let at : slice_get (keys_of live) n ≡ Some key = slice_get-map (λ (series : LiveSeries X). series.key) live n ∙ sym here in
+      let grown : take n (keys_of live) ++ key ∷ [] ≡ take (n + 1) (keys_of live) = sym (rw add-one (take_next (keys_of live) n key at)) in
+      let is = pushed (take n (keys_of live)) first ∙ ap (rows_of globals) grown in
+      let many : length more.heads ≡ n + 1 =
+      ap (λ (r : RowsText). length r.heads) (pushed (take n (keys_of live)) first) ∙ length-map (take n (keys_of live) ++ key ∷ []) (head_of globals) ∙ length-append (take n (keys_of live)) (key ∷ [])
+      ∙ ap (λ m. m + 1) (sym (ap (λ (r : RowsText). length r.heads) first ∙ length-map (take n (keys_of live)) (head_of globals))) in
+      (is ∙ ap (λ m. rows_of globals (take m (keys_of live))) (sym many), many)
+
+  -- all of them
+  pub first_all : (globals : List LabelText) (live : List (LiveSeries X)) (rows : RowsText) → KeepsFirst globals live rows → length live ≤ length rows.heads → rows ≡ rows_of globals (keys_of live)
+  first_all globals live rows first many =
+      first ∙ ap (rows_of globals) (take_all (length rows.heads) (keys_of live) (omega (arith, many, length-map live (λ (series : LiveSeries X). series.key))))
+
+  -- series that come last are none of them
+  pub first_longer : (globals : List LabelText) (live : List (LiveSeries X)) (series : LiveSeries X) (rows : RowsText) → KeepsFirst globals live rows → KeepsFirst globals (live ++ series ∷ []) rows
+  first_longer globals live series rows first =
+      first ∙ ap (rows_of globals) (sym (
+      ap (take (length rows.heads)) (map-append (λ (s : LiveSeries X). s.key) live (series ∷ []))
+      ∙ take-append-le (length rows.heads) (keys_of live) (series.key ∷ []) (omega (arith, first_many globals live rows first, length-map live (λ (s : LiveSeries X). s.key)))
+      ))
+
+  -- they stay the first of series with the same keys
+  pub first_same : (globals : List LabelText) (old new : List (LiveSeries X)) (rows : RowsText) → KeepsFirst globals old rows → keys_of new ≡ keys_of old → KeepsFirst globals new rows
+  first_same globals old new rows first same = first ∙ ap (λ keys. rows_of globals (take (length rows.heads) keys)) (sym same)
 
 -- ---- what leaves the keys as they are
 
@@ -83,17 +119,13 @@ module _ {X : Type 0} where
   keys-with_cell_at (s ∷ live) zero cell = refl
   keys-with_cell_at (s ∷ live) (suc place) cell = ap (λ l. s.key ∷ l) (keys-with_cell_at live place cell)
 
-pub keys-looks : {F : Type 0} (old new : List (LiveSeries (Shared F))) → AllZip SeriesLooks old new → keys_of new ≡ keys_of old
-keys-looks [] [] looks = refl
-keys-looks [] (t ∷ new) looks = absurd looks
-keys-looks (s ∷ old) [] looks = absurd looks
-keys-looks (s ∷ old) (t ∷ new) looks = (λ j. looks.0.1 j ∷ keys-looks old new looks.1 j)
-
 -- what is kept fits as long as the keys stay
-pub kept_same : (globals : List LabelText) (old new : Cells) (counters gauges : RowsText) → IsKept globals old counters gauges → keys_of new.counters ≡ keys_of old.counters → keys_of new.gauges ≡ keys_of old.gauges → IsKept globals new counters gauges
-kept_same globals old new counters gauges kept same also = record {
-  counters = kept.counters ∙ ap (rows_of globals) (sym same);
-  gauges = kept.gauges ∙ ap (rows_of globals) (sym also);
+pub kept_same : (settings : ExporterSettings) (distributions : DistributionRules) (old new : Cells) (counters gauges : RowsText) → IsKept settings distributions old counters gauges → keys_of new.counters ≡ keys_of old.counters → keys_of new.gauges ≡ keys_of old.gauges → IsKept settings distributions new counters gauges
+kept_same settings distributions old new counters gauges kept same also = record {
+  counters = first_same settings.globals old.counters new.counters counters kept.counters same;
+  gauges = first_same settings.globals old.gauges new.gauges gauges kept.gauges also;
+  names = kept.names;
+  kinds = kept.kinds;
 }
 
 -- ---- groups of things that stand for others

@@ -58,6 +58,12 @@ module _ {A : Type 0} where
   some_at (x ∷ xs) zero h = (x, refl)
   some_at (x ∷ xs) (suc i) h = some_at xs i (omega (arith, h))
 
+  -- what is got at an index stands there
+  pub at_got : (xs : List A) (i : ℕ) (a : A) → slice_get xs i ≡ Some a → get_elem? xs i ≡ some a
+  at_got [] i a e = absurd cc
+  at_got (x ∷ xs) zero a e = ap some (same_Some x a e)
+  at_got (x ∷ xs) (suc i) a e = at_got xs i a e
+
 -- ---- the series of one kind
 
 module _ {F : Type 0} (kind : F → SeriesCell) where
@@ -141,10 +147,11 @@ gauge_found series i h below =
 
 -- ---- giving back
 
-pub took_back : {F : Type 0} (s t : Shared F) (known : View SeriesCall) → TakesBack known s t → TookBack s.root known t.root × (t.cell ≡ s.cell)
+pub took_back : {F : Type 0} (s t : Shared F) (known : View SeriesCall) → TakesBack known s t → TookBack s.root known t.root × (t.cell ≡ s.cell) × (t.note ≡ s.note)
 took_back s t known takes = (
   subst (λ (x : Shared _). TookBack s.root known x.root) (sym takes.2) (record { number = refl; mine = refl; joined = refl; seen = takes.1.begins; out = refl }),
   ap (λ (x : Shared _). x.cell) takes.2,
+  ap (λ (x : Shared _). x.note) takes.2,
 )
 
 -- ---- all at home
@@ -199,15 +206,17 @@ no_index id exporter none others i e =
 
 -- ---- what lanes leave as it is
 
-unseen_put : {F : Type 0} (es : List (LiveSeries (Shared F))) (i : ℕ) (cell new : Shared F) → option_map (λ (s : LiveSeries (Shared F)). s.cell) (slice_get es i) ≡ Some cell → new.cell ≡ cell.cell → map unseen (with_cell_at es i new) ≡ map unseen es
-unseen_put [] i cell new e stays = refl
-unseen_put (x ∷ es) zero cell new e stays = (λ j. record x { cell = unused ((stays ∙ ap (λ (c : Shared _). c.cell) (sym (same_Some x.cell cell e))) j) } ∷ map unseen es)
-unseen_put (x ∷ es) (suc i) cell new e stays = ap (λ l. unseen x ∷ l) (unseen_put es i cell new e stays)
+unseen_put : {F : Type 0} (es : List (LiveSeries (Shared F))) (i : ℕ) (cell new : Shared F) → option_map (λ (s : LiveSeries (Shared F)). s.cell) (slice_get es i) ≡ Some cell → new.cell ≡ cell.cell → new.note ≡ cell.note → map unseen (with_cell_at es i new) ≡ map unseen es
+unseen_put [] i cell new e stays noted = refl
+unseen_put (x ∷ es) zero cell new e stays noted =
+    let same = sym (same_Some x.cell cell e) in
+    (λ j. record x { cell = record (unused ((stays ∙ ap (λ (c : Shared _). c.cell) same) j)) { note = (noted ∙ ap (λ (c : Shared _). c.note) same) j } } ∷ map unseen es)
+unseen_put (x ∷ es) (suc i) cell new e stays noted = ap (λ l. unseen x ∷ l) (unseen_put es i cell new e stays noted)
 
-pub counter_frame : (exporter : Exporter) (i : ℕ) (cell new : Shared PromCounter) → option_map (λ (s : LiveSeries (Shared PromCounter)). s.cell) (slice_get exporter.series.counters i) ≡ Some cell → new.cell ≡ cell.cell
+pub counter_frame : (exporter : Exporter) (i : ℕ) (cell new : Shared PromCounter) → option_map (λ (s : LiveSeries (Shared PromCounter)). s.cell) (slice_get exporter.series.counters i) ≡ Some cell → new.cell ≡ cell.cell → new.note ≡ cell.note
     → frame_of (record exporter { series = record exporter.series { counters = with_cell_at exporter.series.counters i new } }) ≡ frame_of exporter
-counter_frame exporter i cell new e stays = ap (λ l. record exporter { series = record exporter.series { counters = l; gauges = map unseen exporter.series.gauges } }) (unseen_put exporter.series.counters i cell new e stays)
+counter_frame exporter i cell new e stays noted = ap (λ l. record exporter { series = record exporter.series { counters = l; gauges = map unseen exporter.series.gauges } }) (unseen_put exporter.series.counters i cell new e stays noted)
 
-pub gauge_frame : (exporter : Exporter) (i : ℕ) (cell new : Shared PromGauge) → option_map (λ (s : LiveSeries (Shared PromGauge)). s.cell) (slice_get exporter.series.gauges i) ≡ Some cell → new.cell ≡ cell.cell
+pub gauge_frame : (exporter : Exporter) (i : ℕ) (cell new : Shared PromGauge) → option_map (λ (s : LiveSeries (Shared PromGauge)). s.cell) (slice_get exporter.series.gauges i) ≡ Some cell → new.cell ≡ cell.cell → new.note ≡ cell.note
     → frame_of (record exporter { series = record exporter.series { gauges = with_cell_at exporter.series.gauges i new } }) ≡ frame_of exporter
-gauge_frame exporter i cell new e stays = ap (λ l. record exporter { series = record exporter.series { counters = map unseen exporter.series.counters; gauges = l } }) (unseen_put exporter.series.gauges i cell new e stays)
+gauge_frame exporter i cell new e stays noted = ap (λ l. record exporter { series = record exporter.series { counters = map unseen exporter.series.counters; gauges = l } }) (unseen_put exporter.series.gauges i cell new e stays noted)

@@ -4,10 +4,13 @@ pub mod Progress
 pub mod States
 pub mod Seen
 pub mod Home
+pub mod Stepping
+pub mod PagesAgain
 pub mod LaneThings
 pub mod CallKinds
 pub mod KeptRows
 pub mod HeadTexts
 pub mod Looked
+mod CopiedRules
 mod Written
 pub mod ValuePages

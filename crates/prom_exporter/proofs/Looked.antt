@@ -1,12 +1,14 @@
 -- What a look leaves: the pass has then seen all that a look may find.
-use Rattle.std.proofs.Common.{◌≡◌, List, refl, sym, ap, subst, ◌∙◌}
+use Rattle.std.proofs.Common.{◌≡◌, ℕ, ◌%◌, ◌^◌, length, true, None, List, refl, sym, ap, subst, ◌∙◌, arith}
 use Rattle.legal_history.specs.declared.history.Entry.{Entry}
 use Rattle.legal_history.specs.declared.history.View.{View}
 use Rattle.legal_history.specs.History.{calls, looked, Sees, Settled}
 use Rattle.legal_history.proofs.Prefixes.{prefix_self, prefix_trans}
 use Rattle.cell_lanes.specs.Calls.{Shows}
 use Rattle.metrics_core.specs.declared.calls.SeriesCall.{SeriesCall}
-use Rattle.prom_exporter.specs.Shared.{KnowsAll}
+use Rattle.metrics_core.specs.declared.kinds.MetricKind.{MetricKind}
+use Rattle.prom_exporter.specs.Shared.{Shared, KnowsAll, Looks}
+use Rattle.prom_exporter.specs.Stepped.{IsNoted}
 
 sees-looked : (v : View SeriesCall) (log : List (Entry SeriesCall)) → Sees v log → Sees (looked v log) log
 sees-looked v log sees = record {
@@ -28,3 +30,19 @@ module _ {R : Type 0} (value_of : List SeriesCall → R) where
     shows.2 ∙ ap (λ (u : View SeriesCall). value_of (calls u.seen)) (sym shows.3),
     λ home. subst (λ (u : View SeriesCall). Sees u u.seen) (sym shows.3) (sees-looked v shows.0 shows.1),
   )
+
+-- where series never fall idle a look is all
+pub look_noted : {F : Type 0} (moment : ℕ) (kind : MetricKind) (s t : Shared F) → Looks s t → IsNoted None moment kind s true t
+look_noted {F} moment kind s t looks = record {
+  seen = t;
+  looks = looks;
+  count = length t.root.seen % 2 ^ 64;
+  counts = (
+    length t.root.seen,
+    refl,
+    (t.root.seen, subst (λ (x : Shared F). Sees x.root x.root.seen) (sym looks.2) (sees-looked s.root looks.0 looks.1), omega arith),
+    λ root home. refl,
+  );
+  stays_is = refl;
+  left = refl;
+}

@@ -1,7 +1,6 @@
 -- A registry of shared cells, and that of the calls that the exporter has seen of them.
-use Rattle.std.proofs.Common.{◌≡◌, ℕ, Bool, true, false, cond, List, [], ◌∷◌, map, Some, refl, sym, ap, subst, ◌∙◌}
+use Rattle.std.proofs.Common.{◌≡◌, ℕ, Bool, true, false, cond, List, [], ◌∷◌, map, Some, refl, sym, subst, ◌∙◌}
 use Rattle.std.specs.Prelude.{◌==◌, find, option_map}
-use Rattle.std.specs.List.{AllZip}
 use Rattle.metrics_core.specs.declared.kinds.MetricKind.{MetricKind}
 use Rattle.metrics_core.specs.declared.kinds.MetricKind.TheVariants as kinds
 use Rattle.metrics_core.specs.declared.kinds.SeriesId.{SeriesId}
@@ -9,36 +8,18 @@ use Rattle.metrics_core.specs.Kinds.{kind_eq}
 use Rattle.metrics_core.proofs.KindTests.{kind_eq-same}
 use Rattle.std.proofs.lemmas.Bool.{and_parts}
 use Rattle.metrics_core.specs.Keys.{KeyText, key_eq}
-use Rattle.metrics_core.specs.Calls.{Call}
-use Rattle.metrics_registry.specs.Live.{LiveSeries, RegistryText, has_id, has_key, id_of_key, cell_of, with_cell, IsBelowAll, Rises, AreOf, IsNumbered}
-use Rattle.std.specs.Borrow.{MutBor}
-use Rattle.std.specs.Fn.{Mut, Called}
-use Rattle.metrics_registry.specs.Retained.{AskedAt, Retains}
-use Rattle.prom_exporter.specs.Exporter.{SeriesLooks}
-use Rattle.prom_exporter.specs.Shared.{Shared, Looks, calls_seen}
-use Rattle.prom_exporter.specs.Values.{seen_series, seen_registry}
+use Rattle.metrics_registry.specs.Live.{LiveSeries, RegistryText, has_id, has_key, id_of_key, cell_of, IsBelowAll, Rises, AreOf, IsNumbered}
+use Rattle.prom_exporter.specs.Shared.{Shared}
+use Rattle.prom_exporter.specs.Values.{SeenCell, seen_series, seen_registry}
 
 module _ {F : Type 0} where
   pub id_of_key-seen : (key : KeyText) (es : List (LiveSeries (Shared F))) → id_of_key key (map seen_series es) ≡ id_of_key key es
   id_of_key-seen key [] = refl
   id_of_key-seen key (e ∷ es) =
-      elim (key_eq e.key key) as (λ b. option_map (λ (s : LiveSeries (List Call)). s.id) (cond b (Some (seen_series e)) (find (has_key key) (map seen_series es))) ≡ option_map (λ (s : LiveSeries (Shared F)). s.id) (cond b (Some e) (find (has_key key) es))) [
+      elim (key_eq e.key key) as (λ b. option_map (λ (s : LiveSeries SeenCell). s.id) (cond b (Some (seen_series e)) (find (has_key key) (map seen_series es))) ≡ option_map (λ (s : LiveSeries (Shared F)). s.id) (cond b (Some e) (find (has_key key) es))) [
         | true ↦ refl
         | false ↦ id_of_key-seen key es
       ]
-
-  pub cell_of-seen : (id : SeriesId) (es : List (LiveSeries (Shared F))) → cell_of id (map seen_series es) ≡ option_map calls_seen (cell_of id es)
-  cell_of-seen id [] = refl
-  cell_of-seen id (e ∷ es) =
-      elim (has_id id e) as (λ b. option_map (λ (s : LiveSeries (List Call)). s.cell) (cond b (Some (seen_series e)) (find (has_id id) (map seen_series es))) ≡ option_map calls_seen (option_map (λ (s : LiveSeries (Shared F)). s.cell) (cond b (Some e) (find (has_id id) es)))) [
-        | true ↦ refl
-        | false ↦ cell_of-seen id es
-      ]
-
-  pub with_cell-seen : (id : SeriesId) (cell : Shared F) (es : List (LiveSeries (Shared F))) → map seen_series (with_cell id es cell) ≡ with_cell id (map seen_series es) (calls_seen cell)
-  with_cell-seen id cell [] = refl
-  with_cell-seen id cell (e ∷ es) =
-      (λ j. elim (has_id id e) as (λ b. seen_series (cond b (record e { cell = cell }) e) ≡ cond b (record (seen_series e) { cell = calls_seen cell }) (seen_series e)) [ true ↦ refl | false ↦ refl ] j ∷ with_cell-seen id cell es j)
 
   is_below_all-seen : (n : ℕ) (es : List (LiveSeries (Shared F))) → IsBelowAll n es → IsBelowAll n (map seen_series es)
   is_below_all-seen n [] h = tt
@@ -73,18 +54,3 @@ is_numbered-seen registry h = record {
   gauges = (rises-seen registry.gauges h.gauges.0, are_of-seen _ _ registry.gauges h.gauges.1);
   histograms = h.histograms;
 }
-
--- ---- looking on
-
-module _ {K F : Type 0} (g : Mut K (SeriesId × (MutBor (Shared F) × Unit {0})) (Bool × (MutBor (Shared F) × Unit {0})))
-    (says : (f : K) (id : SeriesId) (cell : MutBor (Shared F)) (b : Bool) (left : MutBor (Shared F)) (f' : K) → Called g f (id, (cell, tt)) (b, (left, tt)) f' → (b ≡ true) × Looks cell.now left.now) where
-  asked : (f : K) (id : SeriesId) (cell : Shared F) (b : Bool) (left : Shared F) (f' : K) → AskedAt g f id cell b left f' → (b ≡ true) × Looks cell left
-  asked f id cell b left f' a = rw (← a.shows, ← a.leaves) (says f id a.lent b a.left f' a.called)
-
-  -- a test that looks on of each cell, and keeps all
-  pub retains-looks : (f : K) (live kept : List (LiveSeries (Shared F))) (last : K) → Retains g f live kept last → AllZip SeriesLooks live kept
-  retains-looks f [] kept last done = rw done.0 tt
-  retains-looks f (series ∷ live) kept last done =
-      let own = asked f series.id series.cell done.0 done.1 done.2 done.4 in
-      subst (AllZip SeriesLooks (series ∷ live)) (sym (done.6 ∙ ap (λ b. cond b (record series { cell = done.1 } ∷ done.3) done.3) own.0))
-      ((refl, refl, own.1), retains-looks done.2 live done.3 last done.5)

@@ -11,12 +11,11 @@ use Rattle.prom_format.specs.Lines.{shown_label_set}
 use Rattle.prom_format.specs.declared.families.FamilyType.{FamilyType}
 use Rattle.prom_format.specs.declared.families.FamilyType.TheVariants as types
 use Rattle.prom_exporter.specs.State.{Series}
-use Rattle.prom_exporter.specs.Families.{distinct, names_of_kind, counter_rows, gauge_rows, family_of}
+use Rattle.prom_exporter.specs.Families.{ExporterSettings, distinct, names_of_kind, counter_rows, gauge_rows, family_of}
 use Rattle.prom_exporter.specs.Families as pages
-use Rattle.prom_exporter.specs.Exporter.{settings_with, body_shown}
+use Rattle.prom_exporter.specs.Kept.{NamesAsTheyAre}
 use Rattle.prom_exporter.specs.Shared.{Shared}
-use Rattle.prom_exporter.specs.Values.{series_of, seen_series, seen_registry, state_seen, counter_shown, gauge_shown, named, member_of, metric_name, value_row, value_family, value_families}
-use Rattle.prom_exporter.proofs.States.{page_step-same}
+use Rattle.prom_exporter.specs.Values.{series_of, seen_series, state_seen, counter_shown, gauge_shown, named, member_of, metric_name, value_row, value_family, value_families}
 
 abbrev metric : Series → List ℕ
 metric series = sanitized_metric_name series.key.name
@@ -66,18 +65,22 @@ row_of_series e value labels = record { name = metric_name (member_of e); labels
 one_row : {F : Type 0} (globals : List LabelText) (e : LiveSeries (Shared F)) (value : ℤ) → row_of_series e value (shown_label_set globals e.key.labels ++ []) ≡ row_of_series e value (shown_label_set globals e.key.labels)
 one_row globals e value = ap (row_of_series e value) (append-nil (shown_label_set globals e.key.labels))
 
-module _ {C G H : Type 0} (globals : List LabelText) (t : ℕ) (registry : RegistryText (Shared C) (Shared G) H) where
-  pub families_are : pages.families_at (settings_with globals) t (state_seen registry) ≡ value_families types.Counter counter_shown globals registry.counters ++ value_families types.Gauge gauge_shown globals registry.gauges
+-- the settings with names as they are
+abbrev plain : ExporterSettings → ExporterSettings
+plain settings = record settings { units = false; total_suffix = false }
+
+module _ {C G H : Type 0} (settings : ExporterSettings) (t : ℕ) (registry : RegistryText (Shared C) (Shared G) H) where
+  families_are : pages.families_at (plain settings) t (state_seen registry) ≡ value_families types.Counter counter_shown settings.globals registry.counters ++ value_families types.Gauge gauge_shown settings.globals registry.gauges
   families_are =
       append-nil _
       ∙ (λ j.
-      families_of_kind counter_shown globals (counter_rows (settings_with globals) (state_seen registry)) (λ e. one_row globals e (counter_shown e.cell)) types.Counter registry.counters j
-      ++ families_of_kind gauge_shown globals (gauge_rows (settings_with globals) (state_seen registry)) (λ e. one_row globals e (gauge_shown e.cell)) types.Gauge registry.gauges j)
+      families_of_kind counter_shown settings.globals (counter_rows (plain settings) (state_seen registry)) (λ e. one_row settings.globals e (counter_shown e.cell)) types.Counter registry.counters j
+      ++ families_of_kind gauge_shown settings.globals (gauge_rows (plain settings) (state_seen registry)) (λ e. one_row settings.globals e (gauge_shown e.cell)) types.Gauge registry.gauges j)
 
   -- the body of the page is the text of the groups
-  pub page_body-values : body_shown (settings_with globals) t (state_seen registry)
-      ≡ body_text (value_families types.Counter counter_shown globals registry.counters) ++ body_text (value_families types.Gauge gauge_shown globals registry.gauges)
-  page_body-values =
-      ap (λ s. body_text (pages.families_at (settings_with globals) t s)) (page_step-same t (seen_registry registry))
+  pub body-values : NamesAsTheyAre settings → body_text (pages.families_at settings t (state_seen registry))
+      ≡ body_text (value_families types.Counter counter_shown settings.globals registry.counters) ++ body_text (value_families types.Gauge gauge_shown settings.globals registry.gauges)
+  body-values names =
+      (λ j. body_text (pages.families_at (record settings { units = names.units j; total_suffix = names.total_suffix j }) t (state_seen registry)))
       ∙ ap body_text families_are
-      ∙ flat_map-append block_text (value_families types.Counter counter_shown globals registry.counters) (value_families types.Gauge gauge_shown globals registry.gauges)
+      ∙ flat_map-append block_text (value_families types.Counter counter_shown settings.globals registry.counters) (value_families types.Gauge gauge_shown settings.globals registry.gauges)

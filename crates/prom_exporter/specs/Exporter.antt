@@ -1,16 +1,15 @@
 -- An exporter as its contracts see it: what it was built with, and its live series with their cells.
 use Rattle.std.specs.Prelude.{◌≡◌, ℕ, ◌+◌, List, [], ◌∷◌, ◌++◌, map, pos, None, false, Some, All}
-use Rattle.std.specs.List.{AllZip}
 use Rattle.metrics_core.specs.Keys.{LabelText, KeyText}
 use Rattle.metrics_core.specs.declared.kinds.MetricKind.TheVariants as kinds
 use Rattle.metrics_core.specs.declared.kinds.SeriesId.{SeriesId}
-use Rattle.metrics_registry.specs.Live.{LiveSeries, RegistryText, cell_of, with_cell}
+use Rattle.metrics_registry.specs.Live.{RegistryText, cell_of, with_cell}
 use Rattle.series_cells.specs.declared.counter.PromCounter.{PromCounter}
 use Rattle.series_cells.specs.declared.gauge.PromGauge.{PromGauge}
 use Rattle.prom_format.specs.Pages.{Family, body_text}
 use Rattle.prom_exporter.specs.State.{PrometheusState, page_step}
 use Rattle.prom_exporter.specs.Families.{ExporterSettings, families_at}
-use Rattle.prom_exporter.specs.Shared.{Shared, IsHome, Looks, unused}
+use Rattle.prom_exporter.specs.Shared.{Shared, IsHome, unused}
 use Rattle.prom_exporter.specs.Values.{state_seen}
 
 -- the live series, each with its cell
@@ -53,18 +52,6 @@ settings_with globals = record default_settings { globals = globals }
 -- no pass of any cell is out
 abbrev pub AllHome : Exporter → Type 0
 AllHome exporter = All (λ series. IsHome series.cell) exporter.series.counters × All (λ series. IsHome series.cell) exporter.series.gauges
-
--- a series of which the exporter has looked on
-abbrev pub SeriesLooks : {F : Type 0} → LiveSeries (Shared F) → LiveSeries (Shared F) → Type 0
-SeriesLooks s t = (t.id ≡ s.id) × (t.key ≡ s.key) × Looks s.cell t.cell
-
--- the exporter has looked on of each series, and nothing else changed
-pub record LooksOn (old new : Exporter) : Type 0 where
-  pub settings : new.settings ≡ old.settings
-  pub counters : AllZip SeriesLooks old.series.counters new.series.counters
-  pub gauges : AllZip SeriesLooks old.series.gauges new.series.gauges
-  pub histograms : new.series.histograms ≡ old.series.histograms
-  pub made : new.series.made ≡ old.series.made
 
 -- a new counter goes last, and a new gauge: its cell is one that nobody has called
 abbrev pub AddsCounter : KeyText → Exporter → Exporter → Type 0
@@ -109,3 +96,7 @@ page_families moment exporter = families_shown exporter.settings moment (state_o
 
 abbrev pub page_body : ℕ → Exporter → List ℕ
 page_body moment exporter = body_shown exporter.settings moment (state_of exporter)
+
+-- the body of the families that an exporter shows at a moment, as it is
+abbrev pub shown_body : ℕ → Exporter → List ℕ
+shown_body moment exporter = body_text (families_at exporter.settings moment (state_of exporter))

@@ -1,9 +1,26 @@
--- That what the exporter keeps for its rows is what its series want.
-use Rattle.std.specs.Prelude.{◌≡◌, List}
+-- That what the exporter keeps for its rows is what its series want, and what it keeps of its settings.
+use Rattle.std.specs.Prelude.{◌≡◌, ℕ, List, take, length, false}
 use Rattle.metrics_core.specs.Keys.{LabelText}
-use Rattle.metrics_registry.specs.Live.{RegistryText}
+use Rattle.metrics_registry.specs.Live.{LiveSeries, RegistryText}
+use Rattle.distributions.specs.Kinds.{DistributionRules, kind_for}
+use Rattle.prom_exporter.specs.Families.{ExporterSettings, distribution_of}
 use Rattle.prom_exporter.specs.Rows.{RowsText, rows_of, keys_of}
 
-pub record IsKept {C G H : Type 0} (globals : List LabelText) (series : RegistryText C G H) (counter_rows gauge_rows : RowsText) : Type 0 where
-  pub counters : counter_rows ≡ rows_of globals (keys_of series.counters)
-  pub gauges : gauge_rows ≡ rows_of globals (keys_of series.gauges)
+-- what is kept for the rows of some series is what the first of them want: how many these are the kept beginnings tell. A page keeps the rest
+abbrev pub KeepsFirst : {X : Type 0} → List LabelText → List (LiveSeries X) → RowsText → Type 0
+KeepsFirst globals live rows = rows ≡ rows_of globals (take (length rows.heads) (keys_of live))
+
+-- names have neither a unit nor the suffix of counters
+pub record NamesAsTheyAre (settings : ExporterSettings) : Type 0 where
+  pub units : settings.units ≡ false
+  pub total_suffix : settings.total_suffix ≡ false
+
+-- distributions are of the kinds that follow from the settings
+abbrev pub FitsSettings : ExporterSettings → DistributionRules → Type 0
+FitsSettings settings distributions = (name : List ℕ) → kind_for distributions name ≡ distribution_of settings name
+
+pub record IsKept {C G H : Type 0} (settings : ExporterSettings) (distributions : DistributionRules) (series : RegistryText C G H) (counter_rows gauge_rows : RowsText) : Type 0 where
+  pub counters : KeepsFirst settings.globals series.counters counter_rows
+  pub gauges : KeepsFirst settings.globals series.gauges gauge_rows
+  pub names : NamesAsTheyAre settings
+  pub kinds : FitsSettings settings distributions

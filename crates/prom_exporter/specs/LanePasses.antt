@@ -50,6 +50,8 @@ TakesCall (cells.Counter _) (calls.Subtract _) = ⊥
 TakesCall (cells.Counter _) (calls.Set _) = ⊥
 TakesCall (cells.Gauge _) (calls.Increment _) = ⊥
 TakesCall (cells.Gauge _) (calls.Absolute _) = ⊥
+TakesCall (cells.Counter _) (calls.Record _ _ _) = ⊥
+TakesCall (cells.Gauge _) (calls.Record _ _ _) = ⊥
 
 -- a call stands in the history as itself
 abbrev pub StandsAsItself : SeriesCall → List SeriesCall → Type 0
@@ -59,7 +61,7 @@ StandsAsItself call made = made ≡ call ∷ []
 
 -- a series, but for what the exporter knows of it
 abbrev pub unseen : {F : Type 0} → LiveSeries (Shared F) → LiveSeries (Shared F)
-unseen series = record series { cell = unused series.cell.cell }
+unseen series = record series { cell = record (unused series.cell.cell) { note = series.cell.note } }
 
 -- the exporter, but for that
 abbrev pub frame_of : Exporter → Exporter

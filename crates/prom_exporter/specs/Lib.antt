@@ -8,5 +8,7 @@ pub mod Kept
 pub mod Sending
 pub mod Exporter
 pub mod Lending
+pub mod Stepped
+pub mod Builder
 pub mod LanePasses
 pub mod Vectors

@@ -1,5 +1,5 @@
--- A counter or a gauge as the exporter keeps it: the cell, and what the exporter's own pass of it knows.
-use Rattle.std.specs.Prelude.{◌≡◌, List}
+-- A counter or a gauge as the exporter keeps it: the cell, what the exporter's own pass of it knows, and what the last page noted of it.
+use Rattle.std.specs.Prelude.{◌≡◌, ℕ, List, Option, None}
 use Rattle.legal_history.specs.declared.history.Entry.{Entry}
 use Rattle.legal_history.specs.declared.history.View.{View}
 use Rattle.legal_history.specs.History.{calls, looked, first, lender, taker, Sees}
@@ -10,6 +10,7 @@ use Rattle.metrics_core.specs.Calls.{Call}
 pub record Shared (F : Type 0) : Type 0 where
   pub cell : F
   pub root : View SeriesCall
+  pub note : Option (ℕ × ℕ)  -- count of updates, moment
 
 -- with no pass out, the exporter's own pass has seen the whole history
 abbrev pub KnowsAll : View SeriesCall → Type 0
@@ -24,9 +25,9 @@ module _ {F : Type 0} where
   abbrev pub IsHome : Shared F → Type 0
   IsHome s = (s.root.number ≡ 0) × (s.root.out ≡ 0)
 
-  -- a cell that nobody has called, with no pass out
+  -- a cell that nobody has called, with no pass out and no note
   abbrev pub unused : F → Shared F
-  unused cell = record { cell = cell; root = first }
+  unused cell = record { cell = cell; root = first; note = None }
 
   -- the exporter has looked on: it has seen a beginning of the history that has all that it had seen
   abbrev pub Looks : Shared F → Shared F → Type 0

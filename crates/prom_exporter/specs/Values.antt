@@ -1,5 +1,5 @@
 -- Counters and gauges as the exporter keeps them, and the state and the families that they make.
-use Rattle.std.specs.Prelude.{ℕ, List, [], ◌∷◌, ◌++◌, map, filter, ℤ, None, bytes_eq, if◌then◌else◌}
+use Rattle.std.specs.Prelude.{ℕ, List, [], ◌∷◌, ◌++◌, map, filter, ℤ, Option, None, bytes_eq, if◌then◌else◌}
 use Rattle.metrics_core.specs.Numbers.{whole}
 use Rattle.metrics_core.specs.Keys.{KeyText, LabelText}
 use Rattle.metrics_core.specs.Calls.{Call, counter_value, gauge_value}
@@ -14,12 +14,17 @@ use Rattle.prom_exporter.specs.Shared.{Shared, calls_seen}
 
 -- ---- the state
 
--- a live series, whose cell is seen as all calls on it
-abbrev pub series_of : LiveSeries (List Call) → Series
-series_of series = record { number = series.id.number; key = series.key; calls = series.cell; note = None }
+-- a cell as a state sees it: all calls on it, and what the last page noted of it
+pub record SeenCell : Type 0 where
+  pub calls : List Call
+  pub note : Option (ℕ × ℕ)
+
+-- a live series
+abbrev pub series_of : LiveSeries SeenCell → Series
+series_of series = record { number = series.id.number; key = series.key; calls = series.cell.calls; note = series.cell.note }
 
 -- the state of a registry, where nothing was described
-abbrev pub state_of : {H : Type 0} → RegistryText (List Call) (List Call) H → PrometheusState
+abbrev pub state_of : {H : Type 0} → RegistryText SeenCell SeenCell H → PrometheusState
 state_of registry = record {
   counters = map series_of registry.counters;
   gauges = map series_of registry.gauges;
@@ -30,10 +35,13 @@ state_of registry = record {
 }
 
 -- the series of shared cells, each with the calls that the exporter has seen
-abbrev pub seen_series : {F : Type 0} → LiveSeries (Shared F) → LiveSeries (List Call)
-seen_series series = record { id = series.id; key = series.key; cell = calls_seen series.cell }
+abbrev pub seen_cell : {F : Type 0} → Shared F → SeenCell
+seen_cell cell = record { calls = calls_seen cell; note = cell.note }
 
-abbrev pub seen_registry : {C G H : Type 0} → RegistryText (Shared C) (Shared G) H → RegistryText (List Call) (List Call) H
+abbrev pub seen_series : {F : Type 0} → LiveSeries (Shared F) → LiveSeries SeenCell
+seen_series series = record { id = series.id; key = series.key; cell = seen_cell series.cell }
+
+abbrev pub seen_registry : {C G H : Type 0} → RegistryText (Shared C) (Shared G) H → RegistryText SeenCell SeenCell H
 seen_registry registry = record {
   counters = map seen_series registry.counters;
   gauges = map seen_series registry.gauges;

@@ -6,8 +6,9 @@ ghost use Rattle.legal_history.specs.History.{child, first, Settled};
 ghost use Rattle.metrics_core.specs.Numbers.{page_number};
 ghost use Rattle.prom_exporter.specs.Shared.{unused, with_one_out, Looks, TakesBack};
 
-use cell_lanes::{LentCell, OwnedCell, ValueCell};
-use metrics_core::{Fixed, Memory, SeriesCall};
+use cell_lanes::{CountedCell, LentCell, OwnedCell, ValueCell};
+use metrics_core::{Fixed, Memory, MetricKind, SeriesCall};
+use metrics_registry::Recency;
 use prom_format::{push_count, push_fixed};
 use series_cells::{PromCounter, PromGauge};
 use std::alloc::Global;
@@ -33,6 +34,8 @@ pub(crate) struct KeptCell<C: ValueCell<Call = SeriesCall, Entry = SeriesCall>> 
     owned: OwnedCell<C>,
     /// The value after the calls that the exporter has seen.
     value: C::Reading,
+    /// How many updates a page has found, modulo 2^64, and the moment at which a page found so many first.
+    note: Option<(u64, u64)>,
 }
 
 impl<C: ValueCell<Call = SeriesCall, Entry = SeriesCall>> Model for KeptCell<C> {
@@ -42,7 +45,7 @@ impl<C: ValueCell<Call = SeriesCall, Entry = SeriesCall>> Model for KeptCell<C> 
 
     ghost Value = { Shared C };
 
-    ghost view = { λ kept. record { cell = kept.owned.fixed; root = kept.owned.root } };
+    ghost view = { λ kept. record { cell = kept.owned.fixed; root = kept.owned.root; note = kept.note } };
 
     ghost use Rattle.prom_exporter.specs.Shared.{KnowsAll};
 
@@ -56,7 +59,11 @@ impl<C: ValueCell<Call = SeriesCall, Entry = SeriesCall>> KeptCell<C> {
         requires value { value ≡ C.value_of [] }
         ensures { result ≡ unused owned.fixed }
     {
-        KeptCell { owned, value }
+        KeptCell {
+            owned,
+            value,
+            note: None,
+        }
     }
 
     /// Reads the cell, if a pass of it is out. Where none is, its value was read when the last one came back.
@@ -104,6 +111,26 @@ impl<C: ValueCell<Call = SeriesCall, Entry = SeriesCall>> KeptCell<C> {
     {
         self.owned.take_pass(lent.into_pass());
         self.value = self.owned.value();
+    }
+}
+
+impl<C: CountedCell<Call = SeriesCall, Entry = SeriesCall>> KeptCell<C> {
+    ghost use Rattle.std.specs.Prelude.{None, unwrap_or};
+    ghost use Rattle.prom_exporter.specs.Stepped.{IsNoted};
+
+    /// Reads the cell for a page at a moment, and where series of its kind may fall idle notes how many updates it has. Answers
+    /// whether the cell stays: false exactly where it is idle.
+    pub(crate) fn stays(&mut self, recency: &Option<Recency>, kind: MetricKind, moment: u64) -> bool
+        ensures { IsNoted (unwrap_or recency.now None) moment kind self.old result self.new }
+    {
+        self.read();
+        match recency {
+            Some(recency) => {
+                let updates = self.owned.updates();
+                recency.should_store(kind, &mut self.note, updates, moment)
+            }
+            None => true,
+        }
     }
 }
 

@@ -9,6 +9,15 @@ use thiserror::Error;
 /// A refusal of the exporter.
 #[derive(Clone, Copy, Debug, PartialEq, Eq, Error)]
 pub enum BuildError {
+    /// Bounds or quantiles were set of which there are none.
+    #[error("bucket bounds/quantiles cannot be empty")]
+    EmptyBucketsOrQuantiles,
+    /// The buckets of summaries were to last no time.
+    #[error("bucket durations cannot be set to zero")]
+    ZeroBucketDuration,
+    /// The buckets of a summary's window together are longer than 64 bits of nanoseconds.
+    #[error("bucket durations exceed 64 bits of nanoseconds")]
+    SpanTooLong,
     /// The sink failed.
     #[error("write failed")]
     WriteFault,

@@ -87,6 +87,13 @@ impl Heads {
         self.text.truncate(end);
     }
 
+    /// Lets all of them go.
+    pub(crate) fn clear(&mut self)
+        ensures { self.new ≡ [] }
+    {
+        self.truncate(0);
+    }
+
     /// The one at a place, from 0, if there is one.
     pub(crate) fn get(&self, place: usize) -> Option<&str>
         ensures { option_copied result ≡ slice_get self.now place }

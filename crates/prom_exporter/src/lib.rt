@@ -4,7 +4,7 @@
 //!
 //!     let mut exporter = PrometheusBuilder::new(alloc)?.build_state(alloc)?;
 //!     let id = exporter.register_counter(alloc, &key)?;
-//!     exporter.render_to_write(alloc, moment, &mut sink)?;
+//!     exporter.render_to_write(rt, alloc, moment, &mut sink)?;
 #![tactic(auto)]
 
 mod builder;
@@ -16,6 +16,7 @@ mod laws;
 mod lent;
 mod pages;
 mod rows;
+mod settings;
 mod state;
 
 pub use builder::PrometheusBuilder;

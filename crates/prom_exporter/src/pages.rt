@@ -1,6 +1,6 @@
 //! The body of a page, written to a sink (Prometheus text exposition format, version 0.0.4).
 
-ghost use Rattle.std.specs.Prelude.{◌≡◌, ◌≤◌, ◌++◌, ◌∷◌, [], ℕ, List, Option, flat_map, OnOk, OnErr, string_bytes};
+ghost use Rattle.std.specs.Prelude.{◌≡◌, ◌≤◌, ◌++◌, ◌∷◌, [], ℕ, List, Option, flat_map, ◌⊎◌, IfErr, OnOk, OnErr, string_bytes};
 ghost use Rattle.metrics_core.specs.Characters.{line};
 ghost use Rattle.metrics_core.specs.Outside.{Rose, GrewByPrefix};
 ghost use Rattle.prom_format.specs.Pages.{type_line_text};
@@ -32,6 +32,7 @@ pub(crate) fn write_families<C: Shown, K: Sink>(
     ensures prefix { (start : Option (List ℕ)) (bytes : List ℕ) → IsSent start (K.written sink.old) (string_bytes buffer.old) bytes
         → OnErr result (GrewByPrefix start (K.written sink.new)
         (bytes ++ flat_map (kept_block C.shown family_type rows.now.heads series.now) rows.now.families)) }
+    ensures errors { IfErr result (λ error. (error ≡ BuildError.WriteFault) ⊎ (error ≡ BuildError.Memory)) }
     ensures cause { result ≡ Err BuildError.WriteFault → Rose (K.faults sink.old) (K.faults sink.new) }
     ensures never_falls { K.faults sink.old ≤ K.faults sink.new }
 {
@@ -63,6 +64,7 @@ fn write_rows<C: Shown, K: Sink>(
         → OnOk result (IsSent start (K.written sink.new) (string_bytes buffer.new) (bytes ++ flat_map (row_at C.shown rows.now.heads series.now) places.now)) }
     ensures prefix { (start : Option (List ℕ)) (bytes : List ℕ) → IsSent start (K.written sink.old) (string_bytes buffer.old) bytes
         → OnErr result (GrewByPrefix start (K.written sink.new) (bytes ++ flat_map (row_at C.shown rows.now.heads series.now) places.now)) }
+    ensures errors { IfErr result (λ error. (error ≡ BuildError.WriteFault) ⊎ (error ≡ BuildError.Memory)) }
     ensures cause { result ≡ Err BuildError.WriteFault → Rose (K.faults sink.old) (K.faults sink.new) }
     ensures never_falls { K.faults sink.old ≤ K.faults sink.new }
 {
@@ -101,6 +103,7 @@ fn send_full<K: Sink>(buffer: &mut String, sink: &mut K) -> Result<(), BuildErro
         → OnOk result (IsSent start (K.written sink.new) (string_bytes buffer.new) bytes) }
     ensures prefix { (start : Option (List ℕ)) (bytes : List ℕ) → IsSent start (K.written sink.old) (string_bytes buffer.old) bytes
         → OnErr result (GrewByPrefix start (K.written sink.new) bytes) }
+    ensures errors { IfErr result (λ error. (error ≡ BuildError.WriteFault) ⊎ (error ≡ BuildError.Memory)) }
     ensures cause { result ≡ Err BuildError.WriteFault → Rose (K.faults sink.old) (K.faults sink.new) }
     ensures never_falls { K.faults sink.old ≤ K.faults sink.new }
 {

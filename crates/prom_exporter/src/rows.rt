@@ -1,9 +1,10 @@
-//! What is kept of the series of one kind for the rows of pages. It is made once, when a series is registered.
+//! What is kept of the series of one kind for the rows of pages. It is made once, by the first page after a series was registered,
+//! and anew where a page removed series.
 
-ghost use Rattle.std.specs.Prelude.{◌≡◌, ◌++◌, [], ◌∷◌, ℕ, List, map, OnOk, OnErr, IfOk, string_bytes};
+ghost use Rattle.std.specs.Prelude.{◌≡◌, ◌++◌, [], ◌∷◌, ℕ, List, length, map, OnOk, OnErr, IfOk, string_bytes};
 ghost use Rattle.metrics_core.specs.Keys.{KeyText};
 ghost use Rattle.prom_format.specs.LabelSets.{labels_of};
-ghost use Rattle.metrics_registry.specs.Live.{LiveSeries};
+ghost use Rattle.prom_exporter.specs.Kept.{KeepsFirst};
 ghost use Rattle.prom_exporter.specs.Rows.{family_kept, keys_of, rows_of};
 ghost use Rattle.prom_format.specs.Names.{sanitized_metric_name};
 ghost use Rattle.prom_exporter.specs.Values.{with_member};
@@ -44,22 +45,34 @@ impl Rows {
         }
     }
 
-    /// Keeps what the last of some series wants, where that of the others is kept.
-    pub(crate) fn add_last<C>(
+    /// Keeps what all of so many series want, where what the first of them want is kept. Where memory is refused it is kept of
+    /// some more of them, or of none.
+    pub(crate) fn catch_up<C>(
         &mut self,
         alloc: Global,
         series: &SeriesIter<'_, C>,
+        count: usize,
         globals: &IndexMap<String, String>,
     ) -> Result<(), Memory>
-        ensures added { OnOk result ((others : List (LiveSeries C)) (last : LiveSeries C)
-            → self.old ≡ rows_of (labels_of globals.now.entries) (keys_of others) → series.now ≡ others ++ last ∷ []
-            → self.new ≡ rows_of (labels_of globals.now.entries) (keys_of series.now)) }
-        ensures refused { OnErr result (self.new ≡ self.old) }
+        requires count { count ≡ length series.now }
+        requires first { KeepsFirst (labels_of globals.now.entries) series.now self.old }
+        ensures all { OnOk result (self.new ≡ rows_of (labels_of globals.now.entries) (keys_of series.now)) }
+        ensures first { KeepsFirst (labels_of globals.now.entries) series.now self.new }
     {
-        match series.key(self.heads.len()) {
-            Some(key) => self.add(alloc, key, globals),
-            None => Ok(()),
+        for place in self.heads.len()..count {
+            if let Some(key) = series.key(place) {
+                self.add(alloc, key, globals)?;
+            }
         }
+        Ok(())
+    }
+
+    /// Lets all go.
+    pub(crate) fn clear(&mut self)
+        ensures { self.new ≡ record { heads = []; families = [] } }
+    {
+        self.heads.clear();
+        self.families.clear();
     }
 
     /// Keeps what one more series wants, which stands behind the others.

@@ -1,14 +1,17 @@
 //! The state of the exporter: its live series of each kind, in order of registration.
 
-ghost use Rattle.std.specs.Prelude.{◌≡◌, ◌+◌, ◌-◌, ◌^◌, ◌<◌, ◌≤◌, ◌⊎◌, length, set, All, IsOk, IfOk, OnErr, OnOk, true, false};
+ghost use Rattle.std.specs.Prelude.{◌≡◌, ◌+◌, ◌-◌, ◌^◌, ◌<◌, ◌≤◌, ◌⊎◌, length, set, All, IfOk, IfErr, OnErr, OnOk, None, slice_get, true, unwrap_or};
 ghost use Rattle.metrics_core.specs.declared.kinds.MetricKind.TheVariants.{Counter, Gauge};
 ghost use Rattle.metrics_registry.specs.Live.{IsNumbered};
 ghost use Rattle.metrics_core.specs.Outside.{Rose, GrewBy, GrewByPrefix};
 ghost use Rattle.prom_format.specs.LabelSets.{labels_of};
 ghost use Rattle.series_cells.specs.Pass.{view_of};
 ghost use Rattle.prom_exporter.specs.State.{register, number_given, page_step};
-ghost use Rattle.prom_exporter.specs.Shared.{TakesBack, Looks};
-ghost use Rattle.prom_exporter.specs.Exporter.{Exporter, settings_with, state_of, no_cells, AllHome, AddsCounter, AddsGauge, ChangesCounter, ChangesGauge, LooksOn, page_body};
+ghost use Rattle.prom_exporter.specs.Shared.{TakesBack};
+ghost use Rattle.prom_exporter.specs.Builder.{with_globals, SpanIsTooLong};
+ghost use Rattle.prom_exporter.specs.Kept.{NamesAsTheyAre};
+ghost use Rattle.prom_exporter.specs.Stepped.{IsNoted, AreNoted, Steps};
+ghost use Rattle.prom_exporter.specs.Exporter.{Exporter, state_of, no_cells, AllHome, AddsCounter, AddsGauge, ChangesCounter, ChangesGauge, page_body, shown_body};
 ghost use mathlib.Core.Option.{some};
 ghost use lib.ListN.{get_elem?};
 ghost use Rattle.legal_history.specs.History.{lender, child};
@@ -16,7 +19,7 @@ ghost use Rattle.cell_lanes.specs.Things.{Thing, TookBack, root_of};
 ghost use Rattle.cell_lanes.specs.Lanes.{SettledAt};
 ghost use Rattle.metrics_core.specs.declared.calls.SeriesCall.{SeriesCall};
 ghost use Rattle.prom_exporter.specs.declared.lanes.SeriesCell.{SeriesCell};
-ghost use Rattle.prom_exporter.specs.LanePasses.{things_of, frame_of, pass_known, IsPassOf, IsIndex};
+ghost use Rattle.prom_exporter.specs.LanePasses.{things_of, frame_of, ids_of, pass_known, IsPassOf, IsIndex};
 ghost use Rattle.prom_exporter.specs.Lending.{LendsCounter, LendsGauge, LentCounter, LentGauge, HasNoCounter, HasNoGauge};
 
 use crate::BuildError;
@@ -25,6 +28,8 @@ use crate::lanes::LanePass;
 use crate::lent::Lent;
 use crate::pages::write_families;
 use crate::rows::Rows;
+use crate::settings::Settings;
+use distributions::DistributionBuilder;
 use indexmap::IndexMap;
 use metrics_core::{Key, Memory, MetricKind, SeriesId, Sink, write_whole};
 use metrics_facade as facade;
@@ -33,12 +38,15 @@ use prom_format::FamilyType;
 use series_cells::{CellPass, PromCounter, PromGauge};
 use std::alloc::Global;
 use std::marker::Model;
+use std::sync::Wait;
 
 /// The exporter: what it was built with, and its series. Each counter and each gauge is a cell that threads share, of which
 /// the exporter has the root pass; it lends passes of it and takes them back.
 #[derive(Drop)]
 pub struct PrometheusState {
     globals: IndexMap<String, String>,
+    settings: Settings,
+    distributions: DistributionBuilder,
     series: Registry<CounterCell, GaugeCell, ()>,
     counter_rows: Rows,
     gauge_rows: Rows,
@@ -46,28 +54,34 @@ pub struct PrometheusState {
 
 impl Model for PrometheusState {
     ghost use Rattle.prom_format.specs.LabelSets.{labels_of};
-    ghost use Rattle.prom_exporter.specs.Exporter.{Exporter, settings_with};
+    ghost use Rattle.prom_exporter.specs.Builder.{with_globals};
+    ghost use Rattle.prom_exporter.specs.Exporter.{Exporter};
 
     ghost Value = { Exporter };
 
-    ghost view = { λ s. record { settings = settings_with (labels_of s.globals.entries); series = s.series } };
+    ghost view = { λ s. record { settings = with_globals s.settings (labels_of s.globals.entries); series = s.series } };
 
     ghost use Rattle.prom_exporter.specs.Kept.{IsKept};
 
-    ghost invariant = { λ s. IsKept (labels_of s.globals.entries) s.series s.counter_rows s.gauge_rows };
+    ghost invariant = { λ s. IsKept (with_globals s.settings (labels_of s.globals.entries)) s.distributions s.series s.counter_rows s.gauge_rows };
 }
 
 impl PrometheusState {
-    /// An exporter with these global labels, otherwise with the default settings, and no series.
+    /// An exporter with these global labels and settings, and no series.
     pub(crate) fn new(
         alloc: Global,
         globals: IndexMap<String, String>,
+        settings: Settings,
     ) -> Result<PrometheusState, Memory>
-        ensures made { IfOk result (λ exporter. exporter ≡ record { settings = settings_with (labels_of globals.entries); series = no_cells }) }
-        ensures no_memory { IsOk result }
+        requires span { SpanIsTooLong settings → ⊥ }
+        requires names { NamesAsTheyAre settings }
+        ensures made { IfOk result (λ exporter. exporter ≡ record { settings = with_globals settings (labels_of globals.entries); series = no_cells }) }
     {
+        let distributions = settings.distributions(alloc)?;
         Ok(PrometheusState {
             globals,
+            settings,
+            distributions,
             series: Registry::new(alloc)?,
             counter_rows: Rows::new(alloc),
             gauge_rows: Rows::new(alloc),
@@ -124,11 +138,6 @@ impl PrometheusState {
         let Ok(id) = self.series.add_counter(key, cell) else {
             return Err(Memory);
         };
-        let counters = self.series.counters();
-        if let Err(refused) = self.counter_rows.add_last(alloc, &counters, &self.globals) {
-            self.series.take_back_counter();
-            return Err(refused);
-        }
         Ok(id)
     }
 
@@ -172,11 +181,6 @@ impl PrometheusState {
         let Ok(id) = self.series.add_gauge(key, cell) else {
             return Err(Memory);
         };
-        let gauges = self.series.gauges();
-        if let Err(refused) = self.gauge_rows.add_last(alloc, &gauges, &self.globals) {
-            self.series.take_back_gauge();
-            return Err(refused);
-        }
         Ok(id)
     }
 
@@ -265,6 +269,54 @@ impl PrometheusState {
         Some(self.series.counter_count() + place)
     }
 
+    /// The index of a series, as `index_of` answers it. The search begins at the place among those of its kind where the series
+    /// was found last, which `guess` keeps; it may be any number, and saves time alone.
+    pub fn index_near(&self, id: SeriesId, guess: &mut u32) -> Option<usize>
+        ensures index { IsIndex id self.now result }
+        ensures numbered { IsNumbered self.now.series }
+    {
+        let begin = self.begin_of(id.kind);
+        let near = begin.saturating_add(*guess as usize);
+        if self.stands_at(id, near) {
+            // The clause on numbers needs how many were made.
+            let _made = self.series.made();
+            return Some(near);
+        }
+        let index = self.index_of(id)?;
+        *guess = u32::try_from(index.saturating_sub(begin)).unwrap_or(0);
+        Some(index)
+    }
+
+    /// Whether the series with this index has the id.
+    fn stands_at(&self, id: SeriesId, index: usize) -> bool
+        ensures { result ≡ true → get_elem? (ids_of self.now) index ≡ some id }
+    {
+        match self.id_at(index) {
+            Some(own) => own == id,
+            None => false,
+        }
+    }
+
+    /// The id of the series with this index, if there is one.
+    fn id_at(&self, index: usize) -> Option<SeriesId>
+        ensures { result ≡ slice_get (ids_of self.now) index }
+    {
+        let counters = self.series.counter_count();
+        if index < counters {
+            self.series.counters().id(index)
+        } else {
+            self.series.gauges().id(index - counters)
+        }
+    }
+
+    /// Where the indices of the series of a kind begin.
+    fn begin_of(&self, kind: MetricKind) -> usize {
+        match kind {
+            MetricKind::Counter => 0,
+            MetricKind::Gauge | MetricKind::Histogram => self.series.counter_count(),
+        }
+    }
+
     /// How many counters are live: the indices of gauges begin there.
     pub fn counter_count(&self) -> usize
         ensures count { result ≡ length self.now.series.counters }
@@ -334,50 +386,99 @@ impl PrometheusState {
         }
     }
 
-    /// Reads every cell, each once.
-    fn read(&mut self)
-        ensures { LooksOn self.old self.new }
+    /// Makes the page step at a moment, in nanoseconds: reads every cell, notes how many updates those have that may fall idle,
+    /// and removes those that are idle. It takes no memory.
+    fn step(&mut self, moment: u64)
+        ensures { Steps moment self.old self.new }
     {
-        self.series.retain_counters(
-            |_: SeriesId, cell: &mut CounterCell| -> bool
-                ensures { (result ≡ true) × Looks cell.entry.now cell.exit.now }
-            {
-                cell.read();
-                true
-            },
-        );
-        self.series.retain_gauges(
-            |_: SeriesId, cell: &mut GaugeCell| -> bool
-                ensures { (result ≡ true) × Looks cell.entry.now cell.exit.now }
-            {
-                cell.read();
-                true
-            },
-        );
+        self.step_counters(moment);
+        self.step_gauges(moment);
     }
 
-    /// Writes the page's body at a moment, in nanoseconds (Prometheus text exposition format, version 0.0.4). It shows each
-    /// series after a beginning of its cell's history that has all that the exporter had seen; where no pass is out, after
-    /// all calls ever made. Where the sink fails a prefix of it was written.
-    pub fn render_to_write<K: Sink>(
+    /// Makes the page step of the counters.
+    fn step_counters(&mut self, moment: u64)
+        ensures noted { AreNoted self.old.settings.idle moment Counter self.old.series.counters self.new.series.counters }
+        ensures others { self.new ≡ record self.old { series = record self.old.series { counters = self.new.series.counters } } }
+    {
+        let recency = self.settings.recency_of(MetricKind::Counter);
+        let count = self.series.counter_count();
+        self.series.retain_counters(
+            move |_: SeriesId, cell: &mut CounterCell| -> bool
+                ensures { IsNoted (unwrap_or recency None) moment Counter cell.entry.now result cell.exit.now }
+            { cell.stays(&recency, MetricKind::Counter, moment) },
+        );
+        if self.series.counter_count() < count {
+            self.counter_rows.clear();
+        }
+    }
+
+    /// Makes the page step of the gauges.
+    fn step_gauges(&mut self, moment: u64)
+        ensures noted { AreNoted self.old.settings.idle moment Gauge self.old.series.gauges self.new.series.gauges }
+        ensures others { self.new ≡ record self.old { series = record self.old.series { gauges = self.new.series.gauges } } }
+    {
+        let recency = self.settings.recency_of(MetricKind::Gauge);
+        let count = self.series.gauge_count();
+        self.series.retain_gauges(
+            move |_: SeriesId, cell: &mut GaugeCell| -> bool
+                ensures { IsNoted (unwrap_or recency None) moment Gauge cell.entry.now result cell.exit.now }
+            { cell.stays(&recency, MetricKind::Gauge, moment) },
+        );
+        if self.series.gauge_count() < count {
+            self.gauge_rows.clear();
+        }
+    }
+
+    /// Makes the page step at a moment, in nanoseconds, and writes the page's body (Prometheus text exposition format, version
+    /// 0.0.4). It shows each series that stays after a beginning of its cell's history that has all that the exporter had seen;
+    /// where no pass is out, after all calls ever made. Where an idle timeout is set, a series without an update for longer goes,
+    /// and passes of it that are out reach nothing of the exporter any more. After an error the step was made too; where the sink
+    /// fails a prefix of the body was written.
+    pub fn render_to_write<R: Wait, K: Sink>(
+        &mut self,
+        _rt: &R,
+        alloc: Global,
+        moment: u64,
+        sink: &mut K,
+    ) -> Result<(), BuildError>
+        ensures steps { Steps moment self.old self.new }
+        ensures home { AllHome self.old → AllHome self.new }
+        ensures stepped { AllHome self.old → state_of self.new ≡ page_step self.old.settings.idle moment (state_of self.old) }
+        ensures page { AllHome self.old → shown_body moment self.new ≡ page_body moment self.old }
+
+        ensures body { OnOk result (GrewBy (K.written sink.old) (K.written sink.new) (shown_body moment self.new)) }
+        ensures prefix { OnErr result (GrewByPrefix (K.written sink.old) (K.written sink.new) (shown_body moment self.new)) }
+
+        ensures errors { IfErr result (λ error. (error ≡ BuildError.WriteFault) ⊎ (error ≡ BuildError.Memory)) }
+        ensures cause { result ≡ Err BuildError.WriteFault → Rose (K.faults sink.old) (K.faults sink.new) }
+        ensures never_falls { K.faults sink.old ≤ K.faults sink.new }
+    {
+        self.step(moment);
+        self.write_body(alloc, moment, sink)
+    }
+
+    /// Writes the body of the families that the exporter shows at a moment, as it is.
+    fn write_body<K: Sink>(
         &mut self,
         alloc: Global,
         moment: u64,
         sink: &mut K,
     ) -> Result<(), BuildError>
-        ensures read { LooksOn self.old self.new }
-        ensures home { AllHome self.old → self.new ≡ self.old }
-        ensures stepped { state_of self.new ≡ page_step self.new.settings.idle moment (state_of self.new) }
-
-        ensures body { OnOk result (GrewBy (K.written sink.old) (K.written sink.new) (page_body moment self.new)) }
-        ensures prefix { OnErr result (GrewByPrefix (K.written sink.old) (K.written sink.new) (page_body moment self.new)) }
-
+        ensures same { self.new ≡ self.old }
+        ensures body { OnOk result (GrewBy (K.written sink.old) (K.written sink.new) (shown_body moment self.old)) }
+        ensures prefix { OnErr result (GrewByPrefix (K.written sink.old) (K.written sink.new) (shown_body moment self.old)) }
+        ensures errors { IfErr result (λ error. (error ≡ BuildError.WriteFault) ⊎ (error ≡ BuildError.Memory)) }
         ensures cause { result ≡ Err BuildError.WriteFault → Rose (K.faults sink.old) (K.faults sink.new) }
         ensures never_falls { K.faults sink.old ≤ K.faults sink.new }
     {
-        self.read();
-        let mut buffer = String::new(alloc);
+        let (counter_count, gauge_count) = (self.series.counter_count(), self.series.gauge_count());
         let counters = self.series.counters();
+        self.counter_rows
+            .catch_up(alloc, &counters, counter_count, &self.globals)?;
+        let gauges = self.series.gauges();
+        self.gauge_rows
+            .catch_up(alloc, &gauges, gauge_count, &self.globals)?;
+        let mut buffer = String::new(alloc);
         write_families(
             FamilyType::Counter,
             &self.counter_rows,
@@ -385,7 +486,6 @@ impl PrometheusState {
             &mut buffer,
             sink,
         )?;
-        let gauges = self.series.gauges();
         write_families(
             FamilyType::Gauge,
             &self.gauge_rows,

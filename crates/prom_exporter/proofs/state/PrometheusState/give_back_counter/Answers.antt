@@ -1,14 +1,9 @@
-use Rattle.std.proofs.Common.{refl, sym, ap, ◌∙◌, inr}
-use Rattle.prom_format.specs.LabelSets.{labels_of}
-use Rattle.prom_exporter.specs.Rows.{rows_of}
-use Rattle.prom_exporter.proofs.KeptRows.{keys-with_cell}
+use Rattle.std.proofs.Common.{refl, sym, inr}
+use Rattle.prom_exporter.proofs.KeptRows.{keys-with_cell, kept_same}
 use Rattle.prom_exporter.proofs.state.PrometheusState.give_back_counter.Goals as goal
 
 pub returns-in-Some : goal.returns-in-Some
 returns-in-Some c = record { taken = rw (← c.self.view_is) (inr (c.in-Some.counter.now, c.take_back.new.self, sym c.in-Some.ensures.value, c.take_back.ensures, refl)) }
 
 pub invariant_of-self : goal.invariant_of-self
-invariant_of-self c = record {
-  counters = c.self.invariant.counters ∙ ap (rows_of (labels_of c.self.inside.globals.entries)) (sym (keys-with_cell _ c.self.inside.series.counters _));
-  gauges = c.self.invariant.gauges;
-}
+invariant_of-self c = kept_same _ _ c.self.inside.series _ _ _ c.self.invariant (keys-with_cell _ c.self.inside.series.counters _) refl

@@ -2,11 +2,10 @@ use Rattle.std.proofs.Common.{Some, refl, sym, ap, ◌∙◌}
 use Rattle.std.proofs.lemmas.Result.{err_from_is_err_and}
 use Rattle.prom_format.specs.LabelSets.{labels_of}
 use Rattle.metrics_registry.specs.Live.{with_cell}
-use Rattle.prom_exporter.specs.Exporter.{settings_with}
+use Rattle.prom_exporter.specs.Builder.{with_globals}
 use Rattle.prom_exporter.proofs.States.{kept}
 use Rattle.prom_exporter.proofs.Seen.{of_gauges}
-use Rattle.prom_exporter.specs.Rows.{rows_of}
-use Rattle.prom_exporter.proofs.KeptRows.{keys-with_cell}
+use Rattle.prom_exporter.proofs.KeptRows.{keys-with_cell, kept_same}
 use Rattle.prom_exporter.proofs.state.PrometheusState.lend_gauge.Goals as goal
 
 pub returns-in_err-cell-clause-refused : goal.returns-in_err-cell-clause-refused
@@ -15,7 +14,7 @@ returns-in_err-cell-clause-refused c =
     let series = c.self.inside.series in
     let numbered = c.in-Some.ensures.numbered in
     rw refusal.1 (
-    ap (λ es. record { settings = settings_with (labels_of c.self.inside.globals.entries); series = record series { gauges = es } })
+    ap (λ es. record { settings = with_globals c.self.inside.settings (labels_of c.self.inside.globals.entries); series = record series { gauges = es } })
     (ap (λ cell. with_cell c.args.id series.gauges cell) c.in_err-cell.ensures.refused
     ∙ kept c.args.id series.gauges series.made c.in-Some.gauge.now numbered.gauges.0 (of_gauges c.args.id c.in-Some.gauge.now series.gauges series.made numbered.gauges.1 (sym c.in-Some.ensures.value)) (sym c.in-Some.ensures.value))
     ∙ c.self.view_is)
@@ -31,13 +30,7 @@ returns-clause-lent c =
     )
 
 pub invariant_of-self-in_err-cell : goal.invariant_of-self-in_err-cell
-invariant_of-self-in_err-cell c = record {
-  gauges = c.self.invariant.gauges ∙ ap (rows_of (labels_of c.self.inside.globals.entries)) (sym (keys-with_cell c.args.id c.self.inside.series.gauges _));
-  counters = c.self.invariant.counters;
-}
+invariant_of-self-in_err-cell c = kept_same _ _ c.self.inside.series _ _ _ c.self.invariant refl (keys-with_cell c.args.id c.self.inside.series.gauges _)
 
 pub invariant_of-self-2 : goal.invariant_of-self-2
-invariant_of-self-2 c = record {
-  gauges = c.self.invariant.gauges ∙ ap (rows_of (labels_of c.self.inside.globals.entries)) (sym (keys-with_cell c.args.id c.self.inside.series.gauges _));
-  counters = c.self.invariant.counters;
-}
+invariant_of-self-2 c = kept_same _ _ c.self.inside.series _ _ _ c.self.invariant refl (keys-with_cell c.args.id c.self.inside.series.gauges _)

@@ -53,25 +53,25 @@ returns-in_ok-gauge-clause-out c = rw (← c.self.view_is) (λ t e.
     ∙ gauge_put series c.args.index c.lend_to_lane-else-index-counters.new.self least ∙ ap (λ x. set (things_in series) c.args.index (of_gauge x)) c.in_ok-gauge.ensures.out))
 
 pub returns-in_err-counter-clause-frame : goal.returns-in_err-counter-clause-frame
-returns-in_err-counter-clause-frame c = rw (← c.self.view_is) (counter_frame (the_view c.self.inside) c.args.index c.counter_at.result.now c.lend_to_lane.new.self c.counter_at.ensures.value (ap (λ (x : Shared PromCounter). x.cell) c.in_err-counter.ensures.refused))
+returns-in_err-counter-clause-frame c = rw (← c.self.view_is) (counter_frame (the_view c.self.inside) c.args.index c.counter_at.result.now c.lend_to_lane.new.self c.counter_at.ensures.value (ap (λ (x : Shared PromCounter). x.cell) c.in_err-counter.ensures.refused) (ap (λ (x : Shared PromCounter). x.note) c.in_err-counter.ensures.refused))
 
 pub returns-in_err-gauge-clause-frame : goal.returns-in_err-gauge-clause-frame
-returns-in_err-gauge-clause-frame c = rw (← c.self.view_is) (gauge_frame (the_view c.self.inside) (c.args.index - c.counter_count-counters.result) c.gauge_at.result.now c.lend_to_lane-else-index-counters.new.self c.gauge_at.ensures.value (ap (λ (x : Shared PromGauge). x.cell) c.in_err-gauge.ensures.refused))
+returns-in_err-gauge-clause-frame c = rw (← c.self.view_is) (gauge_frame (the_view c.self.inside) (c.args.index - c.counter_count-counters.result) c.gauge_at.result.now c.lend_to_lane-else-index-counters.new.self c.gauge_at.ensures.value (ap (λ (x : Shared PromGauge). x.cell) c.in_err-gauge.ensures.refused) (ap (λ (x : Shared PromGauge). x.note) c.in_err-gauge.ensures.refused))
 
 pub returns-in_ok-counter-clause-frame : goal.returns-in_ok-counter-clause-frame
-returns-in_ok-counter-clause-frame c = rw (← c.self.view_is) (counter_frame (the_view c.self.inside) c.args.index c.counter_at.result.now c.lend_to_lane.new.self c.counter_at.ensures.value (ap (λ (x : Shared PromCounter). x.cell) c.in_ok-counter.ensures.out))
+returns-in_ok-counter-clause-frame c = rw (← c.self.view_is) (counter_frame (the_view c.self.inside) c.args.index c.counter_at.result.now c.lend_to_lane.new.self c.counter_at.ensures.value (ap (λ (x : Shared PromCounter). x.cell) c.in_ok-counter.ensures.out) (ap (λ (x : Shared PromCounter). x.note) c.in_ok-counter.ensures.out))
 
 pub returns-in_ok-gauge-clause-frame : goal.returns-in_ok-gauge-clause-frame
-returns-in_ok-gauge-clause-frame c = rw (← c.self.view_is) (gauge_frame (the_view c.self.inside) (c.args.index - c.counter_count-counters.result) c.gauge_at.result.now c.lend_to_lane-else-index-counters.new.self c.gauge_at.ensures.value (ap (λ (x : Shared PromGauge). x.cell) c.in_ok-gauge.ensures.out))
+returns-in_ok-gauge-clause-frame c = rw (← c.self.view_is) (gauge_frame (the_view c.self.inside) (c.args.index - c.counter_count-counters.result) c.gauge_at.result.now c.lend_to_lane-else-index-counters.new.self c.gauge_at.ensures.value (ap (λ (x : Shared PromGauge). x.cell) c.in_ok-gauge.ensures.out) (ap (λ (x : Shared PromGauge). x.note) c.in_ok-gauge.ensures.out))
 
 pub invariant_of-self : goal.invariant_of-self
-invariant_of-self c = kept_same _ c.self.inside.series _ _ _ c.self.invariant (keys-with_cell_at c.self.inside.series.counters c.args.index c.lend_to_lane.new.self) refl
+invariant_of-self c = kept_same _ _ c.self.inside.series _ _ _ c.self.invariant (keys-with_cell_at c.self.inside.series.counters c.args.index c.lend_to_lane.new.self) refl
 
 pub invariant_of-self-then-index-counters : goal.invariant_of-self-then-index-counters
-invariant_of-self-then-index-counters c = kept_same _ c.self.inside.series _ _ _ c.self.invariant (keys-with_cell_at c.self.inside.series.counters c.args.index c.lend_to_lane.new.self) refl
+invariant_of-self-then-index-counters c = kept_same _ _ c.self.inside.series _ _ _ c.self.invariant (keys-with_cell_at c.self.inside.series.counters c.args.index c.lend_to_lane.new.self) refl
 
 pub invariant_of-self-in_err-gauge : goal.invariant_of-self-in_err-gauge
-invariant_of-self-in_err-gauge c = kept_same _ c.self.inside.series _ _ _ c.self.invariant refl (keys-with_cell_at c.self.inside.series.gauges (c.args.index - c.counter_count-counters.result) c.lend_to_lane-else-index-counters.new.self)
+invariant_of-self-in_err-gauge c = kept_same _ _ c.self.inside.series _ _ _ c.self.invariant refl (keys-with_cell_at c.self.inside.series.gauges (c.args.index - c.counter_count-counters.result) c.lend_to_lane-else-index-counters.new.self)
 
 pub invariant_of-self-else-index-counters : goal.invariant_of-self-else-index-counters
-invariant_of-self-else-index-counters c = kept_same _ c.self.inside.series _ _ _ c.self.invariant refl (keys-with_cell_at c.self.inside.series.gauges (c.args.index - c.counter_count-counters.result) c.lend_to_lane-else-index-counters.new.self)
+invariant_of-self-else-index-counters c = kept_same _ _ c.self.inside.series _ _ _ c.self.invariant refl (keys-with_cell_at c.self.inside.series.gauges (c.args.index - c.counter_count-counters.result) c.lend_to_lane-else-index-counters.new.self)

@@ -27,7 +27,7 @@ returns-then-index-counters c =
     rw (← c.self.view_is) (record {
       same = ap (λ x. things_in (record series { counters = with_cell_at series.counters c.args.index x })) same ∙ counter_same series c.args.index cell c.counter_at.ensures.value;
       settled = λ t e. subst (λ (x : Thing _ _). Settled x.root) (is_one series c.args.index (of_counter cell) t at e) (looks.1.whole home.0 home.1).1;
-      frame = counter_frame (the_view c.self.inside) c.args.index cell new c.counter_at.ensures.value (ap (λ (x : Shared _). x.cell) same);
+      frame = counter_frame (the_view c.self.inside) c.args.index cell new c.counter_at.ensures.value (ap (λ (x : Shared _). x.cell) same) (ap (λ (x : Shared _). x.note) same);
     })
 
 pub returns-else-index-counters : goal.returns-else-index-counters
@@ -45,11 +45,11 @@ returns-else-index-counters c =
     rw (← c.self.view_is) (record {
       same = ap (λ x. things_in (record series { gauges = with_cell_at series.gauges (c.args.index - c.counter_count-counters.result) x })) same ∙ gauge_same series (c.args.index - c.counter_count-counters.result) cell c.gauge_at.ensures.value;
       settled = λ t e. subst (λ (x : Thing _ _). Settled x.root) (is_one series c.args.index (of_gauge cell) t at e) (looks.1.whole home.0 home.1).1;
-      frame = gauge_frame (the_view c.self.inside) (c.args.index - c.counter_count-counters.result) cell new c.gauge_at.ensures.value (ap (λ (x : Shared _). x.cell) same);
+      frame = gauge_frame (the_view c.self.inside) (c.args.index - c.counter_count-counters.result) cell new c.gauge_at.ensures.value (ap (λ (x : Shared _). x.cell) same) (ap (λ (x : Shared _). x.note) same);
     })
 
 pub invariant_of-self : goal.invariant_of-self
-invariant_of-self c = kept_same _ c.self.inside.series _ _ _ c.self.invariant (keys-with_cell_at c.self.inside.series.counters c.args.index c.read.new.self) refl
+invariant_of-self c = kept_same _ _ c.self.inside.series _ _ _ c.self.invariant (keys-with_cell_at c.self.inside.series.counters c.args.index c.read.new.self) refl
 
 pub invariant_of-self-else-index-counters : goal.invariant_of-self-else-index-counters
-invariant_of-self-else-index-counters c = kept_same _ c.self.inside.series _ _ _ c.self.invariant refl (keys-with_cell_at c.self.inside.series.gauges (c.args.index - c.counter_count-counters.result) c.read-else-index-counters.new.self)
+invariant_of-self-else-index-counters c = kept_same _ _ c.self.inside.series _ _ _ c.self.invariant refl (keys-with_cell_at c.self.inside.series.gauges (c.args.index - c.counter_count-counters.result) c.read-else-index-counters.new.self)

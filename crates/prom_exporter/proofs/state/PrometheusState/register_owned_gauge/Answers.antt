@@ -2,10 +2,10 @@ use Rattle.std.proofs.Common.{◌≡◌, ◌+◌, [], ◌∷◌, ◌++◌, map, 
 use Rattle.std.proofs.lemmas.List.{map_push}
 use Rattle.metrics_core.specs.declared.kinds.MetricKind.TheVariants.{Gauge}
 use Rattle.prom_format.specs.LabelSets.{labels_of}
-use Rattle.metrics_registry.specs.Live.{LiveSeries, with_last}
+use Rattle.metrics_registry.specs.Live.{LiveSeries}
 use Rattle.series_cells.specs.declared.gauge.PromGauge.{PromGauge}
 use Rattle.prom_exporter.specs.Shared.{Shared, unused}
-use Rattle.prom_exporter.specs.Exporter.{Cells, settings_with}
+use Rattle.prom_exporter.specs.Builder.{with_globals}
 use Rattle.prom_exporter.proofs.Home.{adds_gauge-home, gauge_added}
 use Rattle.prom_exporter.specs.Values.{series_of, seen_series, seen_registry, state_seen}
 use Rattle.prom_exporter.proofs.Seen.{id_of_key-seen, is_numbered-seen}
@@ -49,22 +49,13 @@ returns-clause-id c =
     rw (← c.self.view_is) (c.in-Ok.ensures.id ∙ ap (λ n. record { kind = Gauge; number = n }) (sym (number-new Gauge c.args.key (seen_registry series) none)))
 
 pub returns-clause-cells : goal.returns-clause-cells
-returns-clause-cells c = inr (gauge_added c.args.self.now (labels_of c.self.inside.globals.entries) c.self.inside.series c.add_gauge.new.self c.args.key c.args.key c.in-Ok.id c.in_ok-cell.cell c.self.view_is c.in-Ok.ensures.added c.in-Ok.ensures.id refl c.in_ok-cell.ensures)
+returns-clause-cells c = inr (gauge_added c.args.self.now (with_globals c.self.inside.settings (labels_of c.self.inside.globals.entries)) c.self.inside.series c.add_gauge.new.self c.args.key c.args.key c.in-Ok.id c.in_ok-cell.cell c.self.view_is c.in-Ok.ensures.added c.in-Ok.ensures.id refl c.in_ok-cell.ensures)
 
 pub returns-clause-home : goal.returns-clause-home
-returns-clause-home c = adds_gauge-home c.args.key c.args.self.now _ (gauge_added c.args.self.now (labels_of c.self.inside.globals.entries) c.self.inside.series c.add_gauge.new.self c.args.key c.args.key c.in-Ok.id c.in_ok-cell.cell c.self.view_is c.in-Ok.ensures.added c.in-Ok.ensures.id refl c.in_ok-cell.ensures)
+returns-clause-home c = adds_gauge-home c.args.key c.args.self.now _ (gauge_added c.args.self.now (with_globals c.self.inside.settings (labels_of c.self.inside.globals.entries)) c.self.inside.series c.add_gauge.new.self c.args.key c.args.key c.in-Ok.id c.in_ok-cell.cell c.self.view_is c.in-Ok.ensures.added c.in-Ok.ensures.id refl c.in_ok-cell.ensures)
 
 pub returns-in_default-add_gauge-clause-home : goal.returns-in_default-add_gauge-clause-home
 returns-in_default-add_gauge-clause-home c = rw (c.in_default-add_gauge.ensures.refused, ← c.self.view_is) (λ home. home)
 
-pub take_back_gauge-requires : goal.take_back_gauge-requires
-take_back_gauge-requires c = (c.self.inside.series, (c.args.key, c.in_ok-cell.cell, c.made-number.ensures.numbered, c.in-Ok.ensures.added ∙ (λ j. record c.self.inside.series { gauges = with_last c.self.inside.series.gauges (c.in-Ok.ensures.id j) c.args.key c.in_ok-cell.cell; made = c.self.inside.series.made + 1 })))
-
-pub invariant_of-self-in-Err : goal.invariant_of-self-in-Err
-invariant_of-self-in-Err c = rw (c.in-Err.ensures.refused, (c.take_back_gauge.ensures c.self.inside.series (c.args.key, c.in_ok-cell.cell, c.made-number.ensures.numbered, c.in-Ok.ensures.added ∙ (λ j. record c.self.inside.series { gauges = with_last c.self.inside.series.gauges (c.in-Ok.ensures.id j) c.args.key c.in_ok-cell.cell; made = c.self.inside.series.made + 1 })))) c.self.invariant
-
-pub returns-in-Err-clause-refused : goal.returns-in-Err-clause-refused
-returns-in-Err-clause-refused c = ap (λ (cells : Cells). record { settings = settings_with (labels_of c.self.inside.globals.entries); series = cells }) (c.take_back_gauge.ensures c.self.inside.series (c.args.key, c.in_ok-cell.cell, c.made-number.ensures.numbered, c.in-Ok.ensures.added ∙ (λ j. record c.self.inside.series { gauges = with_last c.self.inside.series.gauges (c.in-Ok.ensures.id j) c.args.key c.in_ok-cell.cell; made = c.self.inside.series.made + 1 }))) ∙ c.self.view_is
-
-pub returns-in-Err-clause-home : goal.returns-in-Err-clause-home
-returns-in-Err-clause-home c = rw ((c.take_back_gauge.ensures c.self.inside.series (c.args.key, c.in_ok-cell.cell, c.made-number.ensures.numbered, c.in-Ok.ensures.added ∙ (λ j. record c.self.inside.series { gauges = with_last c.self.inside.series.gauges (c.in-Ok.ensures.id j) c.args.key c.in_ok-cell.cell; made = c.self.inside.series.made + 1 }))), ← c.self.view_is) (λ home. home)
+pub invariant_of-self : goal.invariant_of-self
+invariant_of-self c = rw c.in_default-add_gauge.ensures.refused c.self.invariant

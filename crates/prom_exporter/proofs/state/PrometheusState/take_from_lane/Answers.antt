@@ -35,7 +35,7 @@ returns-then-index-counters c =
     let below = c.if-index-counters.true in
     let took = took_back cell new c.in-Counter.counter.knows c.take_from_lane.ensures in
     rw (← c.self.view_is, c.in-Counter.is) (record {
-      frame = counter_frame (the_view c.self.inside) c.args.index cell new c.counter_at.ensures.value took.1;
+      frame = counter_frame (the_view c.self.inside) c.args.index cell new c.counter_at.ensures.value took.1 took.2;
       taken = λ t e.
           rw (← is_one series c.args.index _ t (counter_here series c.args.index cell c.counter_at.ensures.value) e)
           (of_counter new, took.0, ap cells.Counter took.1, counter_put series c.args.index new (subst (λ n. c.args.index < n) c.counter_count-counters.ensures.count below));
@@ -58,7 +58,7 @@ returns-then-index-counters-2 c =
     let value = subst (λ n. option_map (λ (s : LiveSeries (Shared PromGauge)). s.cell) (slice_get series.gauges (c.args.index - n)) ≡ Some cell) c.counter_count-counters.ensures.count c.gauge_at.ensures.value in
     let took = took_back cell new c.in-Gauge.gauge.knows c.take_from_lane-then-index-counters-2.ensures in
     rw (← c.self.view_is, c.in-Gauge.is) (record {
-      frame = gauge_frame (the_view c.self.inside) (c.args.index - c.counter_count-counters.result) cell new c.gauge_at.ensures.value took.1;
+      frame = gauge_frame (the_view c.self.inside) (c.args.index - c.counter_count-counters.result) cell new c.gauge_at.ensures.value took.1 took.2;
       taken = λ t e.
           rw (← is_one series c.args.index _ t (gauge_here series c.args.index cell least value) e) (
             of_gauge new,
@@ -77,8 +77,8 @@ returns-else-index-counters-2 c =
     absurd (subst (IsPassOf (cells.Counter found.0.cell)) c.in-Gauge.is lent)
 
 pub invariant_of-self : goal.invariant_of-self
-invariant_of-self c = kept_same _ c.self.inside.series _ _ _ c.self.invariant (keys-with_cell_at c.self.inside.series.counters c.args.index c.take_from_lane.new.self) refl
+invariant_of-self c = kept_same _ _ c.self.inside.series _ _ _ c.self.invariant (keys-with_cell_at c.self.inside.series.counters c.args.index c.take_from_lane.new.self) refl
 
 pub invariant_of-self-then-index-counters-2 : goal.invariant_of-self-then-index-counters-2
 invariant_of-self-then-index-counters-2 c =
-    kept_same _ c.self.inside.series _ _ _ c.self.invariant refl (keys-with_cell_at c.self.inside.series.gauges (c.args.index - c.counter_count-counters.result) c.take_from_lane-then-index-counters-2.new.self)
+    kept_same _ _ c.self.inside.series _ _ _ c.self.invariant refl (keys-with_cell_at c.self.inside.series.gauges (c.args.index - c.counter_count-counters.result) c.take_from_lane-then-index-counters-2.new.self)

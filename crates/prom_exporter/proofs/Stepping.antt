@@ -1,0 +1,162 @@
+-- What a page makes of the series that are kept: where no pass is out, the page step of what the exporter has seen.
+use Rattle.std.proofs.Common.{◌≡◌, ℕ, suc, ◌%◌, ◌^◌, ◌≤◌, Bool, true, false, cond, List, [], ◌∷◌, map, filter_map, length, Option, None, Some, refl, sym, ap, subst, ◌∙◌, arith}
+use Rattle.std.specs.Prelude.{All, is_some, option_map, unwrap_or}
+use Rattle.std.specs.List.{cons_option}
+use Rattle.std.specs.Borrow.{MutBor}
+use Rattle.std.specs.Fn.{Mut, Called}
+use Rattle.std.proofs.lemmas.List.{length-map}
+use Rattle.std.proofs.lemmas.List.Elements.{All-nil, All-head, All-tail, All-cons}
+use Rattle.legal_history.specs.declared.history.Entry.{Entry}
+use Rattle.legal_history.specs.History.{calls}
+use Rattle.cell_lanes.specs.Calls.{CountsCalls}
+use Rattle.metrics_core.specs.declared.calls.SeriesCall.{SeriesCall}
+use Rattle.metrics_core.specs.declared.kinds.MetricKind.{MetricKind}
+use Rattle.metrics_core.specs.declared.kinds.MetricKind.TheVariants as kinds
+use Rattle.metrics_core.specs.declared.kinds.SeriesId.{SeriesId}
+use Rattle.metrics_core.specs.Numbers.{in_64_bits}
+use Rattle.metrics_core.specs.Series.{call_of}
+use Rattle.metrics_core.specs.Calls.{Call, update_count}
+use Rattle.metrics_registry.specs.Live.{LiveSeries}
+use Rattle.metrics_registry.specs.Recency.{Idle, note_left}
+use Rattle.metrics_registry.specs.Retained.{AskedAt, Retains}
+use Rattle.prom_format.specs.Pages.{body_text}
+use Rattle.prom_exporter.specs.State.{Series, kept_at, page_step}
+use Rattle.prom_exporter.specs.Families.{families_at}
+use Rattle.prom_exporter.specs.Rows.{keys_of}
+use Rattle.prom_exporter.specs.Shared.{Shared, IsHome, calls_seen}
+use Rattle.prom_exporter.specs.Values.{series_of, seen_series}
+use Rattle.prom_exporter.specs.Exporter.{Exporter, AllHome, state_of, page_body, shown_body}
+use Rattle.prom_exporter.specs.Stepped.{IsNoted, AreNoted, Steps}
+use Rattle.prom_exporter.proofs.Home.{looks-home}
+
+-- the number of updates is that of the calls
+length-calls : (log : List (Entry SeriesCall)) → length (calls log) ≡ length log
+length-calls [] = refl
+length-calls (e ∷ log) = ap suc (length-calls log)
+
+module _ (idle : Option Idle) (moment : ℕ) (kind : MetricKind) {F : Type 0} where
+  -- ---- the series that stay
+
+  noted_step : (e : LiveSeries (Shared F)) (old rest : List (LiveSeries (Shared F))) (cell : Shared F) (stays : Bool) → length rest ≤ length old → length (cond stays (record e { cell = cell } ∷ rest) rest) ≤ length (e ∷ old)
+  noted_step e old rest cell true less = omega (arith, less)
+  noted_step e old rest cell false less = omega (arith, less)
+
+  -- they are not more than there were
+  pub noted_fewer : (old new : List (LiveSeries (Shared F))) → AreNoted idle moment kind old new → length new ≤ length old
+  noted_fewer [] new is = let none : length new ≡ 0 = ap length is in omega (arith, none)
+  noted_fewer (e ∷ old) new (stays, cell, rest, noted, others, is) = subst (λ (l : List (LiveSeries (Shared F))). length l ≤ length (e ∷ old)) (sym is) (noted_step e old rest cell stays (noted_fewer old rest others))
+
+  keys_step : (e : LiveSeries (Shared F)) (old rest : List (LiveSeries (Shared F))) (cell : Shared F) (stays : Bool) → length rest ≤ length old → (length old ≤ length rest → keys_of rest ≡ keys_of old)
+      → length (e ∷ old) ≤ length (cond stays (record e { cell = cell } ∷ rest) rest) → keys_of (cond stays (record e { cell = cell } ∷ rest) rest) ≡ keys_of (e ∷ old)
+  keys_step e old rest cell true less same many = ap (λ l. e.key ∷ l) (same (omega (arith, many)))
+  keys_step e old rest cell false less same many = absurd (omega (arith, less, many))
+
+  -- where they are as many, they have the same keys
+  pub noted_keys : (old new : List (LiveSeries (Shared F))) → AreNoted idle moment kind old new → length old ≤ length new → keys_of new ≡ keys_of old
+  noted_keys [] new is many = ap keys_of is
+  noted_keys (e ∷ old) new (stays, cell, rest, noted, others, is) many =
+      ap keys_of is ∙ keys_step e old rest cell stays (noted_fewer old rest others) (noted_keys old rest others) (subst (λ (l : List (LiveSeries (Shared F))). length (e ∷ old) ≤ length l) is many)
+
+  -- ---- with no pass out
+
+  abbrev AtHome : List (LiveSeries (Shared F)) → Type 0
+  AtHome = All (λ series. IsHome series.cell)
+
+  noted_at-home : (s t : Shared F) (stays : Bool) → IsHome s → IsNoted idle moment kind s stays t → IsHome t
+  noted_at-home s t stays home noted = rw (noted.left, looks-home s noted.seen home noted.looks) home
+
+  home_step : (e : LiveSeries (Shared F)) (rest : List (LiveSeries (Shared F))) (cell : Shared F) (stays : Bool) → IsHome cell → AtHome rest → AtHome (cond stays (record e { cell = cell } ∷ rest) rest)
+  home_step e rest cell true home others = All-cons (λ (s : LiveSeries (Shared F)). IsHome s.cell) (record e { cell = cell }) rest home others
+  home_step e rest cell false home others = others
+
+  -- none is out then
+  pub noted_home : (old new : List (LiveSeries (Shared F))) → AtHome old → AreNoted idle moment kind old new → AtHome new
+  noted_home [] new home is = subst AtHome (sym is) (All-nil _)
+  noted_home (e ∷ old) new home (stays, cell, rest, noted, others, is) =
+      subst AtHome (sym is) (home_step e rest cell stays (noted_at-home e.cell cell stays (All-head (λ (s : LiveSeries (Shared F)). IsHome s.cell) e old home) noted) (noted_home old rest (All-tail (λ (s : LiveSeries (Shared F)). IsHome s.cell) e old home) others))
+
+  module _ (plain : (made : List Call) → update_count kind made ≡ length made) where
+    abbrev shown : LiveSeries (Shared F) → Series
+    shown e = series_of (seen_series e)
+
+    abbrev all_shown : List (LiveSeries (Shared F)) → List Series
+    all_shown es = map series_of (map seen_series es)
+
+    count-home : (s : Shared F) (n : ℕ) → IsHome s → CountsCalls s.root n → n ≡ in_64_bits (update_count kind (calls_seen s))
+    count-home s n home counts =
+        counts.1 ∙ ap (λ m. m % 2 ^ 64) (counts.3 home.0 home.1 ∙ sym (plain (calls_seen s) ∙ length-map (calls s.root.seen) call_of ∙ length-calls s.root.seen))
+
+    -- what the page step makes of a series, whose note is then this
+    shown_step : (e : LiveSeries (Shared F)) (rest : List (LiveSeries (Shared F))) (note : Option (Option (ℕ × ℕ))) (tail : List Series) → tail ≡ all_shown rest
+        → cons_option (option_map (λ n. record (shown e) { note = n }) note) tail ≡ all_shown (cond (is_some note) (record e { cell = record e.cell { note = unwrap_or note e.cell.note } } ∷ rest) rest)
+    shown_step e rest None tail same = same
+    shown_step e rest (Some n) tail same = ap (λ l. record (shown e) { note = n } ∷ l) same
+
+    -- the series that stay are those of the page step
+    pub noted_shown : (old new : List (LiveSeries (Shared F))) → AtHome old → AreNoted idle moment kind old new → filter_map (kept_at idle moment kind) (all_shown old) ≡ all_shown new
+    noted_shown [] new home is = ap all_shown (sym is)
+    noted_shown (e ∷ old) new home (stays, cell, rest, noted, others, is) =
+        let here = All-head (λ (s : LiveSeries (Shared F)). IsHome s.cell) e old home in
+        let seen : noted.seen ≡ e.cell = looks-home e.cell noted.seen here noted.looks in
+        let count = count-home e.cell noted.count here (subst (λ (s : Shared F). CountsCalls s.root noted.count) seen noted.counts) in
+        let left : Option (Option (ℕ × ℕ)) = note_left idle kind e.cell.note noted.count moment in
+        let cell_is : cell ≡ record e.cell { note = unwrap_or left e.cell.note } = noted.left ∙ ap (λ (s : Shared F). record s { note = unwrap_or (note_left idle kind s.note noted.count moment) s.note }) seen in
+        let stays_is : stays ≡ is_some left = noted.stays_is ∙ ap (λ (s : Shared F). is_some (note_left idle kind s.note noted.count moment)) seen in
+        let tail = noted_shown old rest (All-tail (λ (s : LiveSeries (Shared F)). IsHome s.cell) e old home) others in
+        ap (λ n. cons_option (option_map (λ m. record (shown e) { note = m }) (note_left idle kind e.cell.note n moment)) (filter_map (kept_at idle moment kind) (all_shown old))) (sym count)
+        ∙ shown_step e rest left _ tail
+        ∙ sym (ap all_shown (is ∙ (λ j. cond (stays_is j) (record e { cell = cell_is j } ∷ rest) rest)))
+
+-- what is noted by one rule is noted by another that leaves the same
+pub noted_under : (idle other : Option Idle) (moment : ℕ) (kind : MetricKind) {F : Type 0} → ((note : Option (ℕ × ℕ)) (count t : ℕ) → note_left idle kind note count t ≡ note_left other kind note count t)
+    → (old new : List (LiveSeries (Shared F))) → AreNoted idle moment kind old new → AreNoted other moment kind old new
+noted_under idle other moment kind same [] new is = is
+noted_under idle other moment kind same (e ∷ old) new (stays, cell, rest, noted, others, is) =
+    let rule = same noted.seen.note noted.count moment in (
+      stays,
+      cell,
+      rest,
+      record {
+        seen = noted.seen;
+        looks = noted.looks;
+        count = noted.count;
+        counts = noted.counts;
+        stays_is = noted.stays_is ∙ ap is_some rule;
+        left = noted.left ∙ ap (λ n. record noted.seen { note = unwrap_or n noted.seen.note }) rule;
+      },
+      noted_under idle other moment kind same old rest others,
+      is,
+    )
+
+-- ---- a test that reads and notes each cell
+
+module _ (idle : Option Idle) (moment : ℕ) (kind : MetricKind) {K F : Type 0} (g : Mut K (SeriesId × (MutBor (Shared F) × Unit {0})) (Bool × (MutBor (Shared F) × Unit {0}))) (Is : K → Type 0)
+    (says : (f : K) (id : SeriesId) (cell : MutBor (Shared F)) (b : Bool) (left : MutBor (Shared F)) (f' : K) → Is f → Called g f (id, (cell, tt)) (b, (left, tt)) f' → Is f' × IsNoted idle moment kind cell.now b left.now) where
+  asked : (f : K) (id : SeriesId) (cell : Shared F) (b : Bool) (left : Shared F) (f' : K) → Is f → AskedAt g f id cell b left f' → Is f' × IsNoted idle moment kind cell b left
+  asked f id cell b left f' is a = rw (← a.shows, ← a.leaves) (says f id a.lent b a.left f' is a.called)
+
+  pub retains_noted : (f : K) (live kept : List (LiveSeries (Shared F))) (last : K) → Is f → Retains g f live kept last → AreNoted idle moment kind live kept
+  retains_noted f [] kept last is done = done.0
+  retains_noted f (series ∷ live) kept last is done =
+      let own = asked f series.id series.cell done.0 done.1 done.2 is done.4 in
+      (done.0, done.1, done.3, own.1, retains_noted done.2 live done.3 last own.0 done.5, done.6)
+
+-- ---- the exporter
+
+module _ (moment : ℕ) (old new : Exporter) (home : AllHome old) (steps : Steps moment old new) where
+  pub steps_home : AllHome new
+  steps_home = (noted_home old.settings.idle moment kinds.Counter old.series.counters new.series.counters home.0 steps.counters, noted_home old.settings.idle moment kinds.Gauge old.series.gauges new.series.gauges home.1 steps.gauges)
+
+  -- what the exporter has seen then is the page step of what it had seen
+  pub steps_state : state_of new ≡ page_step old.settings.idle moment (state_of old)
+  steps_state = (λ j. record {
+    counters = sym (noted_shown old.settings.idle moment kinds.Counter (λ made. refl) old.series.counters new.series.counters home.0 steps.counters) j;
+    gauges = sym (noted_shown old.settings.idle moment kinds.Gauge (λ made. refl) old.series.gauges new.series.gauges home.1 steps.gauges) j;
+    histograms = [];
+    made = steps.made j;
+    published = [];
+    pending = [];
+  })
+
+  pub steps_page : shown_body moment new ≡ page_body moment old
+  steps_page = (λ j. body_text (families_at (steps.settings j) moment (steps_state j)))
