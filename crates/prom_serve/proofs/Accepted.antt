@@ -1,16 +1,18 @@
 -- One connection after another.
-use Rattle.std.proofs.Common.{◌≡◌, ℕ, zero, suc, ◌+◌, ◌-◌, ◌%◌, ◌^◌, ◌<◌, ◌≤◌, Bool, true, false, List, [], ◌∷◌, ◌++◌, Option, None, Some, length, take, sym, ap, subst, ◌∙◌, refl, inl, inr, arith, add-one, add-zero, add_assoc, length-append, append_assoc}
+use Rattle.std.proofs.Common.{◌≡◌, ℕ, zero, suc, ◌+◌, ◌-◌, ◌%◌, ◌^◌, ◌<◌, ◌≤◌, ◌⊎◌, Bool, true, false, List, [], ◌∷◌, ◌++◌, Option, None, Some, length, take, sym, ap, subst, ◌∙◌, refl, inl, inr, arith, add-one, add-zero, add_assoc, length-append, append_assoc}
 use Rattle.std.specs.Prelude.{IsTrue, IfSome, All}
 use Rattle.std.proofs.Math.Nat.{mod-add-mod}
 use Rattle.std.proofs.lemmas.List.{append-nil, take_all, take_at}
 use Rattle.std.proofs.lemmas.List.Elements.{All-push}
 use Rattle.net_addresses.specs.Addresses.{NetworkText}
-use Rattle.prom_exporter.specs.Exporter.{Exporter, AllHome, page_body}
+use Rattle.prom_exporter.specs.State.{page_step}
+use Rattle.prom_exporter.proofs.PagesAgain.{page_step-again}
+use Rattle.prom_exporter.specs.Exporter.{Exporter, AllHome, state_of, shown_body}
 use Rattle.prom_serve.specs.Connections.{Ended, CountedOn}
 use Rattle.prom_serve.specs.Refusals.{excepted}
 use Rattle.prom_serve.specs.declared.errors.ServeError.{ServeError}
 use Rattle.prom_serve.specs.declared.errors.ServeError.TheVariants.{FailedToCreateHTTPListener, Memory}
-use Rattle.prom_serve.specs.Serving.{MayRender, Renders, IsAnswered, IsServed, Listening, Accepts, AcceptsOne}
+use Rattle.prom_serve.specs.Serving.{MayRender, StaysHome, Renders, IsAnswered, IsServed, Listening, Accepts, AcceptsOne}
 
 -- ---- counts
 
@@ -26,16 +28,28 @@ counted_none a = rw add-zero refl
 pub renders_next : (moment n : ℕ) (old middle new : Exporter) → Renders moment n old middle → MayRender moment middle new → Renders moment (n + 1) old new
 renders_next moment n old middle new first next = rw add-one (middle, first, next)
 
--- where no pass is out a render changes nothing
-may_render_home : (moment : ℕ) (old new : Exporter) → AllHome old → MayRender moment old new → new ≡ old
-may_render_home moment old new home (inl same) = same
-may_render_home moment old new home (inr rendered) = rendered.home home
+-- where no pass is out renders make the page step, if anything
+next_state : (moment : ℕ) (old middle new : Exporter) → middle.settings ≡ old.settings → state_of new ≡ page_step middle.settings.idle moment (state_of middle)
+    → (state_of middle ≡ state_of old) ⊎ (state_of middle ≡ page_step old.settings.idle moment (state_of old)) → state_of new ≡ page_step old.settings.idle moment (state_of old)
+next_state moment old middle new settings step (inl same) = step ∙ (λ j. page_step (settings j).idle moment (same j))
+next_state moment old middle new settings step (inr stepped) = step ∙ (λ j. page_step (settings j).idle moment (stepped j)) ∙ page_step-again old.settings.idle moment (state_of old)
 
-pub renders_home : (moment n : ℕ) (old new : Exporter) → AllHome old → Renders moment n old new → new ≡ old
-renders_home moment zero old new home same = same
-renders_home moment (suc n) old new home (middle, first, next) =
-    let same : middle ≡ old = renders_home moment n old middle home first in
-    may_render_home moment middle new (subst AllHome (sym same) home) next ∙ same
+renders_settings : (moment n : ℕ) (old new : Exporter) → Renders moment n old new → new.settings ≡ old.settings
+renders_settings moment zero old new same = ap (λ (e : Exporter). e.settings) same
+renders_settings moment (suc n) old new (middle, first, inl same) = ap (λ (e : Exporter). e.settings) same ∙ renders_settings moment n old middle first
+renders_settings moment (suc n) old new (middle, first, inr rendered) = rendered.steps.settings ∙ renders_settings moment n old middle first
+
+pub renders_home : (moment n : ℕ) (old new : Exporter) → AllHome old → Renders moment n old new → StaysHome moment old new
+renders_home moment zero old new home same = record { home = subst AllHome (sym same) home; state = inl (ap state_of same) }
+renders_home moment (suc n) old new home (middle, first, inl same) =
+    let stays = renders_home moment n old middle home first in
+    subst (StaysHome moment old) (sym same) stays
+renders_home moment (suc n) old new home (middle, first, inr rendered) =
+    let stays = renders_home moment n old middle home first in
+    record {
+      home = rendered.home stays.home;
+      state = inr (next_state moment old middle new (renders_settings moment n old middle first) (rendered.stepped stays.home) stays.state);
+    }
 
 -- ---- connections
 
@@ -59,12 +73,12 @@ module _ (networks : Option (List NetworkText)) (moment : ℕ) where
     -- one more was given back
     abbrev OneBehind : Bool → Option (List Ended) → List Ended → Type 0
     OneBehind was_served now before = (ended : Ended) × (now ≡ Some (before ++ ended ∷ []))
-        × (IsTrue was_served → ended.faults ≡ 0 → IsAnswered networks (page_body moment new) ended.who ended.told)
+        × (IsTrue was_served → ended.faults ≡ 0 → IsAnswered networks (shown_body moment new) ended.who ended.told)
 
     -- what is shown of those that were served
     abbrev Steps : Bool → ℕ → Type 0
     Steps was_served last = (before : List Ended) (ended : Ended) → length before ≡ n → All (IsServed networks moment start) (take (n - 0) before)
-        → (IsTrue was_served → ended.faults ≡ 0 → IsAnswered networks (page_body moment new) ended.who ended.told)
+        → (IsTrue was_served → ended.faults ≡ 0 → IsAnswered networks (shown_body moment new) ended.who ended.told)
         → All (IsServed networks moment start) (take (n + 1 - last) (before ++ ended ∷ []))
 
     served_step : Renders moment (n + 1) start new → Steps true 0

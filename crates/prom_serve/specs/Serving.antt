@@ -4,7 +4,8 @@ use Rattle.std.specs.List.{Any}
 use Rattle.std.specs.declared.net.ip_addr.IpAddr.{IpAddr}
 use Rattle.net_addresses.specs.Addresses.{NetworkText, Holds}
 use Rattle.prom_exporter.specs.State.{page_step}
-use Rattle.prom_exporter.specs.Exporter.{Exporter, AllHome, LooksOn, state_of, page_body}
+use Rattle.prom_exporter.specs.Exporter.{Exporter, AllHome, state_of, shown_body}
+use Rattle.prom_exporter.specs.Stepped.{Steps}
 use Rattle.prom_serve.specs.Answers.{IsAnswer}
 use Rattle.prom_serve.specs.Connections.{Told, Ended, IsFresh, CountedOn}
 use Rattle.prom_serve.specs.Readings.{EndsReading}
@@ -21,13 +22,18 @@ IsAllowed (Some networks) (Some address) = Any (λ network. Holds network addres
 
 -- one render at a moment
 pub record IsRendered (moment : ℕ) (old new : Exporter) : Type 0 where
-  pub read : LooksOn old new
-  pub home : AllHome old → new ≡ old
-  pub stepped : state_of new ≡ page_step new.settings.idle moment (state_of new)
+  pub steps : Steps moment old new
+  pub home : AllHome old → AllHome new
+  pub stepped : AllHome old → state_of new ≡ page_step old.settings.idle moment (state_of old)
 
 -- one render at a moment, or none
 abbrev pub MayRender : ℕ → Exporter → Exporter → Type 0
 MayRender moment old new = (new ≡ old) ⊎ IsRendered moment old new
+
+-- no pass is out, and the exporter has seen what it had seen, or the page step of that
+pub record StaysHome (moment : ℕ) (old new : Exporter) : Type 0 where
+  pub home : AllHome new
+  pub state : (state_of new ≡ state_of old) ⊎ (state_of new ≡ page_step old.settings.idle moment (state_of old))
 
 -- at most so many renders at a moment
 abbrev pub Renders : ℕ → ℕ → Exporter → Exporter → Type 0
@@ -51,7 +57,7 @@ IsAnsweredFirst networks page who old new =
 -- a connection that was given back without faults was answered, by the page of the exporter after renders at the moment
 abbrev pub IsServed : Option (List NetworkText) → ℕ → Exporter → Ended → Type 0
 IsServed networks moment exporter ended =
-    ended.faults ≡ 0 → (most : ℕ) × (shown : Exporter) × Renders moment most exporter shown × IsAnswered networks (page_body moment shown) ended.who ended.told
+    ended.faults ≡ 0 → (most : ℕ) × (shown : Exporter) × Renders moment most exporter shown × IsAnswered networks (shown_body moment shown) ended.who ended.told
 
 -- ---- a call
 
@@ -73,4 +79,4 @@ pub record AcceptsOne (networks : Option (List NetworkText)) (moment : ℕ) (was
   pub renders : MayRender moment exporter_old exporter_new
   pub finished : IfSome old.finished (λ before.
       (ended : Ended) × (new.finished ≡ Some (before ++ ended ∷ []))
-      × (IsTrue was_served → ended.faults ≡ 0 → IsAnswered networks (page_body moment exporter_new) ended.who ended.told))
+      × (IsTrue was_served → ended.faults ≡ 0 → IsAnswered networks (shown_body moment exporter_new) ended.who ended.told))

@@ -3,12 +3,12 @@
 ghost use Rattle.std.specs.Prelude.{◌≡◌, ◌+◌, ◌≤◌, ◌↔◌, ℕ, length, option_copied, IsTrue, IsSome, IfOk, IfErr, OnErr, OnOk, Err, true, false, if◌then◌else◌};
 ghost use Rattle.metrics_core.specs.Outside.{Rose};
 ghost use Rattle.net_addresses.specs.Addresses.{Holds};
-ghost use Rattle.prom_exporter.specs.Exporter.{AllHome, page_body};
+ghost use Rattle.prom_exporter.specs.Exporter.{AllHome, shown_body};
 ghost use Rattle.std.specs.List.{Any};
 ghost use Rattle.prom_serve.specs.Asked.{asked_text};
 ghost use Rattle.prom_serve.specs.Connections.{CountedOn};
 ghost use Rattle.prom_serve.specs.Refusals.{excepted};
-ghost use Rattle.prom_serve.specs.Serving.{IsAllowed, IsRendered, MayRender, IsAnsweredFirst, Accepts, AcceptsOne};
+ghost use Rattle.prom_serve.specs.Serving.{IsAllowed, IsRendered, MayRender, StaysHome, IsAnsweredFirst, Accepts, AcceptsOne};
 ghost use Rattle.prom_serve.specs.declared.serving.GivenUp.TheVariants as given_up;
 
 use crate::answers::{Asked, answer_of, asked_by};
@@ -20,6 +20,7 @@ use net_addresses::Network;
 use prom_exporter::PrometheusState;
 use std::alloc::Global;
 use std::net::{IpAddr, Net, TcpListener, TcpStream};
+use std::sync::Wait;
 
 /// How many connections were served, and how many failed.
 #[derive(Clone, Copy, Debug, PartialEq, Eq)]
@@ -71,12 +72,17 @@ fn is_held(networks: &[Network], address: &IpAddr) -> bool
 }
 
 /// The page at a moment. It is written to memory first, since the answer tells its length in front of it.
-fn page_at(alloc: Global, state: &mut PrometheusState, moment: u64) -> Result<MemorySink, Memory>
+fn page_at<R: Wait>(
+    rt: &R,
+    alloc: Global,
+    state: &mut PrometheusState,
+    moment: u64,
+) -> Result<MemorySink, Memory>
     ensures rendered { IsRendered moment state.old state.new }
-    ensures page { IfOk result (λ sink. sink.written ≡ page_body moment state.new) }
+    ensures page { IfOk result (λ sink. sink.written ≡ shown_body moment state.new) }
 {
     let mut sink = MemorySink::new(alloc, usize::MAX, Vec::new(alloc));
-    match state.render_to_write(alloc, moment, &mut sink) {
+    match state.render_to_write(rt, alloc, moment, &mut sink) {
         Ok(()) => Ok(sink),
         // This sink fails only where memory is refused.
         Err(_) => Err(Memory),
@@ -84,18 +90,19 @@ fn page_at(alloc: Global, state: &mut PrometheusState, moment: u64) -> Result<Me
 }
 
 /// The answer to what is asked. Only where that is the page is it written.
-fn answer_to(
+fn answer_to<R: Wait>(
+    rt: &R,
     alloc: Global,
     asked: &Asked,
     state: &mut PrometheusState,
     moment: u64,
 ) -> Result<Vec<u8>, Memory>
     ensures renders { MayRender moment state.old state.new }
-    ensures answer { IfOk result (λ answer. answer.items ≡ asked_text asked.now (page_body moment state.new)) }
+    ensures answer { IfOk result (λ answer. answer.items ≡ asked_text asked.now (shown_body moment state.new)) }
 {
     match asked {
         Asked::Page { .. } => {
-            let page = page_at(alloc, state, moment)?;
+            let page = page_at(rt, alloc, state, moment)?;
             answer_of(alloc, asked, page.written())
         }
         Asked::Refused { .. } | Asked::Health { .. } => answer_of(alloc, asked, b""),
@@ -103,7 +110,8 @@ fn answer_to(
 }
 
 /// Reads what a peer asks and answers it.
-fn answer_peer<C: Conn>(
+fn answer_peer<R: Wait, C: Conn>(
+    rt: &R,
     alloc: Global,
     allowed: Option<&[Network]>,
     state: &mut PrometheusState,
@@ -111,7 +119,7 @@ fn answer_peer<C: Conn>(
     conn: &mut C,
     room: &mut HeadRoom,
 ) -> Result<(), GivenUp>
-    ensures answered { OnOk result (IsAnsweredFirst (option_copied allowed.entry) (page_body moment state.new) (C.who conn.old) (C.told conn.old) (C.told conn.new)) }
+    ensures answered { OnOk result (IsAnsweredFirst (option_copied allowed.entry) (shown_body moment state.new) (C.who conn.old) (C.told conn.old) (C.told conn.new)) }
     ensures renders { MayRender moment state.old state.new }
     ensures tells { IsSome (C.told conn.old) → IsSome (C.told conn.new) }
     ensures who { C.who conn.new ≡ C.who conn.old }
@@ -120,13 +128,13 @@ fn answer_peer<C: Conn>(
 {
     let end = room.read(conn)?;
     let asked = asked_by(is_allowed(allowed, conn.peer()), room.head(end));
-    let answer = answer_to(alloc, &asked, state, moment)?;
+    let answer = answer_to(rt, alloc, &asked, state, moment)?;
     write_whole(conn, answer.as_slice())?;
     Ok(())
 }
 
 /// Accepts a connection, answers its peer and gives it back. Answers whether the connection failed.
-fn serve_next<R: Net<Listener = TcpListener, Stream = TcpStream>, N: Listener>(
+fn serve_next<R: Net<Listener = TcpListener, Stream = TcpStream> + Wait, N: Listener>(
     rt: &R,
     alloc: Global,
     allowed: Option<&[Network]>,
@@ -150,7 +158,7 @@ fn serve_next<R: Net<Listener = TcpListener, Stream = TcpStream>, N: Listener>(
         Ok(conn) => conn,
         Err(_) => return Err(ServeError::FailedToCreateHTTPListener),
     };
-    let answered = answer_peer(alloc, allowed, state, moment, &mut conn, room);
+    let answered = answer_peer(rt, alloc, allowed, state, moment, &mut conn, room);
     listener.done(conn);
     match answered {
         Ok(()) => Ok(false),
@@ -161,7 +169,7 @@ fn serve_next<R: Net<Listener = TcpListener, Stream = TcpStream>, N: Listener>(
 
 /// Answers so many connections, one after another: each reads what its peer asks, is answered with the page at a moment or
 /// with what stands for it, and is given back to the listener. A connection that fails is given up and counted.
-pub fn serve<R: Net<Listener = TcpListener, Stream = TcpStream>, N: Listener>(
+pub fn serve<R: Net<Listener = TcpListener, Stream = TcpStream> + Wait, N: Listener>(
     rt: &R,
     alloc: Global,
     allowed: Option<&[Network]>,
@@ -178,7 +186,7 @@ pub fn serve<R: Net<Listener = TcpListener, Stream = TcpStream>, N: Listener>(
         (record { given = N.given listener.old; finished = N.finished listener.old }) (record { given = N.given listener.new; finished = N.finished listener.new })) }
     ensures cause { result ≡ Err ServeError.FailedToCreateHTTPListener → Rose (N.faults listener.old) (N.faults listener.new) }
     ensures never_falls { N.faults listener.old ≤ N.faults listener.new }
-    ensures home { AllHome state.old → state.new ≡ state.old }
+    ensures home { AllHome state.old → StaysHome moment state.old state.new }
 {
     let mut room = HeadRoom::new(alloc)?;
     let mut failed = 0;

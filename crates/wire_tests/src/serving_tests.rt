@@ -9,6 +9,7 @@ use prom_exporter::PrometheusBuilder;
 use prom_serve::{Exchange, MemoryConn, MemoryListener, ServeError, Served, serve};
 use std::alloc::Global;
 use std::net::{IpAddr, Ipv4Addr, Net, TcpListener, TcpStream};
+use std::sync::Wait;
 use std::test::Fail;
 
 const HEALTH: &[u8] = b"GET /health HTTP/1.1\r\n\r\n";
@@ -30,7 +31,7 @@ fn conn(alloc: Global, peer: Ipv4Addr, asked: &[u8], failing: &[u64]) -> Result<
 }
 
 /// What serving so many connections to the peers of one network, on an exporter without series, answers.
-fn answer_all<R: Net<Listener = TcpListener, Stream = TcpStream>>(
+fn answer_all<R: Net<Listener = TcpListener, Stream = TcpStream> + Wait>(
     rt: &R,
     alloc: Global,
     listener: &mut MemoryListener,
