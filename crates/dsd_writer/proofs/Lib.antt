@@ -14,3 +14,4 @@ pub mod Spare
 pub mod Written
 pub mod Tags
 pub mod Lengths
+pub mod PointRooms

@@ -89,6 +89,10 @@ abbrev pub added_bytes : WriterText → List (List ℕ) → ℕ
 added_bytes writer lines =
     stored_bytes writer.on_stream writer.limit (writer.lines ++ lines) - stored_bytes writer.on_stream writer.limit writer.lines
 
+-- a write of these lines takes no memory
+abbrev pub HasRoomFor : WriterText → List (List ℕ) → Type 0
+HasRoomFor writer lines = added_bytes writer lines ≤ writer.spare
+
 -- a write of lines takes no memory where what it adds is within the spare bytes, and uses up at most what it adds
 pub record IsWithinSpare {T E : Type 0} (result : Result T E) (old new : WriterText) (lines : List (List ℕ)) : Type 0 where
   pub no_memory : added_bytes old lines ≤ old.spare → IsOk result

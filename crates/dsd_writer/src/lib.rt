@@ -18,6 +18,7 @@ mod payloads;
 mod points;
 mod results;
 mod room;
+mod room_ahead;
 mod writer;
 
 pub use laws::{

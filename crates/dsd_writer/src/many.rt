@@ -18,7 +18,7 @@ use metrics_core::{Fixed, Memory};
 use std::snapshot::Snapshot;
 
 /// What is left of a limit for values behind the other parts of a line.
-fn room_for_values(limit: u64, item: &Item<'_>) -> Option<u64>
+pub(crate) fn room_for_values(limit: u64, item: &Item<'_>) -> Option<u64>
     ensures none { IsNone result ↔ (limit < length (line_of item.now [])) }
     ensures room { IfSome result (λ room. room + length (line_of item.now []) ≡ limit) }
 {

@@ -1,10 +1,11 @@
 //! The writer of payloads: points become lines, which are packed into payloads as they come.
 
-ghost use Rattle.std.specs.Prelude.{◌≡◌, ◌≤◌, [], ◌∷◌, codes, decimal, IsOk, OnOk, option_copied};
+ghost use Rattle.std.specs.Prelude.{◌≡◌, ℕ, ℤ, ◌^◌, ◌<◌, ◌≤◌, List, [], ◌∷◌, length, codes, decimal, FitsSigned, IsOk, OnOk, option_copied};
+ghost use Rattle.std.specs.Int.{w64};
 ghost use Rattle.metrics_core.specs.Numbers.{dogstatsd_number};
 ghost use Rattle.dsd_writer.specs.Items.{type_text};
-ghost use Rattle.dsd_writer.specs.Lines.{IsBestLines, spelled_values};
-ghost use Rattle.dsd_writer.specs.Writers.{SameSettings, Writes, item_in, sampled, timed};
+ghost use Rattle.dsd_writer.specs.Lines.{IsBestLines, lines_of, spelled_values};
+ghost use Rattle.dsd_writer.specs.Writers.{HasRoomFor, SameSettings, Writes, item_in, sampled, timed};
 
 use crate::WriteResult;
 use crate::items::{Item, LineType};
@@ -12,6 +13,7 @@ use crate::many::write_points;
 use crate::numbers::NumberText;
 use crate::packing::{PayloadBuffer, begin_anew};
 use crate::points::write_point;
+use crate::room_ahead::most_of_a_line;
 use itoa::Buffer;
 use metrics_core::{Fixed, Key, Label, Memory};
 use std::alloc::Global;
@@ -103,6 +105,58 @@ impl PayloadWriter {
         self.buffer.starts.reserve(lines)?;
         self.lengths.reserve(lines)?;
         Ok(())
+    }
+
+    /// Makes room for the line of a counter, whatever its value: a write of it, with this timestamp and prefix, takes no memory
+    /// then.
+    pub fn reserve_counter(
+        &mut self,
+        key: &Key,
+        timestamp: Option<u64>,
+        prefix: Option<&str>,
+    ) -> Result<(), Memory>
+        ensures settings { SameSettings self.old self.new }
+        ensures lines { self.new.lines ≡ self.old.lines }
+        ensures room { let item = timed timestamp (item_in self.old (codes "c") (option_copied prefix.entry) key.now) in
+            OnOk result ((value : ℕ) → value < 2 ^ 64 → HasRoomFor self.new (lines_of self.old.limit item (decimal value ∷ []))) }
+        ensures kept { self.old.spare ≤ self.new.spare }
+    {
+        self.reserve_one(LineType::Counter, key, timestamp, prefix)
+    }
+
+    /// Makes room for the line of a gauge, as [`PayloadWriter::reserve_counter`] does for that of a counter.
+    pub fn reserve_gauge(
+        &mut self,
+        key: &Key,
+        timestamp: Option<u64>,
+        prefix: Option<&str>,
+    ) -> Result<(), Memory>
+        ensures settings { SameSettings self.old self.new }
+        ensures lines { self.new.lines ≡ self.old.lines }
+        ensures room { let item = timed timestamp (item_in self.old (codes "g") (option_copied prefix.entry) key.now) in
+            OnOk result ((value : ℤ) → FitsSigned w64 value → HasRoomFor self.new (lines_of self.old.limit item (dogstatsd_number value ∷ []))) }
+        ensures kept { self.old.spare ≤ self.new.spare }
+    {
+        self.reserve_one(LineType::Gauge, key, timestamp, prefix)
+    }
+
+    /// Makes room for the line of one number.
+    fn reserve_one(
+        &mut self,
+        line_type: LineType,
+        key: &Key,
+        timestamp: Option<u64>,
+        prefix: Option<&str>,
+    ) -> Result<(), Memory>
+        ensures settings { SameSettings self.old self.new }
+        ensures lines { self.new.lines ≡ self.old.lines }
+        ensures room { let item = timed timestamp (item_in self.old (type_text line_type) (option_copied prefix.entry) key.now) in
+            OnOk result ((text : List ℕ) → length text ≤ 255 → HasRoomFor self.new (lines_of self.old.limit item (text ∷ []))) }
+        ensures kept { self.old.spare ≤ self.new.spare }
+    {
+        let item = Item::new(line_type, prefix, key, self.global_tags.as_slice()).at(timestamp);
+        let most = most_of_a_line(self.limit, &item);
+        self.reserve(most)
     }
 
     /// Writes the value of a counter, with a timestamp in seconds where there is one, under the name behind the prefix and a
