@@ -8,7 +8,9 @@
 mod faults;
 mod limits;
 mod remote_addr;
+mod update;
 
 pub use faults::{BuildError, LimitFault};
 pub use limits::limit_fault;
 pub use remote_addr::{RemoteAddr, remote_texts_have_one_reading};
+pub use update::TelemetryUpdate;
