@@ -137,7 +137,7 @@ module _ {F : Type 0} (kind : MetricKind) (ids handles : List SeriesId) (lines :
 
   after_one : (j : ℕ) (s t : LiveSeries (Shared F)) (grew : GrewAt j s t) → unseen t ≡ unseen s → shown t ≡ called moment (shown s) (taken grew.0 (λ l. map call_line_of (lines_at ids handles l j lines)))
   after_one j s t grew frame =
-      (λ i. record { number = (frame i).id.number; key = (frame i).key; calls = calls_path i; note = None })
+      (λ i. record { number = (frame i).id.number; key = (frame i).key; calls = calls_path i; note = (frame i).cell.note })
     where
       calls_path : calls_seen t.cell ≡ calls_seen s.cell ++ map (λ (c : CallLine). text.call_of moment c.act) (taken grew.0 (λ l. map call_line_of (lines_at ids handles l j lines)))
       calls_path =

@@ -5,7 +5,7 @@ use Rattle.std.specs.List.{AllZip, AllByRecursion}
 use Rattle.std.proofs.lemmas.List.Elements.{All-from_recursion}
 use Rattle.metrics_core.specs.declared.kinds.MetricKind.TheVariants as kinds
 use Rattle.metrics_core.proofs.Lists.{both_parts}
-use Rattle.drive_script.specs.Script.{ScriptLine, Global, Round, Setup, CallOf, Register, Describe, IsLine, header_lines, round_lines}
+use Rattle.drive_script.specs.Script.{ScriptLine, Header, Round, Setup, CallOf, Register, Describe, IsLine, header_lines, round_lines}
 use Rattle.drive_script.specs.Texts.{script_of, round_of, setup_of}
 use Rattle.drive_script.specs.Valid.{IsScriptOf}
 use Rattle.drive_script.specs.declared.script.Script.{Script}
@@ -15,13 +15,13 @@ use Rattle.script_runs.specs.Built.{IsBuiltSetup, AreBuiltSetups, AreBuiltRounds
 
 -- a setup line is built
 abbrev IsBuilt : ScriptLine → Type 0
-IsBuilt (Global label) = Unit {0}
+IsBuilt (Header line) = Unit {0}
 IsBuilt (Round moment) = Unit {0}
 IsBuilt (Setup setup) = IsBuiltSetup setup
 IsBuilt (CallOf call) = Unit {0}
 
 line_built : (line : List ℕ) (says : ScriptLine) → IsLine line says → IsBuilt says
-line_built line (Global label) h = tt
+line_built line (Header header) h = tt
 line_built line (Round moment) h = tt
 line_built line (Setup (Register kinds.Counter key)) h = tt
 line_built line (Setup (Register kinds.Gauge key)) h = tt
@@ -49,4 +49,4 @@ rounds_built (r ∷ rounds) h =
 pub script_built : (bytes : List ℕ) (script : Script) → IsScriptOf bytes (script_of script) → AreBuiltRounds script.rounds.items
 script_built bytes script h =
     All-from_recursion (λ (round : RoundValue). AreBuiltSetups round.setup.items) script.rounds.items
-    (rounds_built script.rounds.items (both_parts IsBuilt (header_lines (script_of script).settings) (flat_map round_lines (map round_of script.rounds.items)) (lines_built _ _ h.0.each)).1)
+    (rounds_built script.rounds.items (both_parts IsBuilt (map Header (header_lines (script_of script).settings)) (flat_map round_lines (map round_of script.rounds.items)) (lines_built _ _ h.0.each)).1)

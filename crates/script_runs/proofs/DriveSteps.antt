@@ -1,19 +1,22 @@
 -- From the parts of a run to what it says as a whole.
-use Rattle.std.proofs.Common.{◌≡◌, ℕ, ◌≤◌, ◌⊎◌, inl, inr, List, length, refl, sym, subst, arith}
+use Rattle.std.proofs.Common.{◌≡◌, ℕ, ◌≤◌, ◌⊎◌, inl, inr, List, length, refl, sym, ap, subst, ◌∙◌, arith}
 use Rattle.std.specs.Prelude.{Option, Some, None, IfSome, Result, Ok, Err, IfErr, OnErr, IsErrAnd, IfOk}
+use Rattle.std.proofs.lemmas.Option.{none-some}
 use Rattle.std.proofs.lemmas.Result.{err_from_is_err_and}
 use Rattle.metrics_core.specs.Outside.{Rose, GrewBy, GrewByPrefix}
 use Rattle.drive_script.specs.Script.{ScriptText, lines_of}
 use Rattle.drive_script.specs.Texts.{script_of}
 use Rattle.drive_script.specs.Valid.{IsScriptOf}
 use Rattle.drive_script.specs.declared.script.Script.{Script}
-use Rattle.drive_script.proofs.Laws.{beginnings}
+use Rattle.drive_script.proofs.Laws.{beginnings, one_reading}
 use Rattle.drive_script.specs.Faults.{IsScriptFault}
 use Rattle.drive_script.specs.declared.faults.DriveFault.{DriveFault}
 use Rattle.drive_script.specs.declared.faults.DriveFault.TheVariants as faults
 use Rattle.script_runs.specs.Headline.{IsPlayed, IsPlayedInPart, IsGoodScript, script_limit}
 use Rattle.script_runs.specs.Orders.{ForSomeRun, run_text}
-use Rattle.script_runs.specs.Answers.{IsComplete, IsBadScript, IsTooLong, IsPlayFault, LeavesPrefix, end_status, fault_status}
+use Rattle.drive_script.specs.Settings.{refused_setting}
+use Rattle.drive_script.specs.declared.faults.SettingFault.{SettingFault}
+use Rattle.script_runs.specs.Answers.{IsAllowed, IsComplete, IsBadScript, IsRefusedSetting, IsTooLong, IsPlayFault, LeavesPrefix, end_status, fault_status}
 use Rattle.script_runs.specs.Reading.{IsReadAs, IsReadFault, IsUnread}
 use Rattle.script_runs.specs.declared.report.Report.{Report}
 use Rattle.script_runs.proofs.RunPages.{run_is_pages}
@@ -28,41 +31,58 @@ good_not_long bytes script good long = omega (arith, good.0, long)
 bad_not_long : (bytes : List ℕ) (l : ℕ) → IsBadScript bytes l → IsTooLong bytes → ⊥
 bad_not_long bytes l bad long = omega (arith, bad.0, long)
 
+-- the bytes are one script, so that what is refused of one reading is refused of each
+refused_once : (bytes : List ℕ) (script other : ScriptText) → IsGoodScript bytes script → IsGoodScript bytes other → refused_setting other.settings ≡ refused_setting script.settings
+refused_once bytes script other good good' = ap (λ (s : ScriptText). refused_setting s.settings) (one_reading (lines_of bytes) other script good'.1 good.1)
+
 -- a good script was played, or a write failed, or memory was wanting: then no other cause holds
-pub good_complete : (bytes : List ℕ) (S K : Type 0) (script : ScriptText) (status : ℕ) → IsGoodScript bytes script
+pub good_complete : (bytes : List ℕ) (S K : Type 0) (script : ScriptText) (status : ℕ) → IsGoodScript bytes script → IsAllowed script
     → (¬ K → (status ≡ 0) ⊎ (status ≡ 8)) → IsComplete bytes S K status
-good_complete bytes S K script status good done = record {
+good_complete bytes S K script status good allowed done = record {
   too_long = λ long ok. absurd (good_not_long bytes script good long);
   bad_script = λ l bad ok. absurd (good_not_bad bytes script l good bad);
-  good_script = λ other is ok sink_ok. done sink_ok;
+  refused_setting = λ fault refused ok. absurd (none-some _ (sym allowed ∙ sym (refused_once bytes script refused.0 good refused.1) ∙ refused.2));
+  good_script = λ other is allows ok sink_ok. done sink_ok;
+}
+
+pub refused_complete : (bytes : List ℕ) (S K : Type 0) (script : ScriptText) (fault : SettingFault) → IsGoodScript bytes script → refused_setting script.settings ≡ Some fault → IsComplete bytes S K 4
+refused_complete bytes S K script fault good refused = record {
+  too_long = λ long ok. absurd (good_not_long bytes script good long);
+  bad_script = λ l bad ok. absurd (good_not_bad bytes script l good bad);
+  refused_setting = λ other is ok. inl refl;
+  good_script = λ other is allows ok sink_ok. absurd (none-some _ (sym allows ∙ refused_once bytes script other good is ∙ refused));
 }
 
 pub bad_complete : (bytes : List ℕ) (S K : Type 0) (l : ℕ) → IsBadScript bytes l → IsComplete bytes S K 3
 bad_complete bytes S K l bad = record {
   too_long = λ long ok. absurd (bad_not_long bytes l bad long);
   bad_script = λ other is ok. inl refl;
-  good_script = λ script good ok sink_ok. absurd (good_not_bad bytes script l good bad);
+  refused_setting = λ fault refused ok. absurd (good_not_bad bytes refused.0 l refused.1 bad);
+  good_script = λ script good allows ok sink_ok. absurd (good_not_bad bytes script l good bad);
 }
 
 pub long_complete : (bytes : List ℕ) (S K : Type 0) → IsTooLong bytes → IsComplete bytes S K 5
 long_complete bytes S K long = record {
   too_long = λ is ok. inl refl;
   bad_script = λ l bad ok. absurd (bad_not_long bytes l bad long);
-  good_script = λ script good ok sink_ok. absurd (good_not_long bytes script good long);
+  refused_setting = λ fault refused ok. absurd (good_not_long bytes refused.0 refused.1 long);
+  good_script = λ script good allows ok sink_ok. absurd (good_not_long bytes script good long);
 }
 
 pub memory_complete : (bytes : List ℕ) (S K : Type 0) → IsComplete bytes S K 8
 memory_complete bytes S K = record {
   too_long = λ is ok. inr refl;
   bad_script = λ l bad ok. inr refl;
-  good_script = λ script good ok sink_ok. inr refl;
+  refused_setting = λ fault refused ok. inr refl;
+  good_script = λ script good allows ok sink_ok. inr refl;
 }
 
 pub read_fault_complete : (bytes : List ℕ) (S K : Type 0) → S → IsComplete bytes S K 6
 read_fault_complete bytes S K failed = record {
   too_long = λ is ok. absurd (ok failed);
   bad_script = λ l bad ok. absurd (ok failed);
-  good_script = λ script good ok sink_ok. absurd (ok failed);
+  refused_setting = λ fault refused ok. absurd (ok failed);
+  good_script = λ script good allows ok sink_ok. absurd (ok failed);
 }
 
 -- ---- where the source tells
@@ -90,6 +110,7 @@ played_prefix (Some bytes) items script written written' K fault whole within re
 
     by : (f : DriveFault) → IsPlayFault K f → LeavesPrefix items written written' f
     by (faults.Script l) c = tt
+    by (faults.Setting fault) c = tt
     by faults.TooLong c = tt
     by faults.ReadFault c = tt
     by faults.WriteFault c = prefix
@@ -97,16 +118,28 @@ played_prefix (Some bytes) items script written written' K fault whole within re
 
 -- completeness, where the script was found good
 pub good_answers : (left : Option (List ℕ)) (items : List ℕ) (S K : Type 0) (script : ScriptText) (status : ℕ)
-    → IfSome left (λ bytes. items ≡ bytes) → length items ≤ script_limit → IsScriptOf items script → (¬ K → (status ≡ 0) ⊎ (status ≡ 8))
+    → IfSome left (λ bytes. items ≡ bytes) → length items ≤ script_limit → IsScriptOf items script → IsAllowed script → (¬ K → (status ≡ 0) ⊎ (status ≡ 8))
     → IfSome left (λ bytes. IsComplete bytes S K status)
-good_answers None items S K script status whole within reading done = tt
-good_answers (Some bytes) items S K script status whole within reading done =
+good_answers None items S K script status whole within reading allowed done = tt
+good_answers (Some bytes) items S K script status whole within reading allowed done =
     let P : List ℕ → Type 0 = λ b. IsComplete b S K status in
-    subst P whole (good_complete items S K script status (within, reading) done)
+    subst P whole (good_complete items S K script status (within, reading) allowed done)
+
+-- a setting of the script that was read is refused: that is the cause, and the answer is complete
+pub setting_refused : (left : Option (List ℕ)) (items : List ℕ) (script : ScriptText) (fault : SettingFault) → IfSome left (λ bytes. items ≡ bytes) → IsGoodScript items script
+    → refused_setting script.settings ≡ Some fault → IfSome left (λ bytes. IsRefusedSetting bytes fault)
+setting_refused None items script fault whole good refused = tt
+setting_refused (Some bytes) items script fault whole good refused = subst (λ b. IsRefusedSetting b fault) whole (script, good, refused)
+
+pub refused_answers : (left : Option (List ℕ)) (items : List ℕ) (S K : Type 0) (script : ScriptText) (fault : SettingFault) → IfSome left (λ bytes. items ≡ bytes) → IsGoodScript items script
+    → refused_setting script.settings ≡ Some fault → IfSome left (λ bytes. IsComplete bytes S K 4)
+refused_answers None items S K script fault whole good refused = tt
+refused_answers (Some bytes) items S K script fault whole good refused = subst (λ b. IsComplete b S K 4) whole (refused_complete items S K script fault good refused)
 
 -- what a play's fault leaves open: it is a failed write, or want of memory
 pub play_faults : (K : Type 0) (fault : DriveFault) → IsPlayFault K fault → ¬ K → (fault_status fault ≡ 0) ⊎ (fault_status fault ≡ 8)
 play_faults K (faults.Script l) c ok = absurd c
+play_faults K (faults.Setting fault) c ok = absurd c
 play_faults K faults.TooLong c ok = absurd c
 play_faults K faults.ReadFault c ok = absurd c
 play_faults K faults.WriteFault c ok = absurd (ok c)
@@ -134,6 +167,7 @@ pub unread_answers : (left : Option (List ℕ)) (S K : Type 0) (fault : DriveFau
     → IfSome left (λ bytes. IsComplete bytes S K (fault_status fault))
 unread_answers None S K fault h = tt
 unread_answers (Some bytes) S K (faults.Script l) h = bad_complete bytes S K l h
+unread_answers (Some bytes) S K (faults.Setting fault) h = absurd h
 unread_answers (Some bytes) S K faults.TooLong h = long_complete bytes S K h
 unread_answers (Some bytes) S K faults.ReadFault h = read_fault_complete bytes S K h
 unread_answers (Some bytes) S K faults.WriteFault h = absurd h
@@ -150,6 +184,7 @@ read_as (Err fault) left items whole within valid = tt
 -- the source wasn't read whole
 pub unread_whole : (left : Option (List ℕ)) (S : Type 0) (fault : DriveFault) → IsReadFault left S fault → IsUnread left S fault
 unread_whole left S (faults.Script l) h = absurd h
+unread_whole left S (faults.Setting fault) h = absurd h
 unread_whole left S faults.TooLong h = h
 unread_whole left S faults.ReadFault h = h
 unread_whole left S faults.WriteFault h = h
@@ -164,6 +199,7 @@ pub unread_script : (ended : Result Script DriveFault) (left : Option (List ℕ)
     → IfErr ended (IsScriptFault items) → IfErr ended (IsUnread left S)
 unread_script (Ok script) left S items whole within refused = tt
 unread_script (Err (faults.Script l)) left S items whole within refused = bad_line left items l whole (within, refused)
+unread_script (Err (faults.Setting fault)) left S items whole within refused = absurd refused
 unread_script (Err faults.TooLong) left S items whole within refused = absurd refused
 unread_script (Err faults.ReadFault) left S items whole within refused = absurd refused
 unread_script (Err faults.WriteFault) left S items whole within refused = absurd refused
@@ -174,5 +210,6 @@ pub play_fault_later : (first before now : ℕ) (fault : DriveFault) → first �
 play_fault_later first before now faults.WriteFault le rose = omega (arith, le, rose)
 play_fault_later first before now faults.Memory le rose = tt
 play_fault_later first before now (faults.Script _) le rose = absurd rose
+play_fault_later first before now (faults.Setting _) le rose = absurd rose
 play_fault_later first before now faults.TooLong le rose = absurd rose
 play_fault_later first before now faults.ReadFault le rose = absurd rose

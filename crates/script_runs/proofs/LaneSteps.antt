@@ -37,6 +37,12 @@ use Rattle.script_runs.specs.LaneCalls.{AllAsked, AreInPlace, AreReady, AsksKind
 pub counter≢gauge : kinds.Counter ≡ kinds.Gauge → ⊥
 counter≢gauge e = true≢false (ap (λ k. kind_eq k kinds.Counter) e)
 
+pub counter≢histogram : kinds.Counter ≡ kinds.Histogram → ⊥
+counter≢histogram e = true≢false (ap (λ k. kind_eq k kinds.Counter) e)
+
+pub gauge≢histogram : kinds.Gauge ≡ kinds.Histogram → ⊥
+gauge≢histogram e = true≢false (ap (λ k. kind_eq k kinds.Gauge) e)
+
 -- ---- calls on a cell
 
 index_front : (cs ds : List ℕ) (s : ℕ) → s < length cs → slice_index (cs ++ ds) s ≡ slice_index cs s

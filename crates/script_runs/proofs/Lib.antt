@@ -2,6 +2,7 @@ pub mod ReadingSteps
 pub mod Returned
 pub mod RoundSteps
 pub mod BuiltRounds
+pub mod Asked
 pub mod RunPages
 pub mod DriveSteps
 pub mod RelaySteps
@@ -10,7 +11,6 @@ pub mod WordSteps
 pub mod Fits
 pub mod LaneSteps
 pub mod LaneOrders
-pub mod PlaceSteps
 pub mod Numbers
 pub mod AfterLanes
 pub mod RestingSteps

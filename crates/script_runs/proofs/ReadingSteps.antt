@@ -89,6 +89,7 @@ piece_taken rest left old mid new buffer buffer' filled n same room is written m
 pub piece_fault : (left : Option (List ℕ)) (first before now : ℕ) (fault : DriveFault) → first ≤ before → IsPieceFault (Rose before now) fault
     → IsReadFault left (Rose first now) fault
 piece_fault left first before now (faults.Script l) le h = h
+piece_fault left first before now (faults.Setting fault) le h = absurd h
 piece_fault left first before now faults.TooLong le h = absurd h
 piece_fault left first before now faults.ReadFault le h = omega (arith, le, h)
 piece_fault left first before now faults.WriteFault le h = h

@@ -178,6 +178,7 @@ refused_ends left items S K written written' relay.Memory whole within cause lea
 
 pub unread_line : (left : Option (List ℕ)) (S : Type 0) (fault : DriveFault) → IsReadFault left S fault → IsRelayLineOf left (fault_status fault) (line (fault_text fault))
 unread_line left S (faults.Script l) h = absurd h
+unread_line left S (faults.Setting fault) h = absurd h
 unread_line left S faults.TooLong h = too_long
 unread_line left S faults.ReadFault h = read_failed
 unread_line left S faults.WriteFault h = absurd h

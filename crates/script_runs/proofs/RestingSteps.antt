@@ -1,12 +1,13 @@
 -- The exporter between rounds: its series under their indices, and what registration and a round of lanes leave.
-use Rattle.std.proofs.Common.{◌≡◌, ℕ, suc, ◌+◌, ◌⊎◌, List, [], ◌∷◌, ◌++◌, length, map, refl, sym, ap, subst, ◌∙◌, inl, inr, ⊎_elim, arith, length-append}
-use Rattle.std.specs.Prelude.{Result, Ok, Err, OnOk}
+use Rattle.std.proofs.Common.{◌≡◌, ℕ, zero, suc, ◌+◌, ◌⊎◌, Bool, true, false, cond, List, [], ◌∷◌, ◌++◌, length, map, refl, sym, ap, subst, ◌∙◌, inl, inr, ⊎_elim, arith, length-append}
+use Rattle.std.specs.Prelude.{Result, Ok, Err, OnOk, Option}
 use Rattle.std.proofs.lemmas.Option.{IfSome_then}
 use Rattle.std.proofs.lemmas.List.{length-map}
-use mathlib.Core.Option.{some, some-ne-none}
+use mathlib.Core.Option.{some, some-ne-none, some-injective}
 use lib.ListN.{get_elem?}
 use Rattle.atomic_table.proofs.Lists.{at_longer, at_map, at_snoc}
-use Rattle.legal_history.specs.History.{Settled, first}
+use Rattle.legal_history.specs.declared.history.View.{View}
+use Rattle.legal_history.specs.History.{Settled, first, looked}
 use Rattle.legal_history.proofs.Steps.{one_at}
 use Rattle.cell_lanes.specs.declared.lane.Lane.{Lane}
 use Rattle.cell_lanes.specs.Things.{Thing, root_of, fixed_of}
@@ -20,7 +21,9 @@ use Rattle.metrics_core.specs.declared.calls.SeriesCall.TheVariants as calls
 use Rattle.metrics_registry.specs.Live.{LiveSeries}
 use Rattle.series_cells.specs.declared.counter.PromCounter.{PromCounter}
 use Rattle.series_cells.specs.declared.gauge.PromGauge.{PromGauge}
+use Rattle.metrics_registry.specs.Recency.{Idle}
 use Rattle.prom_exporter.specs.Shared.{Shared, unused}
+use Rattle.prom_exporter.specs.Stepped.{AreNoted, IsNoted, Steps}
 use Rattle.prom_exporter.specs.Exporter.{Exporter, AddsCounter, AddsGauge, AllHome}
 use Rattle.prom_exporter.specs.declared.lanes.SeriesCell.{SeriesCell}
 use Rattle.prom_exporter.specs.declared.lanes.SeriesCell.TheVariants as cells
@@ -28,7 +31,7 @@ use Rattle.prom_exporter.specs.LanePasses.{TakesCall, counter_thing, gauge_thing
 use Rattle.prom_exporter.proofs.LaneThings.{all_home}
 use Rattle.script_runs.specs.LaneCalls.{AllAsked, kind_asked}
 use Rattle.script_runs.specs.Resting.{AllRest, EachRests, IsResting}
-use Rattle.script_runs.proofs.LaneSteps.{counter≢gauge, front_or_behind, its_id, map_at}
+use Rattle.script_runs.proofs.LaneSteps.{counter≢gauge, counter≢histogram, gauge≢histogram, front_or_behind, its_id, map_at}
 
 -- ---- series under their indices
 
@@ -92,6 +95,7 @@ module _ (e : Exporter) where
   takes_counter cell (calls.Add v) is = absurd (counter≢gauge is)
   takes_counter cell (calls.Subtract v) is = absurd (counter≢gauge is)
   takes_counter cell (calls.Set v) is = absurd (counter≢gauge is)
+  takes_counter cell (calls.Record v moment count) is = absurd (counter≢histogram is)
 
   takes_gauge : (cell : PromGauge) (call : SeriesCall) → kinds.Gauge ≡ kind_asked call → TakesCall (cells.Gauge cell) call
   takes_gauge cell (calls.Increment n) is = absurd (counter≢gauge (sym is))
@@ -99,6 +103,7 @@ module _ (e : Exporter) where
   takes_gauge cell (calls.Add v) is = tt
   takes_gauge cell (calls.Subtract v) is = tt
   takes_gauge cell (calls.Set v) is = tt
+  takes_gauge cell (calls.Record v moment count) is = absurd (gauge≢histogram is)
 
   -- each lane's calls are of the kinds of their series
   pub all_taken : (lanes : List (Lane SeriesCall)) → AllRest e → ((l : ℕ) (lane : Lane SeriesCall) → get_elem? lanes l ≡ some lane → AllAsked (ids_of e) lane.cells.items lane.lines.items)
@@ -168,6 +173,37 @@ gauge_rests key old new step rest = ⊎_elim
     (λ (same : new ≡ old). subst AllRest (sym same) rest)
     (λ (adds : AddsGauge key old new). subst AllRest (sym adds.1) (record { counters = rest.counters; gauges = new_rests kinds.Gauge old.series.gauges old.series.made key adds.0 rest.gauges }))
     step
+
+-- a page notes series, and those that stay rest
+module _ {F : Type 0} (idle : Option Idle) (moment : ℕ) (kind : MetricKind) where
+  noted_one_rests : (e : LiveSeries (Shared F)) (stays : Bool) (cell : Shared F) → IsNoted idle moment kind e.cell stays cell → IsResting kind e → IsResting kind (record e { cell = cell })
+  noted_one_rests e stays cell noted rest =
+      let log = noted.looks.0 in
+      let whole : log ≡ e.cell.root.seen = (noted.looks.1.whole rest.home.0 rest.home.1).0 in
+      let same : cell.root ≡ e.cell.root =
+      ap (λ (c : Shared F). c.root) noted.left ∙ ap (λ (c : Shared F). c.root) noted.looks.2 ∙ ap (looked e.cell.root) whole in
+      record {
+        kind_is = rest.kind_is;
+        home = (ap (λ (v : View SeriesCall). v.number) same ∙ rest.home.0, ap (λ (v : View SeriesCall). v.out) same ∙ rest.home.1);
+        settled = subst (λ (v : View SeriesCall). Settled v) (sym same) rest.settled;
+      }
+
+  one_more_rests : (b : Bool) (e : LiveSeries (Shared F)) (es : List (LiveSeries (Shared F))) → IsResting kind e → EachRests kind es → EachRests kind (cond b (e ∷ es) es)
+  one_more_rests true e es first tail zero s at = subst (IsResting kind) (some-injective e s at) first
+  one_more_rests true e es first tail (suc i) s at = tail i s at
+  one_more_rests false e es first tail i s at = tail i s at
+
+  pub noted_rests : (es fs : List (LiveSeries (Shared F))) → EachRests kind es → AreNoted idle moment kind es fs → EachRests kind fs
+  noted_rests [] fs rests noted = subst (EachRests kind) (sym noted) rests
+  noted_rests (e ∷ es) fs rests (stays, cell, rest, one, others, is) =
+      subst (EachRests kind) (sym is)
+      (one_more_rests stays (record e { cell = cell }) rest (noted_one_rests e stays cell one (rests 0 e refl)) (noted_rests es rest (λ i s at. rests (suc i) s at) others))
+
+pub page_rests : (moment : ℕ) (e f : Exporter) → Steps moment e f → AllRest e → AllRest f
+page_rests moment e f steps rest = record {
+  counters = noted_rests e.settings.idle moment kinds.Counter e.series.counters f.series.counters rest.counters steps.counters;
+  gauges = noted_rests e.settings.idle moment kinds.Gauge e.series.gauges f.series.gauges rest.gauges steps.gauges;
+}
 
 -- with no series all rest
 pub none_rest : (e : Exporter) → e.series.counters ≡ [] → e.series.gauges ≡ [] → AllRest e

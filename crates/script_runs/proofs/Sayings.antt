@@ -1,11 +1,12 @@
 -- What is said of a fault and of a run is the line of its status.
-use Rattle.std.proofs.Common.{◌≡◌, ℕ, List, [], ◌∷◌, ◌++◌, sym, ap, ◌∙◌, subst, append_assoc}
-use Rattle.std.specs.Prelude.{Option, IfSome, codes, decimal}
+use Rattle.std.proofs.Common.{◌≡◌, ℕ, List, [], ◌∷◌, ◌++◌, sym, ap, ◌∙◌, subst, append_assoc, arith}
+use Rattle.std.specs.Prelude.{Option, Some, None, IfSome, codes, decimal}
 use Rattle.metrics_core.specs.Characters.{line, newline}
-use Rattle.drive_script.specs.Faults.{fault_text}
+use Rattle.drive_script.specs.Faults.{fault_text, setting_text}
+use Rattle.drive_script.specs.declared.faults.SettingFault.{SettingFault}
 use Rattle.drive_script.specs.declared.faults.DriveFault.{DriveFault}
 use Rattle.drive_script.specs.declared.faults.DriveFault.TheVariants as faults
-use Rattle.script_runs.specs.Answers.{IsSaidText, IsLineOf, HasCause, HasRounds, report_text, report_of, fault_status, done, bad_script, too_long, read_failed, write_failed, no_memory}
+use Rattle.script_runs.specs.Answers.{IsRefusedSetting, IsSaidText, IsLineOf, HasCause, HasRounds, report_text, report_of, fault_status, done, bad_script, setting_refused, too_long, read_failed, write_failed, no_memory}
 use Rattle.script_runs.specs.declared.report.Report.{Report}
 
 -- a text that is the line of a fault, said of that fault
@@ -15,6 +16,13 @@ said_of Failed said said' fault is text same spelled h =
     let P : List ℕ → Type 0 = λ t. IsSaidText Failed said said' t in
     subst P (spelled ∙ sym (ap (λ f. line (fault_text f)) same)) h
 
+-- the same of a refused setting
+pub setting_said : (Failed : Type 0) (said said' : Option (List ℕ)) (fault is : SettingFault) (text : List ℕ) → fault ≡ is → text ≡ line (setting_text is)
+    → IsSaidText Failed said said' text → IsSaidText Failed said said' (line (setting_text fault))
+setting_said Failed said said' fault is text same spelled h =
+    let P : List ℕ → Type 0 = λ t. IsSaidText Failed said said' t in
+    subst P (spelled ∙ sym (ap (λ f. line (setting_text f)) same)) h
+
 -- the line of a bad script, from its pieces
 pub script_line : (digits : List ℕ) (l : ℕ) → digits ≡ decimal l → codes "script: line " ++ (digits ++ newline ∷ []) ≡ line (fault_text (faults.Script l))
 script_line digits l e = ap (λ d. codes "script: line " ++ (d ++ newline ∷ [])) e ∙ sym (append_assoc (codes "script: line ") (decimal l) (newline ∷ []))
@@ -23,6 +31,7 @@ script_line digits l e = ap (λ d. codes "script: line " ++ (d ++ newline ∷ []
 pub fault_line : (left : Option (List ℕ)) (S K : Type 0) (fault : DriveFault) → IfSome left (λ bytes. HasCause bytes S K fault)
     → IsLineOf left (fault_status fault) (line (fault_text fault))
 fault_line left S K (faults.Script l) cause = bad_script l cause
+fault_line left S K (faults.Setting fault) cause = setting_refused fault cause
 fault_line left S K faults.TooLong cause = too_long
 fault_line left S K faults.ReadFault cause = read_failed
 fault_line left S K faults.WriteFault cause = write_failed
@@ -34,3 +43,14 @@ pub report_line : (left : Option (List ℕ)) (report : Report) → report ≡ re
 report_line left report same rounds =
     let P : Report → Type 0 = λ r. IsLineOf left 0 (line (report_text r)) in
     subst P (sym same) (done report.pages rounds)
+
+-- where the status is that of a refused setting, one was refused
+pub setting_of_status : (left : Option (List ℕ)) (S K : Type 0) (fault : DriveFault) → IfSome left (λ bytes. HasCause bytes S K fault) → fault_status fault ≡ 4
+    → IfSome left (λ bytes. (refused : SettingFault) × IsRefusedSetting bytes refused)
+setting_of_status None S K fault cause is = tt
+setting_of_status (Some bytes) S K (faults.Script l) cause is = absurd (omega (arith, is))
+setting_of_status (Some bytes) S K (faults.Setting refused) cause is = (refused, cause)
+setting_of_status (Some bytes) S K faults.TooLong cause is = absurd (omega (arith, is))
+setting_of_status (Some bytes) S K faults.ReadFault cause is = absurd (omega (arith, is))
+setting_of_status (Some bytes) S K faults.WriteFault cause is = absurd (omega (arith, is))
+setting_of_status (Some bytes) S K faults.Memory cause is = absurd (omega (arith, is))

@@ -1,11 +1,13 @@
 -- Which status the program ends with, by which cause, and its line on `err` (this project's rules).
-use Rattle.std.specs.Prelude.{◌≡◌, ℕ, ◌<◌, ◌≤◌, ◌⊎◌, List, [], ◌∷◌, ◌++◌, length, Result, Ok, Err, Option, IfSome, codes, decimal, map}
+use Rattle.std.specs.Prelude.{◌≡◌, ℕ, ◌<◌, ◌≤◌, ◌⊎◌, List, [], ◌∷◌, ◌++◌, length, Result, Ok, Err, Option, Some, None, IfSome, codes, decimal, map}
 use Rattle.std.specs.Borrow.{Bor}
 use Rattle.metrics_core.specs.Characters.{line}
 use Rattle.metrics_core.specs.Outside.{GrewBy}
 use Rattle.drive_script.specs.Script.{ScriptText}
 use Rattle.drive_script.specs.Valid.{IsFirstBadLine}
 use Rattle.drive_script.specs.Faults.{fault_text}
+use Rattle.drive_script.specs.Settings.{refused_setting}
+use Rattle.drive_script.specs.declared.faults.SettingFault.{SettingFault}
 use Rattle.drive_script.specs.declared.faults.DriveFault.{DriveFault}
 use Rattle.drive_script.specs.declared.faults.DriveFault.TheVariants as faults
 use Rattle.script_runs.specs.Headline.{IsPlayedInPart, IsGoodScript, script_limit}
@@ -35,10 +37,19 @@ IsTooLong bytes = script_limit < length bytes
 abbrev pub IsBadScript : List ℕ → ℕ → Type 0
 IsBadScript bytes l = (length bytes ≤ script_limit) × IsFirstBadLine bytes l
 
+-- the bytes are a valid script, and this is the first of its settings that is refused
+abbrev pub IsRefusedSetting : List ℕ → SettingFault → Type 0
+IsRefusedSetting bytes fault = (script : ScriptText) × IsGoodScript bytes script × (refused_setting script.settings ≡ Some fault)
+
+-- no setting of the script is refused
+abbrev pub IsAllowed : ScriptText → Type 0
+IsAllowed script = refused_setting script.settings ≡ None
+
 -- Why a run over these bytes ended with a fault; `SourceFailed` and `SinkFailed` say that the count of faults of the
 -- source and of the sink of the pages rose in the call. Want of memory is free.
 abbrev pub HasCause : List ℕ → Type 0 → Type 0 → DriveFault → Type 0
 HasCause bytes SourceFailed SinkFailed (faults.Script l) = IsBadScript bytes l
+HasCause bytes SourceFailed SinkFailed (faults.Setting fault) = IsRefusedSetting bytes fault
 HasCause bytes SourceFailed SinkFailed faults.TooLong = IsTooLong bytes
 HasCause bytes SourceFailed SinkFailed faults.ReadFault = SourceFailed
 HasCause bytes SourceFailed SinkFailed faults.WriteFault = SinkFailed
@@ -53,6 +64,7 @@ HasDeviceCause SourceFailed SinkFailed _ = Unit {0}
 -- nothing was written where the script wasn't played
 abbrev pub LeavesUnplayed : Option (List ℕ) → Option (List ℕ) → DriveFault → Type 0
 LeavesUnplayed written written' (faults.Script l) = written' ≡ written
+LeavesUnplayed written written' (faults.Setting fault) = written' ≡ written
 LeavesUnplayed written written' faults.TooLong = written' ≡ written
 LeavesUnplayed written written' faults.ReadFault = written' ≡ written
 LeavesUnplayed written written' _ = Unit {0}
@@ -67,6 +79,7 @@ LeavesPrefix bytes written written' _ = Unit {0}
 
 abbrev pub fault_status : DriveFault → ℕ
 fault_status (faults.Script l) = 3
+fault_status (faults.Setting fault) = 4
 fault_status faults.TooLong = 5
 fault_status faults.ReadFault = 6
 fault_status faults.WriteFault = 7
@@ -80,12 +93,13 @@ end_status (Err fault) = fault_status fault
 pub record IsComplete (bytes : List ℕ) (SourceFailed SinkFailed : Type 0) (status : ℕ) : Type 0 where
   pub too_long : IsTooLong bytes → ¬ SourceFailed → (status ≡ 5) ⊎ (status ≡ 8)
   pub bad_script : (l : ℕ) → IsBadScript bytes l → ¬ SourceFailed → (status ≡ 3) ⊎ (status ≡ 8)
-  pub good_script : (script : ScriptText) → IsGoodScript bytes script → ¬ SourceFailed → ¬ SinkFailed → (status ≡ 0) ⊎ (status ≡ 8)
+  pub refused_setting : (fault : SettingFault) → IsRefusedSetting bytes fault → ¬ SourceFailed → (status ≡ 4) ⊎ (status ≡ 8)
+  pub good_script : (script : ScriptText) → IsGoodScript bytes script → IsAllowed script → ¬ SourceFailed → ¬ SinkFailed → (status ≡ 0) ⊎ (status ≡ 8)
 
 -- the statuses after which no page was begun: the words are no form, or the input was refused or not read
 abbrev pub IsUnplayed : ℕ → Type 0
 IsUnplayed status =
-    (status ≡ 2) ⊎ ((status ≡ 3) ⊎ ((status ≡ 5) ⊎ ((status ≡ 6) ⊎ ((status ≡ 10) ⊎ (status ≡ 11)))))
+    (status ≡ 2) ⊎ ((status ≡ 3) ⊎ ((status ≡ 4) ⊎ ((status ≡ 5) ⊎ ((status ≡ 6) ⊎ ((status ≡ 10) ⊎ (status ≡ 11))))))
 
 -- the statuses that are none of the command `drive`
 abbrev pub IsNoDriveStatus : ℕ → Type 0
@@ -117,6 +131,7 @@ pub data IsLineOf (left : Option (List ℕ)) : ℕ → List ℕ → Type 0 where
   done : (pages : ℕ) → IfSome left (λ bytes. HasRounds bytes pages) → IsLineOf left 0 (line (report_text (report_of pages)))
   usage : IsLineOf left 2 (line usage_text)
   bad_script : (l : ℕ) → IfSome left (λ bytes. IsBadScript bytes l) → IsLineOf left 3 (line (fault_text (faults.Script l)))
+  setting_refused : (fault : SettingFault) → IfSome left (λ bytes. IsRefusedSetting bytes fault) → IsLineOf left 4 (line (fault_text (faults.Setting fault)))
   too_long : IsLineOf left 5 (line (fault_text faults.TooLong))
   read_failed : IsLineOf left 6 (line (fault_text faults.ReadFault))
   write_failed : IsLineOf left 7 (line (fault_text faults.WriteFault))

@@ -30,6 +30,7 @@ kind_asked (calls.Absolute _) = kinds.Counter
 kind_asked (calls.Add _) = kinds.Gauge
 kind_asked (calls.Subtract _) = kinds.Gauge
 kind_asked (calls.Set _) = kinds.Gauge
+kind_asked (calls.Record _ _ _) = kinds.Histogram
 
 -- the id at an index is this one
 abbrev pub id_at : List SeriesId → ℕ → SeriesId → Bool

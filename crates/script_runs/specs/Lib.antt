@@ -6,9 +6,9 @@ pub mod Relay
 pub mod Reading
 pub mod Player
 pub mod Orders
+pub mod Told
 pub mod Resting
 pub mod Built
 pub mod Fitting
 pub mod LaneCalls
-pub mod Places
 pub mod Vectors

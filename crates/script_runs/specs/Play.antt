@@ -9,6 +9,8 @@ use Rattle.prom_format.specs.Pages.{Family}
 use Rattle.prom_exporter.specs.State as prom
 use Rattle.prom_exporter.specs.State.{PrometheusState, Series, live}
 use Rattle.prom_exporter.specs.Families.{ExporterSettings, families_at}
+use Rattle.prom_format.specs.Matchers.{sanitized_matcher}
+use Rattle.drive_script.specs.Settings.{window_settings}
 use Rattle.drive_script.specs.Script.{ScriptText, SettingsText, RoundText, SetupLine, Describe, Register, CallLine, call_of, global_labels}
 
 -- ---- settings
@@ -17,16 +19,12 @@ use Rattle.drive_script.specs.Script.{ScriptText, SettingsText, RoundText, Setup
 abbrev pub default_quantiles : List ℤ
 default_quantiles = map pos (0 ∷ 500000000 ∷ 900000000 ∷ 950000000 ∷ 990000000 ∷ 999000000 ∷ 1000000000 ∷ [])
 
--- three buckets of 20 seconds where the script has no summary line
-abbrev pub window_settings : Option (ℕ × ℕ) → ℕ × ℕ
-window_settings summary = unwrap_or summary (3, 20000000000)
-
 -- what the exporter of a script is built with; a script has no lines on native histograms yet
 abbrev pub exporter_settings : SettingsText → ExporterSettings
 exporter_settings s = record {
   quantiles = unwrap_or s.quantiles default_quantiles;
   buckets = s.buckets;
-  buckets_for = s.buckets_for;
+  buckets_for = map (λ rule. (sanitized_matcher rule.0, rule.1)) s.buckets_for;
   native_for = [];
   bucket_count = (window_settings s.summary).0;
   bucket_duration = (window_settings s.summary).1;

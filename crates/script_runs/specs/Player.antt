@@ -2,11 +2,6 @@
 use Rattle.prom_exporter.specs.Exporter as exporter
 use Rattle.script_runs.specs.Play.{PlayState}
 use Rattle.script_runs.specs.declared.play.Player.{Player}
-use Rattle.script_runs.specs.Places.{ArePlaced}
 
 abbrev pub state_of : Player → PlayState
 state_of player = record { prometheus = exporter.state_of player.exporter; handles = player.handles.items }
-
--- the player knows where the series of its handles stand
-abbrev pub KnowsPlaces : Player → Type 0
-KnowsPlaces player = ArePlaced player.exporter player.handles.items player.places.items

@@ -10,7 +10,7 @@ ghost use Rattle.script_runs.specs.Reading.{IsReadAs, IsUnread};
 use crate::play::play;
 use crate::reading::read_all;
 use crate::{Gate, Report};
-use drive_script::{DriveFault, Script, read_script};
+use drive_script::{DriveFault, Script, check_settings, read_script};
 use metrics_core::{Sink, Source};
 use std::alloc::Global;
 use std::sync::Wait;
@@ -45,6 +45,7 @@ pub fn drive<R: Threads + Wait + Sync, S: Source, K: Sink, G: Gate + Sync>(
         IsComplete bytes (Rose (S.faults source.old) (S.faults source.new)) (Rose (K.faults out.old) (K.faults out.new)) (end_status result)) }
 {
     let script = read_whole_script(alloc, source)?;
+    check_settings(&script.settings)?;
     play(rt, alloc, gate, script, out)
 }
 

@@ -11,10 +11,8 @@ ghost use Rattle.legal_history.specs.History.{Distinct, keep};
 ghost use Rattle.prom_exporter.specs.LanePasses.{ids_of};
 ghost use Rattle.drive_script.specs.Texts.{call_line_of};
 ghost use Rattle.script_runs.specs.Fitting.{FitsHandle};
-ghost use Rattle.script_runs.specs.Places.{ArePlaced};
 ghost use Rattle.script_runs.specs.LaneCalls.{AllAsked, AreInPlace, AreReady, AsksKind, HasLane, asked, call_asked, calls_at, gathered_asked, gathered_at, gathered_parts, has_lines, is_at, is_place, lane_asks, lane_cells, lane_lines, lane_number, numbered_asked, numbered_at, parts_of};
 
-use crate::places::index_at;
 use cell_lanes::{Lane, Line};
 use drive_script::{Act, CallLine};
 use indexmap::IndexSet;
@@ -28,11 +26,10 @@ pub(crate) fn lanes_of(
     alloc: Global,
     exporter: &PrometheusState,
     handles: &[SeriesId],
-    places: &[Option<u32>],
+    guesses: &mut [u32],
     calls: &[CallLine],
 ) -> Result<Vec<Lane<SeriesCall>>, Memory>
     requires fit { All (λ line. FitsHandle handles.now (call_line_of line)) calls.now }
-    requires placed { ArePlaced exporter.now handles.now places.now }
     ensures fit { IfOk result (λ lanes. AllFit (length (ids_of exporter.now)) lanes.items) }
     ensures asked { IfOk result (λ lanes. (l : ℕ) (lane : Lane SeriesCall)
         → get_elem? lanes.items l ≡ some lane
@@ -47,7 +44,7 @@ pub(crate) fn lanes_of(
 {
     let mut gathered = Vec::new(alloc);
     for line in calls {
-        gather(alloc, exporter, handles, places, &mut gathered, line)?;
+        gather(alloc, exporter, handles, guesses, &mut gathered, line)?;
     }
     into_lanes(alloc, gathered)
 }
@@ -57,12 +54,11 @@ fn gather(
     alloc: Global,
     exporter: &PrometheusState,
     handles: &[SeriesId],
-    places: &[Option<u32>],
+    guesses: &mut [u32],
     gathered: &mut Vec<LaneCalls>,
     line: &CallLine,
 ) -> Result<(), Memory>
     requires fit { FitsHandle handles.now (call_line_of line.now) }
-    requires placed { ArePlaced exporter.now handles.now places.now }
     requires ready { AreReady (ids_of exporter.now) gathered.old.items }
     requires places { AreInPlace 0 gathered.old.items }
     ensures ready { OnOk result (AreReady (ids_of exporter.now) gathered.new.items) }
@@ -75,30 +71,29 @@ fn gather(
         ≡ gathered_asked gathered.old.items l
         ++ keep (HasLane l line.now) (asked line.now.act) []) }
 {
-    let place = place_of(exporter, handles, places, line);
+    let place = place_of(exporter, handles, guesses, line);
     let lane = usize::from(line.lane);
     make_room(alloc, gathered, lane)?;
     gathered[lane].push(place, call_of(line.act))
 }
 
-/// The index of the series that a call line's handle names, if it is live.
+/// The index of the series that a call line's handle names, if it is live. A guess for each handle says where to look first.
 fn place_of(
     exporter: &PrometheusState,
     handles: &[SeriesId],
-    places: &[Option<u32>],
+    guesses: &mut [u32],
     line: &CallLine,
 ) -> Option<usize>
     requires fit { FitsHandle handles.now (call_line_of line.now) }
-    requires placed { ArePlaced exporter.now handles.now places.now }
     ensures place { (j : ℕ)
         → is_at (ids_of exporter.now) handles.now j line.now ≡ is_place j result }
     ensures asks { IfSome result (λ index.
         AsksKind (ids_of exporter.now) index (asked line.now.act)) }
 {
     let id = id_of(handles, line)?;
-    match places.get(line.handle as usize) {
-        Some(Some(place)) => Some(index_at(exporter, id, *place as usize)),
-        _ => exporter.index_of(id),
+    match guesses.get_mut(line.handle as usize) {
+        Some(guess) => exporter.index_near(id, guess),
+        None => exporter.index_of(id),
     }
 }
 

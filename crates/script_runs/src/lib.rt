@@ -11,13 +11,13 @@ mod driving;
 mod examples;
 mod gates;
 mod lanes;
-mod places;
 mod play;
 mod reading;
 mod relaying;
 mod report;
 mod running;
 mod say;
+mod settings;
 
 pub use driving::drive;
 pub use examples::{basic_example, empty_example};

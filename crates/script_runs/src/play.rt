@@ -3,7 +3,7 @@
 ghost use Rattle.std.specs.Prelude.{◌≡◌, ◌≤◌, [], fold, map, length, IfOk, IfErr, OnOk, OnErr, vec_len};
 ghost use Rattle.metrics_core.specs.Outside.{Rose, GrewBy, GrewByPrefix};
 ghost use Rattle.drive_script.specs.Texts.{script_of, settings_of, round_of};
-ghost use Rattle.script_runs.specs.Answers.{IsPlayFault, report_of};
+ghost use Rattle.script_runs.specs.Answers.{IsAllowed, IsPlayFault, report_of};
 ghost use Rattle.script_runs.specs.Built.{AreBuiltRounds};
 ghost use Rattle.script_runs.specs.Fitting.{CallsFit};
 ghost use Rattle.script_runs.specs.Orders.{ForSomeRun};
@@ -11,12 +11,12 @@ ghost use Rattle.script_runs.specs.Play.{exporter_settings};
 
 use crate::gates::GateHook;
 use crate::lanes::lanes_of;
-use crate::places::{kept_place, place_in_kind};
+use crate::settings::builder_of;
 use crate::{Gate, Report};
 use cell_lanes::run_lanes;
 use drive_script::{CallLine, DriveFault, Round, Script, Settings, Setup};
 use metrics_core::{Memory, MetricKind, SeriesId, Sink, write_whole};
-use prom_exporter::{BuildError, PrometheusBuilder, PrometheusState};
+use prom_exporter::{BuildError, PrometheusState};
 use std::alloc::Global;
 use std::sync::Wait;
 use std::thread::Threads;
@@ -31,6 +31,7 @@ pub fn play<R: Threads + Wait + Sync, G: Gate + Sync, K: Sink>(
     script: Script,
     out: &mut K,
 ) -> Result<Report, DriveFault>
+    requires allowed { IsAllowed (script_of script) }
     requires built { AreBuiltRounds script.rounds.items }
     requires fit { CallsFit [] (map round_of script.rounds.items) }
     ensures pages { OnOk result (ForSomeRun (script_of script) (GrewBy (K.written out.old) (K.written out.new))) }
@@ -41,7 +42,7 @@ pub fn play<R: Threads + Wait + Sync, G: Gate + Sync, K: Sink>(
 {
     let Script { settings, rounds } = script;
     let pages = rounds.len() as u64;
-    let mut player = Player::new(alloc, &settings)?;
+    let mut player = Player::new(alloc, settings)?;
     for round in rounds {
         player.play_round(rt, alloc, gate, round, out)?;
     }
@@ -58,39 +59,40 @@ pub fn play<R: Threads + Wait + Sync, G: Gate + Sync, K: Sink>(
 pub struct Player {
     pub exporter: PrometheusState,
     pub handles: Vec<SeriesId>,
-    /// For each handle, where its series stands among those of its kind, if that is known.
-    pub places: Vec<Option<u32>>,
+    /// For each handle, where to look for its series first.
+    pub guesses: Vec<u32>,
 }
 
 impl Player {
-    ghost use Rattle.std.specs.Prelude.{◌≡◌, ◌≤◌, ℕ, All, [], ◌∷◌, fold, map, IfOk, IfErr, OnOk, OnErr};
+    ghost use Rattle.std.specs.Prelude.{◌≡◌, ◌≤◌, ℕ, All, None, [], ◌∷◌, fold, map, IfOk, IfErr, OnOk, OnErr};
     ghost use Rattle.metrics_core.specs.Outside.{Rose, GrewBy, GrewByPrefix};
     ghost use Rattle.prom_format.specs.Pages.{page_text};
     ghost use Rattle.prom_exporter.specs.State.{page_step};
     ghost use Rattle.prom_exporter.specs.Exporter.{AllHome, page_families, state_of as prometheus_of};
     ghost use Rattle.drive_script.specs.Script.{RoundText, SettingsText};
+    ghost use Rattle.drive_script.specs.Settings.{refused_setting};
     ghost use Rattle.drive_script.specs.Texts.{round_of, settings_of, setup_of, call_line_of};
     ghost use Rattle.script_runs.specs.Answers.{IsPlayFault};
     ghost use Rattle.script_runs.specs.Orders.{ForSomeOrders, IsCalled, round_text};
     ghost use Rattle.script_runs.specs.Play.{after_round, play_start, setup_step, exporter_settings};
-    ghost use Rattle.script_runs.specs.Player.{KnowsPlaces, state_of};
+    ghost use Rattle.script_runs.specs.Player.{state_of};
     ghost use Rattle.script_runs.specs.Resting.{AllRest};
     ghost use Rattle.script_runs.specs.Built.{AreBuiltSetups, IsBuiltSetup};
     ghost use Rattle.script_runs.specs.Fitting.{CallsFit, FitsHandle};
 
     /// A player before its first round, over an exporter with these settings.
-    fn new(alloc: Global, settings: &Settings) -> Result<Player, Memory>
+    fn new(alloc: Global, settings: Settings) -> Result<Player, Memory>
+        requires allowed { refused_setting (settings_of settings) ≡ None }
         ensures start { IfOk result (λ player. state_of player ≡ play_start) }
-        ensures settings { IfOk result (λ player. player.exporter.settings ≡ exporter_settings (settings_of settings.now)) }
+        ensures settings { IfOk result (λ player. player.exporter.settings ≡ exporter_settings (settings_of settings)) }
         ensures rest { IfOk result (λ player. AllRest player.exporter) }
-        ensures placed { IfOk result (λ player. KnowsPlaces player) }
     {
         let builder = builder_of(alloc, settings)?;
         match builder.build_state(alloc) {
             Ok(exporter) => Ok(Player {
                 exporter,
                 handles: Vec::new(alloc),
-                places: Vec::new(alloc),
+                guesses: Vec::new(alloc),
             }),
             Err(_) => Err(Memory),
         }
@@ -108,9 +110,7 @@ impl Player {
         requires built { AreBuiltSetups round.setup.items }
         requires fit { CallsFit self.old.handles.items (round_of round ∷ []) }
         requires rest { AllRest self.old.exporter }
-        requires placed { KnowsPlaces self.old }
         ensures rest { OnOk result (AllRest self.new.exporter) }
-        ensures placed { OnOk result (KnowsPlaces self.new) }
         ensures settings { self.new.exporter.settings ≡ self.old.exporter.settings }
         ensures played { (settings : SettingsText) → self.old.exporter.settings ≡ exporter_settings settings
             → OnOk result (ForSomeOrders (state_of self.old) (round_of round) (λ orders.
@@ -129,7 +129,7 @@ impl Player {
         } = round;
         self.set_up(alloc, setup)?;
         self.make_calls(rt, alloc, gate, calls)?;
-        self.write_page(alloc, moment, out)
+        self.write_page(rt, alloc, moment, out)
     }
 
     /// Does the setup lines in order. They are taken from the end of a list that is turned round, so that the room of those
@@ -138,7 +138,6 @@ impl Player {
         requires { AreBuiltSetups setup.items }
         ensures settings { self.new.exporter.settings ≡ self.old.exporter.settings }
         ensures rest { AllRest self.old.exporter → AllRest self.new.exporter }
-        ensures placed { OnOk result (KnowsPlaces self.old → KnowsPlaces self.new) }
         ensures stepped { OnOk result (state_of self.new ≡ fold setup_step (state_of self.old) (map setup_of setup.items)) }
     {
         self.make_room(&setup)?;
@@ -154,7 +153,6 @@ impl Player {
     fn make_room(&mut self, setup: &[Setup]) -> Result<(), Memory>
         ensures exporter { self.new.exporter ≡ self.old.exporter }
         ensures handles { self.new.handles.items ≡ self.old.handles.items }
-        ensures places { self.new.places.items ≡ self.old.places.items }
     {
         if setup.len() < self.handles.len() {
             return Ok(());
@@ -162,7 +160,7 @@ impl Player {
         let counters = setup.iter().filter(|line| is_counter(line)).count();
         self.exporter.reserve(counters, setup.len() - counters)?;
         self.handles.reserve(setup.len())?;
-        self.places.reserve(setup.len())?;
+        self.guesses.reserve(setup.len())?;
         Ok(())
     }
 
@@ -171,7 +169,6 @@ impl Player {
         requires { IsBuiltSetup (setup_of line) }
         ensures settings { self.new.exporter.settings ≡ self.old.exporter.settings }
         ensures rest { AllRest self.old.exporter → AllRest self.new.exporter }
-        ensures placed { OnOk result (KnowsPlaces self.old → KnowsPlaces self.new) }
         ensures stepped { OnOk result (state_of self.new ≡ setup_step (state_of self.old) (setup_of line)) }
     {
         let Setup::Register { kind, key } = line;
@@ -180,9 +177,8 @@ impl Player {
             MetricKind::Gauge => self.exporter.register_owned_gauge(alloc, key)?,
             MetricKind::Histogram => unreachable!(),
         };
-        let place = kept_place(place_in_kind(&self.exporter, id));
         self.handles.push(id)?;
-        self.places.push(place)?;
+        self.guesses.push(0)?;
         Ok(())
     }
 
@@ -197,37 +193,42 @@ impl Player {
     ) -> Result<(), Memory>
         requires fit { All (λ line. FitsHandle self.old.handles.items (call_line_of line)) calls.items }
         requires rest { AllRest self.old.exporter }
-        requires placed { KnowsPlaces self.old }
         ensures rest { AllRest self.new.exporter }
-        ensures placed { KnowsPlaces self.new }
         ensures settings { self.new.exporter.settings ≡ self.old.exporter.settings }
         ensures called { OnOk result ((round : RoundText) → round.calls ≡ map call_line_of calls.items → IsCalled (state_of self.old) round (state_of self.new)) }
     {
-        let lanes = lanes_of(alloc, &self.exporter, &self.handles, &self.places, &calls)?;
+        let lanes = lanes_of(
+            alloc,
+            &self.exporter,
+            &self.handles,
+            &mut self.guesses,
+            &calls,
+        )?;
         drop(calls);
         run_lanes(rt, alloc, &GateHook { gate }, &mut self.exporter, &lanes)
     }
 
     /// Writes the page at a moment, ended by the line `# EOF`.
-    fn write_page<K: Sink>(
+    fn write_page<R: Wait, K: Sink>(
         &mut self,
+        rt: &R,
         alloc: Global,
         moment: u64,
         out: &mut K,
     ) -> Result<(), DriveFault>
-        requires home { AllHome self.old.exporter }
-        ensures same { self.new.exporter ≡ self.old.exporter }
-        ensures placed { KnowsPlaces self.old → KnowsPlaces self.new }
+        requires rest { AllRest self.old.exporter }
+        ensures rest { AllRest self.new.exporter }
+        ensures settings { self.new.exporter.settings ≡ self.old.exporter.settings }
         ensures stepped { OnOk result (state_of self.new ≡ record (state_of self.old) { prometheus = page_step self.old.exporter.settings.idle moment (prometheus_of self.old.exporter) }) }
         ensures page { OnOk result (GrewBy (K.written out.old) (K.written out.new) (page_text (page_families moment self.old.exporter))) }
         ensures prefix { OnErr result (GrewByPrefix (K.written out.old) (K.written out.new) (page_text (page_families moment self.old.exporter))) }
         ensures cause { IfErr result (IsPlayFault (Rose (K.faults out.old) (K.faults out.new))) }
         ensures never_falls { K.faults out.old ≤ K.faults out.new }
     {
-        match self.exporter.render_to_write(alloc, moment, out) {
+        match self.exporter.render_to_write(rt, alloc, moment, out) {
             Ok(()) => (),
             Err(BuildError::WriteFault) => return Err(DriveFault::WriteFault),
-            Err(BuildError::Memory) => return Err(DriveFault::Memory),
+            Err(_) => return Err(DriveFault::Memory),
         }
         match write_whole(out, b"# EOF\n") {
             Ok(()) => Ok(()),
@@ -250,19 +251,4 @@ fn give_room_back(setup: &mut Vec<Setup>)
     if setup.len() <= setup.capacity() / 2 {
         setup.shrink_to_fit();
     }
-}
-
-/// A builder of an exporter with these settings.
-fn builder_of(alloc: Global, settings: &Settings) -> Result<PrometheusBuilder, Memory>
-    ensures { IfOk result (λ builder. builder ≡ exporter_settings (settings_of settings.now)) }
-{
-    let mut builder = PrometheusBuilder::new(alloc)?;
-    for (key, value) in &settings.globals {
-        let (key, value) = (key.clone()?, value.clone()?);
-        builder = match builder.add_global_label(alloc, key, value) {
-            Ok(builder) => builder,
-            Err(_) => return Err(Memory),
-        };
-    }
-    Ok(builder)
 }

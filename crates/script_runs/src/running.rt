@@ -2,7 +2,8 @@
 
 ghost use Rattle.std.specs.Prelude.{◌≡◌, ◌≢◌, ◌∷◌, [], ◌⊎◌, ◌↔◌, ℕ, List, IsTrue, IfSome, codes};
 ghost use Rattle.metrics_core.specs.Outside.{Rose};
-ghost use Rattle.script_runs.specs.Answers.{fault_status, texts_of, IsBadScript, IsComplete, IsDriveWords};
+ghost use Rattle.drive_script.specs.declared.faults.SettingFault.{SettingFault};
+ghost use Rattle.script_runs.specs.Answers.{fault_status, texts_of, IsBadScript, IsComplete, IsDriveWords, IsRefusedSetting};
 ghost use Rattle.script_runs.specs.Answers.{IsForm, IsMergeWords, IsNoDriveStatus, IsSaid, IsTooLong, IsUnplayed};
 ghost use Rattle.script_runs.specs.Headline.{IsPlayed, IsPlayedInPart};
 ghost use Rattle.script_runs.specs.Relay.{relay_status, IsBadStream, IsRelayComplete, IsRelayed, IsRelayedInPart};
@@ -21,7 +22,7 @@ use std::sync::Wait;
 use std::thread::Threads;
 
 /// Does what the words ask for, and answers the status that the program ends with:
-/// 0 done, 2 the words are no form, 3 the script is not valid, 5 the input is longer than 67,108,864 bytes, 6 the source
+/// 0 done, 2 the words are no form, 3 the script is not valid, 4 a setting of it is refused, 5 the input is longer than 67,108,864 bytes, 6 the source
 /// failed, 7 the sink of the pages failed, 8 memory was wanting, 10 the input is no stream of pages, 11 its pages don't
 /// merge. `err` gets one line that says which; a failing `err` changes nothing else.
 ///
@@ -52,6 +53,8 @@ pub fn run<R: Threads + Wait + Sync, S: Source, K: Sink, E: Sink, G: Gate + Sync
     ensures usage { (result ≡ 2) ↔ (¬ (IsForm (texts_of words.now))) }
     ensures bad_script { result ≡ 3 → IsDriveWords (texts_of words.now)
         × IfSome (S.left source.old) (λ bytes. (l : ℕ) × IsBadScript bytes l) }
+    ensures refused_setting { result ≡ 4 → IsDriveWords (texts_of words.now)
+        × IfSome (S.left source.old) (λ bytes. (fault : SettingFault) × IsRefusedSetting bytes fault) }
     ensures too_long { result ≡ 5 → IfSome (S.left source.old) IsTooLong }
     ensures read_failed { result ≡ 6 → Rose (S.faults source.old) (S.faults source.new) }
     ensures write_failed { result ≡ 7 → Rose (K.faults out.old) (K.faults out.new) }
@@ -61,7 +64,7 @@ pub fn run<R: Threads + Wait + Sync, S: Source, K: Sink, E: Sink, G: Gate + Sync
         × IfSome (S.left source.old)
         (λ bytes. (page : ℕ) × (name : List ℕ) × IsUnmergeable bytes page name) }
 
-    // After 2, 3, 5, 6, 10 and 11 nothing was written; after 7 a prefix of the pages; after 8 a
+    // After 2 to 6, 10 and 11 nothing was written; after 7 a prefix of the pages; after 8 a
     // prefix or nothing.
     ensures unplayed { IsUnplayed result → K.written out.new ≡ K.written out.old }
     ensures prefix { IsDriveWords (texts_of words.now) → result ≡ 7 → IfSome (S.left source.old)
@@ -125,6 +128,8 @@ fn run_drive<R: Threads + Wait + Sync, S: Source, K: Sink, E: Sink, G: Gate + Sy
     ensures others { ¬ IsNoDriveStatus result }
     ensures bad_script { result ≡ 3 → IfSome (S.left source.old)
         (λ bytes. (l : ℕ) × IsBadScript bytes l) }
+    ensures refused_setting { result ≡ 4 → IfSome (S.left source.old)
+        (λ bytes. (fault : SettingFault) × IsRefusedSetting bytes fault) }
     ensures too_long { result ≡ 5 → IfSome (S.left source.old) IsTooLong }
     ensures read_failed { result ≡ 6 → Rose (S.faults source.old) (S.faults source.new) }
     ensures write_failed { result ≡ 7 → Rose (K.faults out.old) (K.faults out.new) }
@@ -192,6 +197,7 @@ fn status_of(fault: DriveFault) -> u8
 {
     match fault {
         DriveFault::Script { line: _ } => 3,
+        DriveFault::Setting(_) => 4,
         DriveFault::TooLong => 5,
         DriveFault::ReadFault => 6,
         DriveFault::WriteFault => 7,

@@ -4,12 +4,12 @@
 ghost use Rattle.std.specs.Prelude.{◌≡◌, ◌≤◌, flat_map};
 ghost use Rattle.metrics_core.specs.Characters.{line};
 ghost use Rattle.metrics_core.specs.Outside.{Rose};
-ghost use Rattle.drive_script.specs.Faults.{fault_text};
+ghost use Rattle.drive_script.specs.Faults.{fault_text, setting_text};
 ghost use Rattle.script_runs.specs.Answers.{IsSaidText, report_text, usage_text};
 ghost use Rattle.script_runs.specs.Relay.{merged_text, relay_fault_text};
 
 use crate::Report;
-use drive_script::DriveFault;
+use drive_script::{DriveFault, SettingFault};
 use itoa::Buffer;
 use metrics_core::{Sink, write_whole};
 use page_relay::RelayFault;
@@ -58,10 +58,24 @@ pub fn say_fault<E: Sink>(err: &mut E, fault: DriveFault)
                 &[b"script: line ", number.format(line).as_bytes(), b"\n"],
             );
         }
+        DriveFault::Setting(fault) => say_setting(err, fault),
         DriveFault::TooLong => say(err, &[b"script: longer than 67108864 bytes\n"]),
         DriveFault::ReadFault => say(err, &[b"read failed\n"]),
         DriveFault::WriteFault => say(err, &[b"write failed\n"]),
         DriveFault::Memory => say(err, &[b"out of memory\n"]),
+    }
+}
+
+/// Says which setting is refused.
+fn say_setting<E: Sink>(err: &mut E, fault: SettingFault)
+    ensures said { IsSaidText (Rose (E.faults err.old) (E.faults err.new)) (E.written err.old) (E.written err.new) (line (setting_text fault)) }
+{
+    match fault {
+        SettingFault::Empty => say(err, &[b"bucket bounds/quantiles cannot be empty\n"]),
+        SettingFault::ZeroDuration => say(err, &[b"bucket durations cannot be set to zero\n"]),
+        SettingFault::SpanTooLong => {
+            say(err, &[b"bucket durations exceed 64 bits of nanoseconds\n"]);
+        }
     }
 }
 

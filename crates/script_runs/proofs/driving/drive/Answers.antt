@@ -5,7 +5,7 @@ use Rattle.metrics_core.specs.Outside.{Rose}
 use Rattle.drive_script.specs.Texts.{script_of}
 use Rattle.script_runs.specs.Answers.{IsPlayFault, LeavesPrefix, end_status}
 use Rattle.script_runs.proofs.BuiltRounds.{script_built}
-use Rattle.script_runs.proofs.DriveSteps.{complete_handed_on, err_with, good_answers, play_ends, played_prefix, played_whole, unread_answers}
+use Rattle.script_runs.proofs.DriveSteps.{complete_handed_on, err_with, good_answers, play_ends, played_prefix, played_whole, refused_answers, unread_answers}
 use Rattle.script_runs.proofs.driving.drive.Goals as goal
 
 pub play-requires-clause-built : goal.play-requires-clause-built
@@ -40,5 +40,14 @@ returns-clause-prefix g c =
 pub returns-clause-complete : goal.returns-clause-complete
 returns-clause-complete g c =
     let read = c.in_ok-script.ensures.read in
-    good_answers _ read.bytes _ _ (script_of c.in_ok-script.script) (end_status c.play.result) read.whole read.good.0 read.good.1
+    good_answers _ read.bytes _ _ (script_of c.in_ok-script.script) (end_status c.play.result) read.whole read.good.0 read.good.1 c.in_ok-check_settings.ensures.allowed
     (play_ends (Rose (g.K.Sink.faults c.args.out.now) (g.K.Sink.faults c.play.new.out)) c.play.result c.play.ensures.cause)
+
+pub returns-in_err-check_settings-clause-complete : goal.returns-in_err-check_settings-clause-complete
+returns-in_err-check_settings-clause-complete g c =
+    let SourceFailed : Type 0 = Rose (g.S.Source.faults c.args.source.now) (g.S.Source.faults c.read_whole_script.new.source) in
+    let SinkFailed : Type 0 = Rose (g.K.Sink.faults c.args.out.now) (g.K.Sink.faults c.args.out.now) in
+    let left = g.S.Source.left c.args.source.now in
+    let read = c.in_ok-script.ensures.read in
+    complete_handed_on left SourceFailed SinkFailed c.from_residual-in_err-check_settings.result _ c.from_residual-in_err-check_settings.ensures.1
+    (refused_answers left read.bytes SourceFailed SinkFailed (script_of c.in_ok-script.script) c.in_err-check_settings.field-0.0 read.whole read.good c.in_err-check_settings.ensures.refused)

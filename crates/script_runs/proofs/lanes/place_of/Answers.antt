@@ -5,12 +5,12 @@ use Rattle.script_runs.specs.LaneCalls.{id_at}
 use Rattle.script_runs.proofs.LaneSteps.{place_is}
 use Rattle.script_runs.proofs.lanes.place_of.Goals as goal
 
-pub returns-in-Some-Some-clause-place : goal.returns-in-Some-Some-clause-place
-returns-in-Some-Some-clause-place c j =
+pub returns-in-Some-clause-place : goal.returns-in-Some-clause-place
+returns-in-Some-clause-place c j =
     ap (λ o. unwrap_or (option_map (id_at (ids_of c.args.exporter.now) j) o) false) (sym c.in_ok-id.ensures)
-    ∙ place_is c.args.exporter.now c.in_ok-id.id (Some c.index_at.result) c.index_at.ensures.numbered c.index_at.ensures.index j
+    ∙ place_is c.args.exporter.now c.in_ok-id.id c.index_near.result c.index_near.ensures.numbered c.index_near.ensures.index j
 
-pub returns-in_default-clause-place : goal.returns-in_default-clause-place
-returns-in_default-clause-place c j =
+pub returns-in-None-clause-place : goal.returns-in-None-clause-place
+returns-in-None-clause-place c j =
     ap (λ o. unwrap_or (option_map (id_at (ids_of c.args.exporter.now) j) o) false) (sym c.in_ok-id.ensures)
     ∙ place_is c.args.exporter.now c.in_ok-id.id c.index_of.result c.index_of.ensures.numbered c.index_of.ensures.index j

@@ -27,9 +27,6 @@ play_round-requires-clause-fit g c κs within =
     let steps : into_iter_items c.loop-round.round-iterator ≡ c.in-Some.round ∷ into_iter_items c.next.new.self = c.in-Some.ensures.steps.0 in
     first_fits _ (round_of c.in-Some.round) _ (subst (CallsFit c.loop-round.player.handles.items) (ap (map round_of) steps) c.loop-round.invariant.fit)
 
-pub play_round-requires-clause-placed : goal.play_round-requires-clause-placed
-play_round-requires-clause-placed g c κs within = c.loop-round.invariant.placed
-
 pub play_round-requires-clause-rest : goal.play_round-requires-clause-rest
 play_round-requires-clause-rest g c κs within = c.loop-round.invariant.rest
 
@@ -57,7 +54,6 @@ loop-round-preserved g c =
       built = All-tail (λ (round : Round). AreBuiltSetups round.setup.items) c.in-Some.round _ (subst AreBuiltRounds steps c.loop-round.invariant.built);
       settings = c.in_ok-play_round.ensures.settings ∙ c.loop-round.invariant.settings;
       rest = c.in_ok-play_round.ensures.rest;
-      placed = c.in_ok-play_round.ensures.placed;
       fit = subst (λ (p : PlayState). CallsFit p.handles rest) (sym played.2.0) (rest_fits (state_of c.loop-round.player) (round_of c.in-Some.round) rest (subst (CallsFit c.loop-round.player.handles.items) behind c.loop-round.invariant.fit));
       never_falls = omega (arith, c.loop-round.invariant.never_falls, c.in_ok-play_round.ensures.never_falls);
       so_far = so_far-round script (state_of c.loop-round.player) _ (round_of c.in-Some.round) rest _ _ _ so_far played;
@@ -83,7 +79,6 @@ loop-round-init g c =
       built = subst AreBuiltRounds (sym all) c.requires.built;
       settings = c.in_ok-player.ensures.settings;
       rest = c.in_ok-player.ensures.rest;
-      placed = c.in_ok-player.ensures.placed;
       fit = subst (λ (p : PlayState). CallsFit p.handles (map round_of (into_iter_items c.into_iter-round-iterator.result))) (sym c.in_ok-player.ensures.start) (subst (CallsFit []) (ap (map round_of) (sym all)) c.requires.fit);
       never_falls = omega arith;
       so_far = subst (λ (p : PlayState). IsSoFar script p (map round_of (into_iter_items c.into_iter-round-iterator.result)) told told) (sym c.in_ok-player.ensures.start)

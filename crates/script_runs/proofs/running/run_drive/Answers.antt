@@ -1,8 +1,8 @@
-use Rattle.std.proofs.Common.{ℕ, subst, sym}
+use Rattle.std.proofs.Common.{ℕ, subst, sym, ◌∙◌}
 use Rattle.metrics_core.specs.Characters.{line}
 use Rattle.drive_script.specs.Faults.{fault_text}
 use Rattle.script_runs.specs.Answers.{IsLineOf, report_text}
-use Rattle.script_runs.proofs.Sayings.{fault_line, report_line}
+use Rattle.script_runs.proofs.Sayings.{fault_line, report_line, setting_of_status}
 use Rattle.script_runs.proofs.running.run_drive.Goals as goal
 
 pub returns-in-Ok-clause-said : goal.returns-in-Ok-clause-said
@@ -20,3 +20,6 @@ returns-in-Err-clause-said g c =
       meant = subst P (sym c.status_of.ensures) (fault_line _ _ _ c.in-Err.fault c.in-Err.ensures.cause);
       written = c.say_fault.ensures.said;
     }
+
+pub returns-in-Err-clause-refused_setting : goal.returns-in-Err-clause-refused_setting
+returns-in-Err-clause-refused_setting g c = λ is. setting_of_status _ _ _ c.in-Err.fault c.in-Err.ensures.cause (sym c.status_of.ensures ∙ is)

@@ -7,6 +7,9 @@ returns-in-Script g c = record {
   said = said_of _ _ _ _ _ _ c.in-Script.is (script_line c.as_bytes.result.now c.in-Script.line (c.as_bytes.ensures.value ∙ c.format.ensures.text)) c.say.ensures.said;
 }
 
+pub returns-in-Setting : goal.returns-in-Setting
+returns-in-Setting g c = record { said = said_of _ _ _ _ _ _ c.in-Setting.is refl c.say_setting.ensures.said }
+
 pub returns-in-TooLong : goal.returns-in-TooLong
 returns-in-TooLong g c = record { said = said_of _ _ _ _ _ _ c.in-TooLong.is refl c.say-in-TooLong.ensures.said }
 

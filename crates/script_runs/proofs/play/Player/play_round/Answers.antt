@@ -6,7 +6,6 @@ use Rattle.script_runs.specs.Fitting.{FitsHandle}
 use Rattle.script_runs.specs.Play.{PlayState, exporter_settings, after_setup}
 use Rattle.script_runs.specs.Player.{state_of}
 use Rattle.script_runs.proofs.Fits.{calls_fit}
-use Rattle.script_runs.proofs.RestingSteps.{rest_home}
 use Rattle.script_runs.proofs.Returned.{on_handed_on}
 use Rattle.script_runs.proofs.RoundSteps.{after_page, round_cut, round_ended, round_unbegun}
 use Rattle.script_runs.proofs.play.Player.play_round.Goals as goal
@@ -25,7 +24,7 @@ pub returns-in_err-make_calls-clause-prefix : goal.returns-in_err-make_calls-cla
 returns-in_err-make_calls-clause-prefix g c = λ settings same. on_handed_on c.from_residual-in_err-make_calls.result _ (round_unbegun settings (state_of c.args.self.now) (round_of c.args.round) _)
 
 pub write_page-requires : goal.write_page-requires
-write_page-requires g c = record { home = rest_home _ c.in_ok-make_calls.ensures.rest }
+write_page-requires g c = record { rest = c.in_ok-make_calls.ensures.rest }
 
 pub returns-clause-played : goal.returns-clause-played
 returns-clause-played g c = λ script_settings same.

@@ -22,7 +22,6 @@ loop-line-preserved c =
       built = All-tail (λ (line : Setup). IsBuiltSetup (setup_of line)) c.in-Some.line left (subst AreBuiltSetups steps inv.built);
       settings = c.in_ok-set_up_line.ensures.settings ∙ inv.settings;
       rest = λ rests. c.in_ok-set_up_line.ensures.rest (inv.rest rests);
-      placed = λ knows. c.in_ok-set_up_line.ensures.placed (inv.placed knows);
       stepped = ap (λ p. fold setup_step p (map setup_of left)) c.in_ok-set_up_line.ensures.stepped
           ∙ ap (λ lines. fold setup_step (state_of c.loop-line.self) (map setup_of lines)) (sym steps)
           ∙ inv.stepped;

@@ -1,0 +1,12 @@
+use Rattle.std.proofs.Common.{refl}
+use Rattle.script_runs.proofs.Sayings.{setting_said}
+use Rattle.script_runs.proofs.say.say_setting.Goals as goal
+
+pub returns-in-Empty : goal.returns-in-Empty
+returns-in-Empty g c = record { said = setting_said _ _ _ _ _ _ c.in-Empty.is refl c.say.ensures.said }
+
+pub returns-in-ZeroDuration : goal.returns-in-ZeroDuration
+returns-in-ZeroDuration g c = record { said = setting_said _ _ _ _ _ _ c.in-ZeroDuration.is refl c.say-in-ZeroDuration.ensures.said }
+
+pub returns-in-SpanTooLong : goal.returns-in-SpanTooLong
+returns-in-SpanTooLong g c = record { said = setting_said _ _ _ _ _ _ c.in-SpanTooLong.is refl c.say-in-SpanTooLong.ensures.said }

@@ -1,0 +1,9 @@
+use Rattle.std.proofs.Common.{◌≡◌, ◌++◌, map}
+use Rattle.std.specs.Vec.Iter.{into_iter_items}
+use Rattle.script_runs.specs.Told.{rule_told}
+use Rattle.script_runs.proofs.settings.with_rules.Given as goal
+
+abbrev pub invariant-loop-matcher : goal.invariant-loop-matcher
+invariant-loop-matcher l =
+    record l.builder { buckets_for = l.builder.buckets_for ++ map rule_told (into_iter_items l.matcher-iterator) }
+    ≡ record l.fn.builder { buckets_for = l.fn.builder.buckets_for ++ map rule_told l.fn.rules.items }

@@ -1,0 +1,132 @@
+//! The exporter that a script's settings ask for.
+
+ghost use Rattle.std.specs.Prelude.{◌≡◌, ◌++◌, None, Ok, IfOk, fold, map, option_map, unwrap_or};
+ghost use Rattle.std.specs.Int.NonZero.{non_zero_u32_get};
+ghost use Rattle.metrics_core.specs.Keys.{put_label};
+ghost use Rattle.prom_format.specs.LabelSets.{labels_of};
+ghost use Rattle.drive_script.specs.Settings.{refused_setting};
+ghost use Rattle.drive_script.specs.Texts.{settings_of, values_of};
+ghost use Rattle.script_runs.specs.Play.{exporter_settings};
+ghost use Rattle.script_runs.specs.Told.{rule_told};
+
+use drive_script::Settings;
+use metrics_core::{Fixed, Memory};
+use metrics_registry::MetricKindMask;
+use prom_exporter::{BuildError, PrometheusBuilder};
+use prom_format::Matcher;
+use std::alloc::Global;
+use std::num::NonZeroU32;
+
+/// A builder of an exporter with these settings, none of which is refused.
+pub(crate) fn builder_of(alloc: Global, settings: Settings) -> Result<PrometheusBuilder, Memory>
+    requires allowed { refused_setting (settings_of settings) ≡ None }
+    ensures { IfOk result (λ builder. builder ≡ exporter_settings (settings_of settings)) }
+{
+    let builder = PrometheusBuilder::new(alloc)?;
+    let builder = with_quantiles(alloc, builder, settings.quantiles)?;
+    let builder = with_buckets(alloc, builder, settings.buckets)?;
+    let builder = with_rules(alloc, builder, settings.buckets_for)?;
+    let builder = with_window(builder, settings.summary)?;
+    let builder = with_idle(builder, settings.idle);
+    with_globals(alloc, builder, settings.globals)
+}
+
+/// A builder that is told the quantiles of summaries, if there are any.
+fn with_quantiles(
+    alloc: Global,
+    builder: PrometheusBuilder,
+    quantiles: Option<Vec<Fixed>>,
+) -> Result<PrometheusBuilder, Memory>
+    ensures { IfOk result (λ told. told ≡ record builder { quantiles = unwrap_or (option_map (λ numbers. values_of numbers.items) quantiles) builder.quantiles }) }
+{
+    let Some(quantiles) = quantiles else {
+        return Ok(builder);
+    };
+    granted(builder.set_quantiles(alloc, quantiles.as_slice()))
+}
+
+/// A builder that is told the bounds of all distributions, if there are any.
+fn with_buckets(
+    alloc: Global,
+    builder: PrometheusBuilder,
+    buckets: Option<Vec<Fixed>>,
+) -> Result<PrometheusBuilder, Memory>
+    requires { builder.buckets ≡ None }
+    ensures { IfOk result (λ told. told ≡ record builder { buckets = option_map (λ numbers. values_of numbers.items) buckets }) }
+{
+    let Some(buckets) = buckets else {
+        return Ok(builder);
+    };
+    granted(builder.set_buckets(alloc, buckets.as_slice()))
+}
+
+/// A builder that is told the bounds of the distributions whose names matchers fit.
+fn with_rules(
+    alloc: Global,
+    builder: PrometheusBuilder,
+    rules: Vec<(Matcher, Vec<Fixed>)>,
+) -> Result<PrometheusBuilder, Memory>
+    ensures { IfOk result (λ told. told ≡ record builder { buckets_for = builder.buckets_for ++ map rule_told rules.items }) }
+{
+    let mut builder = builder;
+    for (matcher, bounds) in rules {
+        builder = granted(builder.set_buckets_for_metric(alloc, matcher, bounds.as_slice()))?;
+    }
+    Ok(builder)
+}
+
+/// A builder that is told the window of summaries, if there is one.
+fn with_window(
+    builder: PrometheusBuilder,
+    summary: Option<(NonZeroU32, u64)>,
+) -> Result<PrometheusBuilder, Memory>
+    ensures { IfOk result (λ told. told ≡ record builder {
+      bucket_count = unwrap_or (option_map (λ window. non_zero_u32_get window.0) summary) builder.bucket_count;
+      bucket_duration = unwrap_or (option_map (λ window. window.1) summary) builder.bucket_duration;
+    }) }
+{
+    let Some((count, duration)) = summary else {
+        return Ok(builder);
+    };
+    granted(
+        builder
+            .set_bucket_count(count)
+            .set_bucket_duration(duration),
+    )
+}
+
+/// A builder that is told which series fall idle, and when, if any do.
+fn with_idle(builder: PrometheusBuilder, idle: Option<(MetricKindMask, u64)>) -> PrometheusBuilder
+    requires { builder.idle ≡ None }
+    ensures { result ≡ record builder { idle = option_map (λ (mask, timeout). record { mask = mask; timeout = timeout }) idle } }
+{
+    match idle {
+        Some((mask, timeout)) => builder.idle_timeout(mask, Some(timeout)),
+        None => builder,
+    }
+}
+
+/// A builder that is told global labels.
+fn with_globals(
+    alloc: Global,
+    builder: PrometheusBuilder,
+    globals: Vec<(String, String)>,
+) -> Result<PrometheusBuilder, Memory>
+    ensures { IfOk result (λ told. told ≡ record builder { globals = fold put_label builder.globals (labels_of globals.items) }) }
+{
+    let mut builder = builder;
+    for (key, value) in globals {
+        builder = granted(builder.add_global_label(alloc, key, value))?;
+    }
+    Ok(builder)
+}
+
+/// What a builder that refuses no setting answers: another refusal than want of memory never comes.
+fn granted(builder: Result<PrometheusBuilder, BuildError>) -> Result<PrometheusBuilder, Memory>
+    ensures { IfOk result (λ told. builder ≡ Ok told) }
+{
+    match builder {
+        Ok(builder) => Ok(builder),
+        Err(_) => Err(Memory),
+    }
+}
