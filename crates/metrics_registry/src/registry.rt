@@ -80,6 +80,15 @@ impl<C: Drop, G: Drop, H: Drop> Registry<C, G, H> {
         self.made
     }
 
+    /// How many series are live, of all kinds.
+    pub fn count(&self) -> usize
+        ensures { result ≡ length self.now.counters + (length self.now.gauges + length self.now.histograms) }
+    {
+        // That the sum is in range needs the slices, whose keys take room in memory.
+        self.counter_keys.as_slice().len()
+            + (self.gauge_keys.as_slice().len() + self.histogram_keys.as_slice().len())
+    }
+
     /// The id of the live counter with an equal key.
     pub fn find_counter(&self, key: &Key) -> Option<SeriesId>
         ensures { result ≡ id_of_key key.now self.now.counters }
