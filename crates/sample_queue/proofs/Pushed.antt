@@ -1,5 +1,6 @@
 -- What lanes pushed, as it stands in the history of a queue.
-use Rattle.std.proofs.Common.{◌≡◌, ℕ, List, [], ◌∷◌, ◌++◌, map, ap, ◌∙◌, subst, Option}
+use Rattle.std.specs.Prelude.{flat_map}
+use Rattle.std.proofs.Common.{◌≡◌, ℕ, List, [], ◌∷◌, ◌++◌, ap, ◌∙◌, subst, Option}
 use Rattle.legal_history.specs.declared.history.View.{View}
 use Rattle.legal_history.specs.History.{calls}
 use Rattle.legal_history.specs.Object.{Runs}
@@ -11,17 +12,17 @@ use Rattle.sample_queue.specs.declared.calls.SampleEntry.{SampleEntry}
 use Rattle.sample_queue.specs.declared.calls.QueueCall.{QueueCall}
 use Rattle.sample_queue.specs.Queues.{QueueStep, GivesOut}
 use Rattle.sample_queue.specs.Rounds.{GivenOut}
-use Rattle.sample_queue.specs.Series.{IsPush, push_of}
+use Rattle.sample_queue.specs.Series.{StandsAsPushes, pushes}
 use Rattle.sample_queue.proofs.InOrder.{found}
 
 module _ {T : Type 0} where
-  stand_each : (es : List (Sample T)) (ms : List (QueueCall T)) → StandAs IsPush es ms → ms ≡ map push_of es
+  stand_each : (es : List (Sample T)) (ms : List (QueueCall T)) → StandAs StandsAsPushes es ms → ms ≡ flat_map pushes es
   stand_each [] ms e = e
-  stand_each (k ∷ ks) ms s = s.4 ∙ (ap (λ l. l ++ s.1) s.2 ∙ ap (λ l. push_of k ∷ l) (stand_each ks s.1 s.3))
+  stand_each (k ∷ ks) ms s = s.4 ∙ (ap (λ l. l ++ s.1) s.2 ∙ ap (λ l. pushes k ++ l) (stand_each ks s.1 s.3))
 
-  pub given_out : (asked : ℕ → List (Sample T)) (before : View (QueueCall T)) (answer : Option (SampleEntry T)) → ReadAfter GivesOut IsPush asked before answer → GivenOut asked before answer
+  pub given_out : (asked : ℕ → List (Sample T)) (before : View (QueueCall T)) (answer : Option (SampleEntry T)) → ReadAfter GivesOut StandsAsPushes asked before answer → GivenOut asked before answer
   given_out asked before answer after =
-      let same : after.lists ≡ (λ l. map push_of (asked l)) = λ i l. stand_each (asked l) (after.lists l) (after.stand l) i in
+      let same : after.lists ≡ (λ l. flat_map pushes (asked l)) = λ i l. stand_each (asked l) (after.lists l) (after.stand l) i in
       let f = found after.found after.left answer after.reads_it after.root after.home in (
         after.order,
         subst (IsOrder after.order) same after.is_order,

@@ -1,7 +1,8 @@
 //! A queue of samples that threads share.
 
-ghost use Rattle.std.specs.Prelude.{◌≡◌, Ok, IfOk, OnOk, OnErr};
+ghost use Rattle.std.specs.Prelude.{◌≡◌, [], Ok, IfOk, OnOk, OnErr};
 ghost use Rattle.legal_history.specs.History.{Settled, first, lender, child, taker};
+ghost use Rattle.cell_lanes.specs.Calls.{Made};
 ghost use Rattle.sample_queue.specs.Queues.{Entries, Holds, Puts, GivesOut, AnswersAlone};
 
 use crate::calls::{QueueCall, SampleEntry};
@@ -83,6 +84,16 @@ impl<T: Drop> SampleQueue<T> {
         ensures same { view_of pass.new ≡ view_of pass.old }
         ensures settled { Settled (view_of pass.old) }
         ensures items { (items : Entries T) × Holds (view_of pass.old) items }
+    {
+        self.queue.len_as::<Pops, R>(rt, &mut pass.seat);
+    }
+
+    /// Makes no call, and finds what the pass has seen to stand in the history. This changes nothing.
+    pub(crate) fn look<R: Wait>(&self, rt: &R, pass: &mut SamplePass<T>)
+        requires { IsSamplePass self.now pass.old }
+        ensures pass { IsSamplePass self.now pass.new }
+        ensures same { view_of pass.new ≡ view_of pass.old }
+        ensures none { Made (λ made. made ≡ []) (view_of pass.old) (view_of pass.new) }
     {
         self.queue.len_as::<Pops, R>(rt, &mut pass.seat);
     }

@@ -1,29 +1,56 @@
 //! A queue as those who keep and lend it see it, and the lanes that push on it.
-ghost use Rattle.std.specs.Prelude.{◌<◌};
 
 use crate::calls::{QueueCall, SampleEntry};
 use crate::pass::SamplePass;
 use crate::queue::SampleQueue;
 use cell_lanes::{OwnedCell, SharedCell};
-use metrics_core::Memory;
+use metrics_core::{Fixed, Memory, SeriesCall};
 use std::alloc::Global;
 use std::sync::Wait;
 
-/// What a lane pushes: an item that stands for one sample or more.
-#[derive(Debug, Drop)]
+/// What a lane pushes: an item that stands for so many samples. One that stands for none is not pushed.
+#[derive(Clone, Copy, Debug, Drop)]
 pub struct Sample<T> {
     /// What is recorded.
     pub item: T,
     /// How often.
     pub count: u32,
-    ghost some: { 0 < count },
+}
+
+impl Sample<(Fixed, u64)> {
+    ghost use Rattle.std.specs.Prelude.{◌≡◌};
+    ghost use Rattle.sample_queue.specs.Series.{sample_of_call};
+
+    /// What a record pushes on a histogram: its value and moment, as often as it says. A call of another kind pushes nothing.
+    pub fn of_call(call: &SeriesCall) -> Sample<(Fixed, u64)>
+        ensures { result ≡ sample_of_call call.now }
+    {
+        match *call {
+            SeriesCall::Record {
+                value,
+                moment,
+                count,
+            } => Sample {
+                item: (value, moment),
+                count,
+            },
+            SeriesCall::Increment(_)
+            | SeriesCall::Absolute(_)
+            | SeriesCall::Add(_)
+            | SeriesCall::Subtract(_)
+            | SeriesCall::Set(_) => Sample {
+                item: (Fixed(0), 0),
+                count: 0,
+            },
+        }
+    }
 }
 
 impl<T: Copy + Drop + Send + Sync> SharedCell for SampleQueue<T> {
     ghost use Rattle.sample_queue.specs.Passes.{IsSamplePass, view_of};
     ghost use Rattle.sample_queue.specs.OneFact.{one_sample_pass};
     ghost use Rattle.sample_queue.specs.Queues.{GivesOut};
-    ghost use Rattle.sample_queue.specs.Series.{IsPush, given_found, pops};
+    ghost use Rattle.sample_queue.specs.Series.{StandsAsPushes, given_found, pops};
 
     type Pass = SamplePass<T>;
 
@@ -39,7 +66,7 @@ impl<T: Copy + Drop + Send + Sync> SharedCell for SampleQueue<T> {
 
     ghost view = { view_of };
 
-    ghost stands_as = { IsPush };
+    ghost stands_as = { StandsAsPushes };
 
     ghost read_as = { pops };
 
@@ -54,6 +81,10 @@ impl<T: Copy + Drop + Send + Sync> SharedCell for SampleQueue<T> {
         pass: &mut SamplePass<T>,
         call: &Sample<T>,
     ) -> Result<(), Memory> {
+        if call.count == 0 {
+            self.look(rt, pass);
+            return Ok(());
+        }
         self.push(rt, alloc, pass, call.item, call.count)
     }
 
