@@ -9,13 +9,13 @@ use Rattle.metrics_core.specs.Kinds.{kind_text}
 use Rattle.metrics_core.specs.declared.kinds.MetricKind.{MetricKind}
 use Rattle.metrics_core.specs.declared.kinds.MetricKind.TheVariants as kinds
 use Rattle.drive_script.specs.Words.{spaced, quoted, label_word}
-use Rattle.drive_script.specs.Script.{Register, Describe, Act, Inc, Abs, Add, Sub, Set, Rec, RecN, CallLine, HeaderLine, Quantiles, Buckets, BucketsFor, Summary, Idle, Global, ScriptLine, Header, Round, Setup, CallOf, IsLine, IsRegistered, AreActWords}
-use Rattle.drive_script.specs.Reading.{◌or◌, both, after, behind, standing, number_at, fixed_at, text_at, labels_at, verb_at, registered_kind_at, argument_at, quantiles_at, buckets_at, buckets_for_at, summary_at, idle_at, global_at, round_at, Registered, register_at, CallParts, call_parts_at, call_of_parts, call_at}
+use Rattle.drive_script.specs.Script.{Register, Describe, Act, Inc, Abs, Add, Sub, Set, Rec, RecN, CallLine, HeaderLine, Quantiles, Buckets, BucketsFor, Summary, Idle, Global, ScriptLine, Header, Round, Setup, CallOf, IsLine, AreActWords}
+use Rattle.drive_script.specs.Reading.{◌or◌, both, after, behind, standing, number_at, positive_at, fixed_at, text_at, labels_at, verb_at, kind_word_at, registered_kind_at, argument_at, quantiles_at, buckets_at, buckets_for_at, summary_at, idle_at, global_at, round_at, Registered, register_at, CallParts, call_parts_at, call_of_parts, call_at}
 use Rattle.drive_script.specs.declared.lines.Verb.{Verb}
 use Rattle.drive_script.specs.declared.lines.Verb.TheVariants as verbs
 use Rattle.drive_script.proofs.Readers.{IsReader, Ends, Anywhere, stops_less, SpellsBoth, both_reads, SpellsSeen, seen_reads, SpellsAfter, after_reads, standing_takes, or_some, whole_takes, whole_again}
 use Rattle.drive_script.proofs.Spaced.{WordEnds, ends_word}
-use Rattle.drive_script.proofs.Decimals.{NoDigit, SpellsNumber, number_reads, SpellsDec, fixed_reads}
+use Rattle.drive_script.proofs.Decimals.{NoDigit, SpellsNumber, number_reads, SpellsPositive, positive_reads, SpellsDec, fixed_reads}
 use Rattle.drive_script.proofs.TextFields.{SpellsText, text_reads, spaced_labels, SpellsLabels, labels_read}
 use Rattle.drive_script.proofs.HeaderForms.{behind_spaces, words_spaced, number_to_end, quantiles_again, buckets_again, buckets_for_again, summary_again, idle_again, global_again}
 
@@ -36,28 +36,45 @@ round_again line moment h = whole_again _ _ Ends round_reads refl line moment (d
 
 -- ---- register lines
 
+abbrev kind_word : MetricKind → List ℕ
+kind_word kind = kind_text kind ++ codes " "
+
 abbrev register_text : MetricKind → List ℕ
-register_text kind = codes "register " ++ (kind_text kind ++ codes " ")
+register_text kind = codes "register " ++ kind_word kind
+
+abbrev SpellsKindWord : MetricKind → List ℕ → Type 0
+SpellsKindWord kind front = front ≡ kind_word kind
+
+kind_word_takes : (bytes : List ℕ) (kind : MetricKind) (rest : List ℕ) → kind_word_at bytes ≡ Some (kind, rest) → (front : List ℕ) × SpellsKindWord kind front × (bytes ≡ front ++ rest)
+unfolding kind_word_at
+kind_word_takes bytes kind rest e = by e
+  where
+    given : (literal : List ℕ) (k : MetricKind) → literal ≡ kind_word k → standing literal k bytes ≡ Some (kind, rest) → (front : List ℕ) × SpellsKindWord kind front × (bytes ≡ front ++ rest)
+    given literal k is f = let h = standing_takes literal k kind bytes rest f in (literal, is ∙ ap kind_word h.0, h.1)
+
+    by : (standing (codes "counter ") kinds.Counter bytes or standing (codes "gauge ") kinds.Gauge bytes or standing (codes "histogram ") kinds.Histogram bytes) ≡ Some (kind, rest)
+        → (front : List ℕ) × SpellsKindWord kind front × (bytes ≡ front ++ rest)
+    by f =
+        elim (or_some (standing (codes "counter ") kinds.Counter bytes) _ (kind, rest) f) [
+          | inl g ↦ given (codes "counter ") kinds.Counter refl g
+          | inr g ↦ elim (or_some (standing (codes "gauge ") kinds.Gauge bytes) _ (kind, rest) g) [ inl h ↦ given (codes "gauge ") kinds.Gauge refl h | inr h ↦ given (codes "histogram ") kinds.Histogram refl h ]
+        ]
+
+kind_word_again : (kind : MetricKind) (front rest : List ℕ) → SpellsKindWord kind front → Anywhere rest → kind_word_at (front ++ rest) ≡ Some (kind, rest)
+unfolding kind_word_at behind
+kind_word_again kinds.Counter front rest h stop = ap (λ l. kind_word_at (l ++ rest)) h
+kind_word_again kinds.Gauge front rest h stop = ap (λ l. kind_word_at (l ++ rest)) h
+kind_word_again kinds.Histogram front rest h stop = ap (λ l. kind_word_at (l ++ rest)) h
+
+kind_word_reads : IsReader kind_word_at SpellsKindWord Anywhere
+kind_word_reads = record { takes = kind_word_takes; again = kind_word_again }
 
 abbrev SpellsKind : MetricKind → List ℕ → Type 0
-SpellsKind kind front = IsRegistered kind × (front ≡ register_text kind)
-
-kind_takes : (bytes : List ℕ) (kind : MetricKind) (rest : List ℕ) → registered_kind_at bytes ≡ Some (kind, rest) → (front : List ℕ) × SpellsKind kind front × (bytes ≡ front ++ rest)
-unfolding registered_kind_at
-kind_takes bytes kind rest e =
-    elim (or_some (standing (codes "register counter ") kinds.Counter bytes) (standing (codes "register gauge ") kinds.Gauge bytes) (kind, rest) e) [
-      | inl f ↦ let h = standing_takes (codes "register counter ") kinds.Counter kind bytes rest f in subst (λ k. (front : List ℕ) × SpellsKind k front × (bytes ≡ front ++ rest)) h.0 (codes "register counter ", (tt, refl), h.1)
-      | inr f ↦ let h = standing_takes (codes "register gauge ") kinds.Gauge kind bytes rest f in subst (λ k. (front : List ℕ) × SpellsKind k front × (bytes ≡ front ++ rest)) h.0 (codes "register gauge ", (tt, refl), h.1)
-    ]
-
-kind_again : (kind : MetricKind) (front rest : List ℕ) → SpellsKind kind front → Anywhere rest → registered_kind_at (front ++ rest) ≡ Some (kind, rest)
-unfolding registered_kind_at behind
-kind_again kinds.Counter front rest h stop = ap (λ l. registered_kind_at (l ++ rest)) h.1
-kind_again kinds.Gauge front rest h stop = ap (λ l. registered_kind_at (l ++ rest)) h.1
-kind_again kinds.Histogram front rest h stop = absurd h.0
+SpellsKind = SpellsAfter (codes "register ") SpellsKindWord
 
 kind_reads : IsReader registered_kind_at SpellsKind Anywhere
-kind_reads = record { takes = kind_takes; again = kind_again }
+unfolding registered_kind_at
+kind_reads = after_reads (codes "register ") kind_word_at SpellsKindWord Anywhere kind_word_reads
 
 abbrev SpellsKey : List ℕ × List LabelText → List ℕ → Type 0
 SpellsKey = SpellsBoth SpellsText (λ _. SpellsLabels)
@@ -94,15 +111,15 @@ register_takes line kind key e =
     let (u, v, is_name, are_labels, key_split) = is_key in
     record {
       words = codes "register" ∷ kind_text kind ∷ quoted key.name ∷ map label_word key.labels;
-      formed = (is_kind.0, (is_name.0, are_labels.0), refl);
-      spelled = split ∙ (λ j. is_kind.1 j ++ (key_split ∙ (λ k. is_name.1 k ++ are_labels.1 k)) j) ∙ sym (register_spaced kind key.name key.labels);
+      formed = ((is_name.0, are_labels.0), refl);
+      spelled = split ∙ (λ j. (is_kind.2 ∙ ap (λ l. codes "register " ++ l) is_kind.1) j ++ (key_split ∙ (λ k. is_name.1 k ++ are_labels.1 k)) j) ∙ sym (register_spaced kind key.name key.labels);
     }
 
 pub register_again : (line : List ℕ) (kind : MetricKind) (key : KeyText) → IsLine line (Setup (Register kind key)) → register_at line ≡ Some (kind, (key.name, key.labels))
 unfolding register_at
 register_again line kind key h =
     whole_again _ _ Ends register_reads refl line (kind, (key.name, key.labels))
-    (register_text kind, quoted key.name ++ spaced_labels key.labels, (h.formed.0, refl), (quoted key.name, spaced_labels key.labels, (h.formed.1.0, refl), (h.formed.1.1, refl), refl), h.spelled ∙ ap spaced h.formed.2 ∙ register_spaced kind key.name key.labels)
+    (register_text kind, quoted key.name ++ spaced_labels key.labels, (kind_word kind, refl, refl), (quoted key.name, spaced_labels key.labels, (h.formed.0.0, refl), (h.formed.0.1, refl), refl), h.spelled ∙ ap spaced h.formed.1 ∙ register_spaced kind key.name key.labels)
 
 -- ---- call lines
 
@@ -112,6 +129,8 @@ verb_word verbs.Abs = codes "abs"
 verb_word verbs.Add = codes "add"
 verb_word verbs.Sub = codes "sub"
 verb_word verbs.Set = codes "set"
+verb_word verbs.Rec = codes "rec"
+verb_word verbs.RecN = codes "recn"
 
 abbrev verb_text : Verb → List ℕ
 verb_text verb = codes " " ++ (verb_word verb ++ codes " ")
@@ -126,7 +145,14 @@ verb_takes bytes verb rest e = by e
     given : (literal : List ℕ) (v : Verb) → literal ≡ verb_text v → standing literal v bytes ≡ Some (verb, rest) → (front : List ℕ) × SpellsVerb verb front × (bytes ≡ front ++ rest)
     given literal v is f = let h = standing_takes literal v verb bytes rest f in (literal, is ∙ ap verb_text h.0, h.1)
 
-    by : (standing (codes " inc ") verbs.Inc bytes or standing (codes " abs ") verbs.Abs bytes or standing (codes " add ") verbs.Add bytes or standing (codes " sub ") verbs.Sub bytes or standing (codes " set ") verbs.Set bytes) ≡ Some (verb, rest)
+    by_last : (standing (codes " set ") verbs.Set bytes or standing (codes " rec ") verbs.Rec bytes or standing (codes " recn ") verbs.RecN bytes) ≡ Some (verb, rest) → (front : List ℕ) × SpellsVerb verb front × (bytes ≡ front ++ rest)
+    by_last f =
+        elim (or_some (standing (codes " set ") verbs.Set bytes) _ (verb, rest) f) [
+          | inl g ↦ given (codes " set ") verbs.Set refl g
+          | inr g ↦ elim (or_some (standing (codes " rec ") verbs.Rec bytes) _ (verb, rest) g) [ inl h ↦ given (codes " rec ") verbs.Rec refl h | inr h ↦ given (codes " recn ") verbs.RecN refl h ]
+        ]
+
+    by : (standing (codes " inc ") verbs.Inc bytes or standing (codes " abs ") verbs.Abs bytes or standing (codes " add ") verbs.Add bytes or standing (codes " sub ") verbs.Sub bytes or standing (codes " set ") verbs.Set bytes or standing (codes " rec ") verbs.Rec bytes or standing (codes " recn ") verbs.RecN bytes) ≡ Some (verb, rest)
         → (front : List ℕ) × SpellsVerb verb front × (bytes ≡ front ++ rest)
     by f =
         elim (or_some (standing (codes " inc ") verbs.Inc bytes) _ (verb, rest) f) [
@@ -135,7 +161,7 @@ verb_takes bytes verb rest e = by e
             | inl h ↦ given (codes " abs ") verbs.Abs refl h
             | inr h ↦ elim (or_some (standing (codes " add ") verbs.Add bytes) _ (verb, rest) h) [
               | inl k ↦ given (codes " add ") verbs.Add refl k
-              | inr k ↦ elim (or_some (standing (codes " sub ") verbs.Sub bytes) _ (verb, rest) k) [ inl m ↦ given (codes " sub ") verbs.Sub refl m | inr m ↦ given (codes " set ") verbs.Set refl m ]
+              | inr k ↦ elim (or_some (standing (codes " sub ") verbs.Sub bytes) _ (verb, rest) k) [ inl m ↦ given (codes " sub ") verbs.Sub refl m | inr m ↦ by_last m ]
             ]
           ]
         ]
@@ -147,6 +173,8 @@ verb_again verbs.Abs front rest h stop = ap (λ l. verb_at (l ++ rest)) h
 verb_again verbs.Add front rest h stop = ap (λ l. verb_at (l ++ rest)) h
 verb_again verbs.Sub front rest h stop = ap (λ l. verb_at (l ++ rest)) h
 verb_again verbs.Set front rest h stop = ap (λ l. verb_at (l ++ rest)) h
+verb_again verbs.Rec front rest h stop = ap (λ l. verb_at (l ++ rest)) h
+verb_again verbs.RecN front rest h stop = ap (λ l. verb_at (l ++ rest)) h
 
 verb_reads : IsReader verb_at SpellsVerb Anywhere
 verb_reads = record { takes = verb_takes; again = verb_again }
@@ -157,15 +185,29 @@ SpellsCount act = SpellsSeen act (SpellsNumber (2 ^ 64 - 1))
 abbrev SpellsValue : (ℤ → Act) → Act → List ℕ → Type 0
 SpellsValue act = SpellsSeen act SpellsDec
 
+-- a value, and behind a space how many times it is recorded
+abbrev SpellsTimes : ℤ × ℕ → List ℕ → Type 0
+SpellsTimes = SpellsBoth SpellsDec (λ _. SpellsAfter (codes " ") (SpellsPositive 1000000))
+
+abbrev samples_act : ℤ × ℕ → Act
+samples_act samples = RecN samples.0 samples.1
+
 abbrev SpellsArgument : Verb → Act → List ℕ → Type 0
 SpellsArgument verbs.Inc = SpellsCount Inc
 SpellsArgument verbs.Abs = SpellsCount Abs
 SpellsArgument verbs.Add = SpellsValue Add
 SpellsArgument verbs.Sub = SpellsValue Sub
 SpellsArgument verbs.Set = SpellsValue Set
+SpellsArgument verbs.Rec = SpellsValue Rec
+SpellsArgument verbs.RecN = SpellsSeen samples_act SpellsTimes
 
 fixed_to_end : IsReader fixed_at SpellsDec Ends
 fixed_to_end = stops_less fixed_at SpellsDec WordEnds Ends fixed_reads ends_word
+
+times_read : IsReader (both fixed_at (λ _. after (codes " ") (positive_at 1000000))) SpellsTimes Ends
+times_read = both_reads fixed_at (λ _. after (codes " ") (positive_at 1000000)) SpellsDec (λ _. SpellsAfter (codes " ") (SpellsPositive 1000000)) WordEnds Ends fixed_reads
+    (λ _. after_reads (codes " ") (positive_at 1000000) (SpellsPositive 1000000) Ends (stops_less (positive_at 1000000) (SpellsPositive 1000000) WordEnds Ends (positive_reads 1000000 (lit< tt)) ends_word))
+    (λ a b y rest h stop. subst (λ l. WordEnds (l ++ rest)) (sym h.2) refl)
 
 argument_reads : (verb : Verb) → IsReader (argument_at verb) (SpellsArgument verb) Ends
 argument_reads verbs.Inc = seen_reads Inc (number_at (2 ^ 64 - 1)) (SpellsNumber (2 ^ 64 - 1)) Ends (number_to_end (2 ^ 64 - 1) (lit< tt))
@@ -173,6 +215,8 @@ argument_reads verbs.Abs = seen_reads Abs (number_at (2 ^ 64 - 1)) (SpellsNumber
 argument_reads verbs.Add = seen_reads Add fixed_at SpellsDec Ends fixed_to_end
 argument_reads verbs.Sub = seen_reads Sub fixed_at SpellsDec Ends fixed_to_end
 argument_reads verbs.Set = seen_reads Set fixed_at SpellsDec Ends fixed_to_end
+argument_reads verbs.Rec = seen_reads Rec fixed_at SpellsDec Ends fixed_to_end
+argument_reads verbs.RecN = seen_reads samples_act (both fixed_at (λ _. after (codes " ") (positive_at 1000000))) SpellsTimes Ends times_read
 
 abbrev SpellsHandled : Verb → ℕ × Act → List ℕ → Type 0
 SpellsHandled verb = SpellsBoth (SpellsNumber (2 ^ 32 - 1)) (λ _. SpellsAfter (codes " ") (SpellsArgument verb))
@@ -194,32 +238,61 @@ parts_read = both_reads (number_at 7) (λ _. both verb_at (λ verb. both (number
     (λ _. both_reads verb_at (λ verb. both (number_at (2 ^ 32 - 1)) (λ _. after (codes " ") (argument_at verb))) SpellsVerb SpellsHandled Anywhere Ends verb_reads handled_reads (λ a b y rest h stop. tt))
     (λ a b y rest h stop. subst (λ l. NoDigit (l ++ rest)) (sym (h.4 ∙ ap (λ l. l ++ h.1) h.2)) (subst NoDigit (sym (append_assoc (verb_text b.0) h.1 rest)) (no_digit_at_verb b.0 (h.1 ++ rest))))
 
+-- the words behind the handle: a value, or a value and a count
+record ActWords (verb : Verb) (handle : ℕ) (act : Act) (argument : List ℕ) : Type 0 where
+  first : List ℕ
+  others : List (List ℕ)
+  words_are : argument ≡ spaced (first ∷ others)
+  formed : AreActWords (verb_word verb ∷ decimal handle ∷ first ∷ others) handle act
+
 -- the words of an act, from its verb and its argument
-act_words : (verb : Verb) (handle : ℕ) (act : Act) (argument : List ℕ) → SpellsArgument verb act argument → AreActWords (verb_word verb ∷ decimal handle ∷ argument ∷ []) handle act
-act_words verbs.Inc handle act argument (n, is, number) = subst (AreActWords (codes "inc" ∷ decimal handle ∷ argument ∷ []) handle) is (omega (arith, number.1), ap (λ l. codes "inc" ∷ decimal handle ∷ l ∷ []) number.0)
-act_words verbs.Abs handle act argument (n, is, number) = subst (AreActWords (codes "abs" ∷ decimal handle ∷ argument ∷ []) handle) is (omega (arith, number.1), ap (λ l. codes "abs" ∷ decimal handle ∷ l ∷ []) number.0)
-act_words verbs.Add handle act argument (v, is, dec) = subst (AreActWords (codes "add" ∷ decimal handle ∷ argument ∷ []) handle) is (argument, dec, refl)
-act_words verbs.Sub handle act argument (v, is, dec) = subst (AreActWords (codes "sub" ∷ decimal handle ∷ argument ∷ []) handle) is (argument, dec, refl)
-act_words verbs.Set handle act argument (v, is, dec) = subst (AreActWords (codes "set" ∷ decimal handle ∷ argument ∷ []) handle) is (argument, dec, refl)
+act_words : (verb : Verb) (handle : ℕ) (act : Act) (argument : List ℕ) → SpellsArgument verb act argument → ActWords verb handle act argument
+act_words verb handle act argument = by verb
+  where
+    one_word : (verb : Verb) (act : Act) → AreActWords (verb_word verb ∷ decimal handle ∷ argument ∷ []) handle act → ActWords verb handle act argument
+    one_word verb act formed = record { first = argument; others = []; words_are = refl; formed = formed }
+
+    by : (verb : Verb) → SpellsArgument verb act argument → ActWords verb handle act argument
+    by verbs.Inc (n, is, number) = subst (λ a. ActWords verbs.Inc handle a argument) is (one_word verbs.Inc (Inc n) (omega (arith, number.1), ap (λ l. codes "inc" ∷ decimal handle ∷ l ∷ []) number.0))
+    by verbs.Abs (n, is, number) = subst (λ a. ActWords verbs.Abs handle a argument) is (one_word verbs.Abs (Abs n) (omega (arith, number.1), ap (λ l. codes "abs" ∷ decimal handle ∷ l ∷ []) number.0))
+    by verbs.Add (v, is, dec) = subst (λ a. ActWords verbs.Add handle a argument) is (one_word verbs.Add (Add v) (argument, dec, refl))
+    by verbs.Sub (v, is, dec) = subst (λ a. ActWords verbs.Sub handle a argument) is (one_word verbs.Sub (Sub v) (argument, dec, refl))
+    by verbs.Set (v, is, dec) = subst (λ a. ActWords verbs.Set handle a argument) is (one_word verbs.Set (Set v) (argument, dec, refl))
+    by verbs.Rec (v, is, dec) = subst (λ a. ActWords verbs.Rec handle a argument) is (one_word verbs.Rec (Rec v) (argument, dec, refl))
+    by verbs.RecN (samples, is, (dec, behind_dec, is_dec, (count, is_count, behind_space), split)) =
+        subst (λ a. ActWords verbs.RecN handle a argument) is
+        (record {
+          first = dec;
+          others = decimal samples.1 ∷ [];
+          words_are = split ∙ ap (λ l. dec ++ l) (behind_space ∙ ap (λ l. codes " " ++ l) is_count.1.0);
+          formed = (dec, is_dec, is_count.0, is_count.1.1, refl);
+        })
 
 -- the verb and the argument, from the words of an act
 record Worded (words : List (List ℕ)) (handle : ℕ) (act : Act) : Type 0 where
   verb : Verb
-  argument : List ℕ
-  spelled : SpellsArgument verb act argument
-  words_are : words ≡ verb_word verb ∷ decimal handle ∷ argument ∷ []
+  first : List ℕ
+  others : List (List ℕ)
+  spelled : SpellsArgument verb act (spaced (first ∷ others))
+  words_are : words ≡ verb_word verb ∷ decimal handle ∷ first ∷ others
 
 worded : (words : List (List ℕ)) (handle : ℕ) (act : Act) → AreActWords words handle act → Worded words handle act
-worded words handle (Inc n) h = record { verb = verbs.Inc; argument = decimal n; spelled = (n, refl, (refl, omega (arith, h.0))); words_are = h.1 }
-worded words handle (Abs n) h = record { verb = verbs.Abs; argument = decimal n; spelled = (n, refl, (refl, omega (arith, h.0))); words_are = h.1 }
-worded words handle (Add v) h = record { verb = verbs.Add; argument = h.0; spelled = (v, refl, h.1); words_are = h.2 }
-worded words handle (Sub v) h = record { verb = verbs.Sub; argument = h.0; spelled = (v, refl, h.1); words_are = h.2 }
-worded words handle (Set v) h = record { verb = verbs.Set; argument = h.0; spelled = (v, refl, h.1); words_are = h.2 }
-worded words handle (Rec v) h = absurd h
-worded words handle (RecN v n) h = absurd h
+worded words handle (Inc n) h = record { verb = verbs.Inc; first = decimal n; others = []; spelled = (n, refl, (refl, omega (arith, h.0))); words_are = h.1 }
+worded words handle (Abs n) h = record { verb = verbs.Abs; first = decimal n; others = []; spelled = (n, refl, (refl, omega (arith, h.0))); words_are = h.1 }
+worded words handle (Add v) h = record { verb = verbs.Add; first = h.0; others = []; spelled = (v, refl, h.1); words_are = h.2 }
+worded words handle (Sub v) h = record { verb = verbs.Sub; first = h.0; others = []; spelled = (v, refl, h.1); words_are = h.2 }
+worded words handle (Set v) h = record { verb = verbs.Set; first = h.0; others = []; spelled = (v, refl, h.1); words_are = h.2 }
+worded words handle (Rec v) h = record { verb = verbs.Rec; first = h.0; others = []; spelled = (v, refl, h.1); words_are = h.2 }
+worded words handle (RecN v n) (dec, is_dec, some, few, words_are) = record {
+  verb = verbs.RecN;
+  first = dec;
+  others = decimal n ∷ [];
+  spelled = ((v, n), refl, (dec, codes " " ++ decimal n, is_dec, (decimal n, (some, (refl, few)), refl), refl));
+  words_are = words_are;
+}
 
-call_spaced : (verb : Verb) (lane handle argument : List ℕ) → spaced (lane ∷ verb_word verb ∷ handle ∷ argument ∷ []) ≡ lane ++ (verb_text verb ++ (handle ++ (codes " " ++ argument)))
-call_spaced verb lane handle argument = ap (λ l. lane ++ (codes " " ++ l)) (sym (append_assoc (verb_word verb) (codes " ") (handle ++ (codes " " ++ argument))))
+call_spaced : (verb : Verb) (lane handle first : List ℕ) (others : List (List ℕ)) → spaced (lane ∷ verb_word verb ∷ handle ∷ first ∷ others) ≡ lane ++ (verb_text verb ++ (handle ++ (codes " " ++ spaced (first ∷ others))))
+call_spaced verb lane handle first others = ap (λ l. lane ++ (codes " " ++ l)) (sym (append_assoc (verb_word verb) (codes " ") (handle ++ (codes " " ++ spaced (first ∷ others)))))
 
 pub call_takes : (line : List ℕ) (call : CallLine) → call_at line ≡ Some call → IsLine line (CallOf call)
 unfolding call_at
@@ -230,11 +303,12 @@ call_takes line call e =
     let (w, z, handle, (argument, spelled, behind_space), handle_split) = handled in
     let whole_line : line ≡ decimal parts.0 ++ (verb_text parts.1.0 ++ (decimal parts.1.1.0 ++ (codes " " ++ argument))) =
     split ∙ (λ j. lane.0 j ++ (verb_split ∙ (λ k. verb k ++ (handle_split ∙ (λ m. handle.0 m ++ behind_space m)) k)) j) in
+    let w = act_words parts.1.0 parts.1.1.0 parts.1.1.1 argument spelled in
     subst (λ (c : CallLine). IsLine line (CallOf c)) is
     (record {
-      words = decimal parts.0 ∷ verb_word parts.1.0 ∷ decimal parts.1.1.0 ∷ argument ∷ [];
-      formed = (verb_word parts.1.0 ∷ decimal parts.1.1.0 ∷ argument ∷ [], act_words parts.1.0 parts.1.1.0 parts.1.1.1 argument spelled, omega (arith, lane.1), omega (arith, handle.1), refl);
-      spelled = whole_line ∙ sym (call_spaced parts.1.0 (decimal parts.0) (decimal parts.1.1.0) argument);
+      words = decimal parts.0 ∷ verb_word parts.1.0 ∷ decimal parts.1.1.0 ∷ w.first ∷ w.others;
+      formed = (verb_word parts.1.0 ∷ decimal parts.1.1.0 ∷ w.first ∷ w.others, w.formed, omega (arith, lane.1), omega (arith, handle.1), refl);
+      spelled = whole_line ∙ ap (λ l. decimal parts.0 ++ (verb_text parts.1.0 ++ (decimal parts.1.1.0 ++ (codes " " ++ l)))) w.words_are ∙ sym (call_spaced parts.1.0 (decimal parts.0) (decimal parts.1.1.0) w.first w.others);
     })
 
 pub call_again : (line : List ℕ) (call : CallLine) → IsLine line (CallOf call) → call_at line ≡ Some call
@@ -242,16 +316,17 @@ unfolding call_at
 call_again line call h =
     let (rest, act, lane_fits, handle_fits, words_are) = h.formed in
     let w = worded rest call.handle call.act act in
-    let whole_line : line ≡ decimal call.lane ++ (verb_text w.verb ++ (decimal call.handle ++ (codes " " ++ w.argument))) =
-    h.spelled ∙ ap spaced (words_are ∙ ap (λ l. decimal call.lane ∷ l) w.words_are) ∙ call_spaced w.verb (decimal call.lane) (decimal call.handle) w.argument in
+    let argument = spaced (w.first ∷ w.others) in
+    let whole_line : line ≡ decimal call.lane ++ (verb_text w.verb ++ (decimal call.handle ++ (codes " " ++ argument))) =
+    h.spelled ∙ ap spaced (words_are ∙ ap (λ l. decimal call.lane ∷ l) w.words_are) ∙ call_spaced w.verb (decimal call.lane) (decimal call.handle) w.first w.others in
     whole_again _ _ Ends (seen_reads call_of_parts call_parts_at SpellsParts Ends parts_read) refl line call (
       (call.lane, (w.verb, (call.handle, call.act))),
       refl,
       (
         decimal call.lane,
-        verb_text w.verb ++ (decimal call.handle ++ (codes " " ++ w.argument)),
+        verb_text w.verb ++ (decimal call.handle ++ (codes " " ++ argument)),
         (refl, omega (arith, lane_fits)),
-        (verb_text w.verb, decimal call.handle ++ (codes " " ++ w.argument), refl, (decimal call.handle, codes " " ++ w.argument, (refl, omega (arith, handle_fits)), (w.argument, w.spelled, refl), refl), refl),
+        (verb_text w.verb, decimal call.handle ++ (codes " " ++ argument), refl, (decimal call.handle, codes " " ++ argument, (refl, omega (arith, handle_fits)), (argument, w.spelled, refl), refl), refl),
         whole_line,
       ),
     )
@@ -346,13 +421,13 @@ formed line (Header (Summary count duration)) h = ap form_at (h.spelled ∙ ap s
 formed line (Header (Idle mask timeout)) h = ap form_at (h.spelled ∙ ap spaced h.formed.3)
 formed line (Header (Global label)) h = ap form_at (h.spelled ∙ ap spaced h.formed.1)
 formed line (Round moment) h = ap form_at (h.spelled ∙ ap spaced h.formed.1)
-formed line (Setup (Register kind key)) h = ap form_at (h.spelled ∙ ap spaced h.formed.2)
+formed line (Setup (Register kind key)) h = ap form_at (h.spelled ∙ ap spaced h.formed.1)
 formed line (Setup (Describe kind name unit text)) h = absurd h.formed
 formed line (CallOf line_call) h =
     let (rest, act, lane_fits, handle_fits, words_are) = h.formed in
     let w = worded rest line_call.handle line_call.act act in
-    let behind_lane : List ℕ = verb_text w.verb ++ (decimal line_call.handle ++ (codes " " ++ w.argument)) in
-    let whole_line : line ≡ decimal line_call.lane ++ behind_lane = h.spelled ∙ ap spaced (words_are ∙ ap (λ l. decimal line_call.lane ∷ l) w.words_are) ∙ call_spaced w.verb (decimal line_call.lane) (decimal line_call.handle) w.argument in
+    let behind_lane : List ℕ = verb_text w.verb ++ (decimal line_call.handle ++ (codes " " ++ spaced (w.first ∷ w.others))) in
+    let whole_line : line ≡ decimal line_call.lane ++ behind_lane = h.spelled ∙ ap spaced (words_are ∙ ap (λ l. decimal line_call.lane ∷ l) w.words_are) ∙ call_spaced w.verb (decimal line_call.lane) (decimal line_call.handle) w.first w.others in
     ap form_at (whole_line ∙ ap (λ l. l ++ behind_lane) (decimal_digit line_call.lane (omega (arith, lane_fits)))) ∙ digit_form line_call.lane behind_lane (omega (arith, lane_fits))
 
 -- a line is read in its form

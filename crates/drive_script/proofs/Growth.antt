@@ -1,19 +1,19 @@
 -- The lines of a valid script and one more: they are a valid script just where that line is the script's next.
 use Rattle.std.proofs.Common.{◌≡◌, ℕ, zero, suc, ◌+◌, ◌-◌, ◌<◌, ◌≤◌, List, [], ◌∷◌, ◌++◌, map, length, get_or, take, refl, sym, ap, subst, ◌∙◌, arith, inl, inr, lit≤}
 use Rattle.std.specs.Prelude.{All, AllPairs, IfSome, flat_map, filter_map, sum_by}
-use Rattle.std.specs.List.{AllZip, AllByRecursion}
+use Rattle.std.specs.List.{AllZip}
 use Rattle.std.specs.List.Sorted.{IsNonDecreasingBy}
 use Rattle.std.proofs.lemmas.List.{append-nil, append_assoc, map-append, map_push, length-append, length_push, same_from_push, get_or_push, take_at, take_all, take_more, nil_from_length}
 use Rattle.std.proofs.lemmas.List.Concat.{flat_map-append}
 use Rattle.std.proofs.lemmas.List.Elements.{All-nil, All-push, All-take, All-get_or, All-from_get_or, filter_map-append}
 use Rattle.std.proofs.lemmas.List.Quantifiers.{all_pairs_push}
 use Rattle.std.proofs.lemmas.List.Sorted.{IsNonDecreasingBy-push, IsNonDecreasingBy-short}
-use Rattle.std.proofs.lemmas.List.Sums.{sum_by-cons}
+use Rattle.std.proofs.lemmas.List.Sums.{sum_by_push}
 use Rattle.metrics_core.specs.Keys.{KeyText}
-use Rattle.metrics_core.proofs.Lists.{both_parts, AllZip-push}
+use Rattle.metrics_core.proofs.Lists.{AllZip-push}
 use Rattle.metrics_core.specs.declared.kinds.MetricKind.{MetricKind}
-use Rattle.drive_script.specs.Script.{ScriptText, RoundText, SetupLine, Register, Describe, Act, Inc, Abs, Add, Sub, Set, Rec, RecN, CallLine, HeaderLine, ScriptLine, Header, Round, Setup, CallOf, IsLine, IsScript, AreActWords, sayable, header_lines, round_lines, only_globals, global_labels, SettingsText}
-use Rattle.drive_script.specs.Valid.{Registration, registration_of, registered_in, registered, HasHandle, HaveHandles, sample_count, PrintApart, IsValid, AreValidLines}
+use Rattle.drive_script.specs.Script.{ScriptText, RoundText, SetupLine, Register, Describe, CallLine, HeaderLine, ScriptLine, Header, Round, Setup, CallOf, IsLine, IsScript, sayable, header_lines, round_lines, only_globals, global_labels, SettingsText}
+use Rattle.drive_script.specs.Valid.{Registration, registration_of, registered_in, registered, HasHandle, HaveHandles, sample_count, sample_total, PrintApart, IsValid, AreValidLines}
 use Rattle.drive_script.specs.Growth.{AddsHeader, BeginsRound, SetsUp, AddsCall, IsNext}
 use Rattle.drive_script.proofs.Forms.{one_reading}
 use Rattle.drive_script.proofs.HeaderGrowth.{last_of, header_behind, with_header_sayable, HeaderLast, no_header, last_one, header_last, before_sayable, no_header_said}
@@ -90,51 +90,40 @@ next_said old new (CallOf call) h =
     (ap (λ (s : ScriptText). lines_said s.rounds) h.grown ∙ said_grown h.before h.round (record h.round { calls = h.round.calls ++ call ∷ [] }) (CallOf call) (call_said h.round.moment h.round.setup h.round.calls call)
     ∙ ap (λ r. lines_said r ++ CallOf call ∷ []) (sym h.last))
 
--- ---- samples: no line records one
+-- ---- samples
 
-act_plain : (words : List (List ℕ)) (handle : ℕ) (act : Act) → AreActWords words handle act → sample_count act ≡ 0
-act_plain words handle (Inc n) h = refl
-act_plain words handle (Abs n) h = refl
-act_plain words handle (Add v) h = refl
-act_plain words handle (Sub v) h = refl
-act_plain words handle (Set v) h = refl
-act_plain words handle (Rec v) h = absurd h
-act_plain words handle (RecN v n) h = absurd h
-
-abbrev IsPlain : ScriptLine → Type 0
-IsPlain (CallOf call) = sample_count call.act ≡ 0
-IsPlain _ = Unit {0}
-
-line_plain : (line : List ℕ) (says : ScriptLine) → IsLine line says → IsPlain says
-line_plain line (Header header) h = tt
-line_plain line (Round moment) h = tt
-line_plain line (Setup setup) h = tt
-line_plain line (CallOf call) h = act_plain h.formed.0 call.handle call.act h.formed.1
-
-lines_plain : (lines : List (List ℕ)) (says : List ScriptLine) → AllZip IsLine lines says → AllByRecursion IsPlain says
-lines_plain [] [] h = tt
-lines_plain [] (s ∷ says) h = absurd h
-lines_plain (l ∷ lines) [] h = absurd h
-lines_plain (l ∷ lines) (s ∷ says) h = (line_plain l s h.0, lines_plain lines says h.1)
-
-no_samples : (calls : List CallLine) → AllByRecursion IsPlain (map CallOf calls) → sum_by (λ (c : CallLine). sample_count c.act) calls ≡ 0
-no_samples [] h = refl
-no_samples (c ∷ calls) h = let rest = no_samples calls h.1 in sum_by-cons (λ (c : CallLine). sample_count c.act) c calls ∙ omega (arith, h.0)
+abbrev count_of : CallLine → ℕ
+count_of call = sample_count call.act
 
 abbrev samples_of : RoundText → ℕ
-samples_of round = sum_by (λ (c : CallLine). sample_count c.act) round.calls
+samples_of round = sum_by count_of round.calls
 
-plain_rounds : (rounds : List RoundText) → AllByRecursion IsPlain (lines_said rounds) → sum_by samples_of rounds ≡ 0
-plain_rounds [] h = refl
-plain_rounds (r ∷ rounds) h =
-    let parts = both_parts IsPlain (round_lines r) (lines_said rounds) h in
-    let round = both_parts IsPlain (map Setup r.setup) (map CallOf r.calls) parts.0.1 in
-    let none : samples_of r ≡ 0 = no_samples r.calls round.1 in
-    let rest = plain_rounds rounds parts.1 in
-    sum_by-cons samples_of r rounds ∙ omega (arith, rest)
+-- the samples of a script with these rounds
+abbrev samples_in : List RoundText → ℕ
+samples_in rounds = sum_by samples_of rounds
 
-script_plain : (lines : List (List ℕ)) (script : ScriptText) → IsScript lines script → sum_by samples_of script.rounds ≡ 0
-script_plain lines script h = plain_rounds script.rounds (both_parts IsPlain (map Header (header_lines script.settings)) (lines_said script.rounds) (lines_plain lines (script_lines script) h.each)).1
+samples_push : (before : List RoundText) (round : RoundText) → samples_in (before ++ round ∷ []) ≡ samples_in before + samples_of round
+samples_push before round = sum_by_push samples_of before round
+
+-- a call line's samples come to those of the others
+pub call_samples : (old new : ScriptText) (call : CallLine) (before : List RoundText) (round : RoundText) → old.rounds ≡ before ++ round ∷ [] → new ≡ record old { rounds = before ++ record round { calls = round.calls ++ call ∷ [] } ∷ [] }
+    → sample_total new ≡ sample_total old + sample_count call.act
+call_samples old new call before round last grown =
+    let a : sample_total old ≡ samples_in before + samples_of round = ap samples_in last ∙ samples_push before round in
+    let b : sample_total new ≡ samples_in before + sum_by count_of (round.calls ++ call ∷ []) = ap (λ (s : ScriptText). sample_total s) grown ∙ samples_push before (record round { calls = round.calls ++ call ∷ [] }) in
+    omega (arith, a, b, sum_by_push count_of round.calls call)
+
+-- another last round with the same calls
+same_samples : (before : List RoundText) (round other : RoundText) → round.calls ≡ other.calls → samples_in (before ++ round ∷ []) ≡ samples_in (before ++ other ∷ [])
+same_samples before round other e = samples_push before round ∙ ap (λ calls. samples_in before + sum_by count_of calls) e ∙ sym (samples_push before other)
+
+pub setup_samples : (old new : ScriptText) (setup : SetupLine) → SetsUp old setup new → sample_total new ≡ sample_total old
+setup_samples old new setup h = ap (λ (s : ScriptText). sample_total s) h.grown ∙ same_samples h.before (record h.round { setup = h.round.setup ++ setup ∷ [] }) h.round refl ∙ ap samples_in (sym h.last)
+
+pub round_samples : (old new : ScriptText) (moment : ℕ) → BeginsRound old moment new → sample_total new ≡ sample_total old
+round_samples old new moment h =
+    let e : sample_total new ≡ sample_total old + 0 = ap (λ (s : ScriptText). sample_total s) h.grown ∙ samples_push old.rounds (record { moment = moment; setup = []; calls = [] }) in
+    omega (arith, e)
 
 -- ---- lists of pairs and of moments, with the last element apart
 
@@ -308,6 +297,12 @@ next_handles old new (CallOf call) h handles =
     let others : All P h.round.calls = subst (λ rs. All (HasHandle rs) h.round.calls) same parts.1 in
     subst (λ (s : ScriptText). HaveHandles [] s.rounds) (sym h.grown) (handles_push [] h.before round parts.0 (All-push P h.round.calls call others last))
 
+next_samples : (old new : ScriptText) (says : ScriptLine) → IsNext old says new → sample_total old ≤ 16777216 → sample_total new ≤ 16777216
+next_samples old new (Header line) h few = let e : sample_total new ≡ 0 = ap samples_in (new_no_rounds old new line h) in omega (arith, e)
+next_samples old new (Round moment) h few = omega (arith, few, round_samples old new moment h)
+next_samples old new (Setup setup) h few = omega (arith, few, setup_samples old new setup h)
+next_samples old new (CallOf call) h few = h.room
+
 -- behind the lines of a valid script its next line makes a valid script
 pub next_valid : (lines : List (List ℕ)) (line : List ℕ) (old new : ScriptText) (says : ScriptLine) → Valid lines old → IsLine line says → IsNext old says new → Valid (lines ++ line ∷ []) new
 next_valid lines line old new says h is_line next =
@@ -318,7 +313,7 @@ next_valid lines line old new says h is_line next =
         moments = next_moments old new says next h.1.moments;
         handles = next_handles old new says next h.1.handles;
         registrations = next_registrations old new says next h.1.registrations;
-        samples = omega (arith, script_plain (lines ++ line ∷ []) new script);
+        samples = next_samples old new says next h.1.samples;
         heads = next_heads old new says next h.1.heads;
       },
     )
@@ -333,19 +328,20 @@ pub record Last (lines : List (List ℕ)) (line : List ℕ) (new : ScriptText) :
   pub is_line : IsLine line says
   pub next : IsNext old says new
 
--- what is valid of a script beside its samples
+-- what is valid of a script beside its lines
 record Fine (s : ScriptText) : Type 0 where
   settings : s.settings ≡ sayable s.settings
   moments : Sorted s.rounds
   handles : HaveHandles [] s.rounds
   registrations : length (registered s) ≤ 1000000
+  samples : sample_total s ≤ 16777216
   heads : Apart s (registered s)
 
 make_last : (lines : List (List ℕ)) (line : List ℕ) (new old : ScriptText) (says : ScriptLine) → Valid (lines ++ line ∷ []) new → IsNext old says new → Fine old → Last lines line new
 make_last lines line new old says h next fine =
     let each = zip_last IsLine lines (script_lines old) line says (subst (AllZip IsLine (lines ++ line ∷ [])) (next_said old new says next) h.0.each) in
     let script : IsScript lines old = record { settings = fine.settings; each = each.0 } in
-    let valid : IsValid old = record { moments = fine.moments; handles = fine.handles; registrations = fine.registrations; samples = omega (arith, script_plain lines old script); heads = fine.heads } in
+    let valid : IsValid old = record { moments = fine.moments; handles = fine.handles; registrations = fine.registrations; samples = fine.samples; heads = fine.heads } in
     record { old = old; says = says; valid = (script, valid); is_line = each.1; next = next }
 
 module _ (lines : List (List ℕ)) (line : List ℕ) (new : ScriptText) (h : Valid (lines ++ line ∷ []) new) (before : List RoundText) (round : RoundText) (e : new.rounds ≡ before ++ round ∷ []) where
@@ -354,6 +350,9 @@ module _ (lines : List (List ℕ)) (line : List ℕ) (new : ScriptText) (h : Val
 
   sorted : Sorted (before ++ round ∷ [])
   sorted = subst Sorted e h.1.moments
+
+  few_samples : samples_in (before ++ round ∷ []) ≤ 16777216
+  few_samples = subst (λ rs. samples_in rs ≤ 16777216) e h.1.samples
 
   apart : Apart new (flat_map registered_in (before ++ round ∷ []))
   apart = subst (λ rs. Apart new (flat_map registered_in rs)) e h.1.heads
@@ -366,19 +365,15 @@ module _ (lines : List (List ℕ)) (line : List ℕ) (new : ScriptText) (h : Val
       let same : flat_map registered_in (before ++ round ∷ []) ≡ registered old = same_registered before round earlier refl in
       let P : CallLine → Type 0 = HasHandle (registered old) in
       let all : All P (calls ++ call ∷ []) = subst (All P) f (subst (λ rs. All (HasHandle rs) round.calls) same parts.1) in
-      let next : AddsCall old call new = record {
-        before = before;
-        round = earlier;
-        last = refl;
-        grown = ap (λ rs. record new { rounds = rs }) (e ∙ ap (λ cs. before ++ record round { calls = cs } ∷ []) f);
-        handle = last_all P calls call all;
-      } in
+      let grown : new ≡ record old { rounds = before ++ record earlier { calls = calls ++ call ∷ [] } ∷ [] } = ap (λ rs. record new { rounds = rs }) (e ∙ ap (λ cs. before ++ record round { calls = cs } ∷ []) f) in
+      let next : AddsCall old call new = record { before = before; round = earlier; last = refl; grown = grown; handle = last_all P calls call all; room = h.1.samples } in
       make_last lines line new old (CallOf call) h next
       (record {
         settings = h.0.settings;
         moments = sorted_same before round earlier refl sorted;
         handles = handles_push [] before earlier parts.0 (front_all P calls call all);
         registrations = omega (arith, few_registered, ap length same);
+        samples = omega (arith, h.1.samples, call_samples old new call before earlier refl grown);
         heads = subst (Apart new) same apart;
       })
 
@@ -402,6 +397,7 @@ module _ (lines : List (List ℕ)) (line : List ℕ) (new : ScriptText) (h : Val
         moments = sorted_same before round earlier refl sorted;
         handles = handles_push [] before earlier parts.0 (All-nil (HasHandle (registered old)));
         registrations = omega (arith, few_registered, ap length all_registered, length-append (registered old) (filter_map registration_of (last ∷ [])));
+        samples = omega (arith, few_samples, same_samples before round earlier g);
         heads = both.0;
       })
     where
@@ -424,6 +420,7 @@ module _ (lines : List (List ℕ)) (line : List ℕ) (new : ScriptText) (h : Val
         moments = sorted_front before round sorted;
         handles = parts.0;
         registrations = omega (arith, few_registered, ap length same);
+        samples = omega (arith, few_samples, samples_push before round);
         heads = subst (Apart new) same apart;
       })
 
@@ -445,7 +442,7 @@ last_header lines line new h none = by (header_last new.settings)
         let next : AddsHeader old says new = record { no_round = refl; order = order; grown = λ j. record { settings = grown j; rounds = none j } } in
         let plain : before ≡ sayable before = before_sayable before says (subst (λ (s : SettingsText). s ≡ sayable s) grown h.0.settings) in
         make_last lines line new old (Header says) h next
-        (record { settings = plain; moments = no_moments [] refl; handles = tt; registrations = lit≤ tt; heads = no_pairs (PrintApart (global_labels before)) [] refl })
+        (record { settings = plain; moments = no_moments [] refl; handles = tt; registrations = lit≤ tt; samples = lit≤ tt; heads = no_pairs (PrintApart (global_labels before)) [] refl })
 
 pub last_line : (lines : List (List ℕ)) (line : List ℕ) (new : ScriptText) → Valid (lines ++ line ∷ []) new → Last lines line new
 last_line lines line new h =

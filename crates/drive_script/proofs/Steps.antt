@@ -11,14 +11,14 @@ use Rattle.metrics_core.specs.Keys.{KeyText}
 use Rattle.metrics_core.specs.declared.kinds.MetricKind.{MetricKind}
 use Rattle.drive_script.specs.Script as text
 use Rattle.drive_script.specs.Script.{ScriptText, SettingsText, IsLine, global_labels}
-use Rattle.drive_script.specs.Valid.{Registration, registered, HasHandle, PrintApart, AreValidLines}
+use Rattle.drive_script.specs.Valid.{Registration, registered, HasHandle, sample_count, sample_total, PrintApart, AreValidLines}
 use Rattle.drive_script.specs.Growth.{BeginsRound, SetsUp, AddsCall, IsNext}
 use Rattle.drive_script.specs.Texts.{call_line_of, setup_of, round_of, script_so_far, IsKnown, StandsBehind}
 use Rattle.drive_script.specs.declared.progress.ScriptSoFar.{ScriptSoFar}
 use Rattle.drive_script.specs.declared.script.CallLine.{CallLine}
 use Rattle.drive_script.specs.declared.script.Setup.{Setup}
 use Rattle.drive_script.specs.declared.script.Round.{Round}
-use Rattle.drive_script.proofs.Growth.{one_registered, next_valid, only_next}
+use Rattle.drive_script.proofs.Growth.{one_registered, call_samples, next_valid, only_next}
 
 abbrev with_rounds : SettingsText → List text.RoundText → ScriptText
 with_rounds settings rounds = record { settings = settings; rounds = rounds }
@@ -46,15 +46,20 @@ module _ (settings : SettingsText) (rounds : List Round) (n : ℕ) (len : n ≡ 
 
     -- one more call line
     pub call_added : (calls : Vec CallLine) (call : CallLine) → calls.items ≡ round.calls.items ++ call ∷ [] → HasHandle (registered (script_with settings rounds)) (call_line_of call)
+        → sample_total (script_with settings rounds) + sample_count (call_line_of call).act ≤ 16777216
         → AddsCall (script_with settings rounds) (call_line_of call) (script_with settings (set rounds (n - 1) (record { moment = round.moment; setup = round.setup; calls = calls })))
-    call_added calls call e handle =
+    call_added calls call e handle room =
         let with_calls = λ (cs : List text.CallLine). with_rounds settings (map round_of (take (n - 1) rounds) ++ round_with round.moment (map setup_of round.setup.items) cs ∷ []) in
+        let new = script_with settings (set rounds (n - 1) (record { moment = round.moment; setup = round.setup; calls = calls })) in
+        let grown : new ≡ with_calls (map call_line_of round.calls.items ++ call_line_of call ∷ []) =
+        ap (with_rounds settings) (texts_set (record { moment = round.moment; setup = round.setup; calls = calls })) ∙ ap with_calls (ap (map call_line_of) e ∙ map_push call_line_of round.calls.items call) in
         record {
           before = map round_of (take (n - 1) rounds);
           round = round_of round;
           last = texts_split;
-          grown = ap (with_rounds settings) (texts_set (record { moment = round.moment; setup = round.setup; calls = calls })) ∙ ap with_calls (ap (map call_line_of) e ∙ map_push call_line_of round.calls.items call);
+          grown = grown;
           handle = handle;
+          room = omega (arith, room, call_samples (script_with settings rounds) new (call_line_of call) (map round_of (take (n - 1) rounds)) (round_of round) texts_split grown);
         }
 
     -- one more register line
@@ -88,6 +93,10 @@ module _ (settings : SettingsText) (rounds : List Round) (n : ℕ) (len : n ≡ 
 -- 1,000,000 register lines are the most
 pub register_full : (old new : ScriptText) (kind : MetricKind) (key : KeyText) → 1000000 ≤ length (registered old) → SetsUp old (text.Register kind key) new → ⊥
 register_full old new kind key full h = omega (arith, h.room, ap length (one_registered old new h.before h.round kind key h.last h.grown), length_push (registered old) (record { kind = kind; key = key }))
+
+-- 16,777,216 samples are the most
+pub samples_full : (old new : ScriptText) (call : text.CallLine) → 16777216 < sample_total old + sample_count call.act → AddsCall old call new → ⊥
+samples_full old new call full h = omega (arith, full, h.room, call_samples old new call h.before h.round h.last h.grown)
 
 -- ---- rounds
 

@@ -2,7 +2,7 @@
 use Rattle.std.specs.Prelude.{◌≡◌, ℕ, ◌≤◌, List, [], ◌∷◌, ◌++◌, length, All, IfSome, Some, None}
 use Rattle.metrics_core.specs.Keys.{LabelText, put_label}
 use Rattle.drive_script.specs.Script.{SettingsText, ScriptText, RoundText, SetupLine, CallLine, HeaderLine, Quantiles, Buckets, BucketsFor, Summary, Idle, Global, ScriptLine, Header, Round, Setup, CallOf, global_labels}
-use Rattle.drive_script.specs.Valid.{registered, registration_of, HasHandle, PrintApart}
+use Rattle.drive_script.specs.Valid.{registered, registration_of, HasHandle, sample_total, PrintApart}
 
 -- ---- header lines: none of a later form stands before one, and but for some forms none of its own
 
@@ -62,13 +62,14 @@ pub record SetsUp (old : ScriptText) (setup : SetupLine) (new : ScriptText) : Ty
   pub room : length (registered new) ≤ 1000000
   pub apart : IfSome (registration_of setup) (λ registration. All (λ r. PrintApart (global_labels old.settings) r registration) (registered old))
 
--- a call line goes to the last round, and has the handle of a register line
+-- a call line goes to the last round, and has the handle of a register line; all call lines record at most 16,777,216 samples
 pub record AddsCall (old : ScriptText) (call : CallLine) (new : ScriptText) : Type 0 where
   pub before : List RoundText
   pub round : RoundText
   pub last : old.rounds ≡ before ++ round ∷ []
   pub grown : new ≡ record old { rounds = before ++ record round { calls = round.calls ++ call ∷ [] } ∷ [] }
   pub handle : HasHandle (registered old) call
+  pub room : sample_total new ≤ 16777216
 
 -- the one script is the other with this line at its end
 abbrev pub IsNext : ScriptText → ScriptLine → ScriptText → Type 0

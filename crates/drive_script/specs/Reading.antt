@@ -254,11 +254,17 @@ unfoldable pub verb_at : Reader Verb
 verb_at bytes =
     standing (codes " inc ") verbs.Inc bytes or standing (codes " abs ") verbs.Abs bytes or standing (codes " add ") verbs.Add bytes
     or standing (codes " sub ") verbs.Sub bytes or standing (codes " set ") verbs.Set bytes
+    or standing (codes " rec ") verbs.Rec bytes or standing (codes " recn ") verbs.RecN bytes
 
--- the first words of a register line, with a kind that has register lines
+-- the word of a kind, and the space behind it
+unfoldable pub kind_word_at : Reader MetricKind
+kind_word_at bytes =
+    standing (codes "counter ") kinds.Counter bytes or standing (codes "gauge ") kinds.Gauge bytes
+    or standing (codes "histogram ") kinds.Histogram bytes
+
+-- the first words of a register line
 unfoldable pub registered_kind_at : Reader MetricKind
-registered_kind_at bytes =
-    standing (codes "register counter ") kinds.Counter bytes or standing (codes "register gauge ") kinds.Gauge bytes
+registered_kind_at bytes = after (codes "register ") kind_word_at bytes
 
 abbrev pub argument_at : Verb → Reader Act
 argument_at verbs.Inc = seen text.Inc (number_at (2 ^ 64 - 1))
@@ -266,6 +272,8 @@ argument_at verbs.Abs = seen text.Abs (number_at (2 ^ 64 - 1))
 argument_at verbs.Add = seen text.Add fixed_at
 argument_at verbs.Sub = seen text.Sub fixed_at
 argument_at verbs.Set = seen text.Set fixed_at
+argument_at verbs.Rec = seen text.Rec fixed_at
+argument_at verbs.RecN = seen (λ samples. text.RecN samples.0 samples.1) (both fixed_at (λ _. after (codes " ") (positive_at 1000000)))
 
 -- ---- the forms of line
 

@@ -124,11 +124,6 @@ pub data ScriptLine : Type 0 where
   Setup : SetupLine → ScriptLine
   CallOf : CallLine → ScriptLine
 
--- the kinds that have register lines; histograms have none yet
-abbrev pub IsRegistered : MetricKind → Type 0
-IsRegistered kinds.Histogram = ⊥
-IsRegistered _ = Unit {0}
-
 -- the words of a header line
 abbrev pub AreHeaderWords : List (List ℕ) → HeaderLine → Type 0
 AreHeaderWords words (Quantiles values) = (decs : List (List ℕ)) × AreDecs decs values × (words ≡ codes "quantiles" ∷ decs)
@@ -146,17 +141,19 @@ AreHeaderWords words (Global label) =
 -- the words of a setup line: it registers a series of a kind under a key
 abbrev pub AreSetupWords : List (List ℕ) → SetupLine → Type 0
 AreSetupWords words (Register kind key) =
-    IsRegistered kind × IsKeyUtf8 key × (words ≡ codes "register" ∷ kind_text kind ∷ quoted key.name ∷ map label_word key.labels)
+    IsKeyUtf8 key × (words ≡ codes "register" ∷ kind_text kind ∷ quoted key.name ∷ map label_word key.labels)
 AreSetupWords words _ = ⊥
 
--- the words of a call behind its lane: the act, the handle, and the argument; acts on histograms have no lines yet
+-- the words of a call behind its lane: the act, the handle, and what it is made with; a `recn` line records 1 to 1,000,000 samples
 abbrev pub AreActWords : List (List ℕ) → ℕ → Act → Type 0
 AreActWords words handle (Inc n) = (n < 2 ^ 64) × (words ≡ codes "inc" ∷ decimal handle ∷ decimal n ∷ [])
 AreActWords words handle (Abs n) = (n < 2 ^ 64) × (words ≡ codes "abs" ∷ decimal handle ∷ decimal n ∷ [])
 AreActWords words handle (Add v) = (dec : List ℕ) × IsDec dec v × (words ≡ codes "add" ∷ decimal handle ∷ dec ∷ [])
 AreActWords words handle (Sub v) = (dec : List ℕ) × IsDec dec v × (words ≡ codes "sub" ∷ decimal handle ∷ dec ∷ [])
 AreActWords words handle (Set v) = (dec : List ℕ) × IsDec dec v × (words ≡ codes "set" ∷ decimal handle ∷ dec ∷ [])
-AreActWords words handle _ = ⊥
+AreActWords words handle (Rec v) = (dec : List ℕ) × IsDec dec v × (words ≡ codes "rec" ∷ decimal handle ∷ dec ∷ [])
+AreActWords words handle (RecN v n) =
+    (dec : List ℕ) × IsDec dec v × (1 ≤ n) × (n ≤ 1000000) × (words ≡ codes "recn" ∷ decimal handle ∷ dec ∷ decimal n ∷ [])
 
 -- the words of each form of line; lanes are 0 to 7
 abbrev pub AreWords : List (List ℕ) → ScriptLine → Type 0

@@ -1,5 +1,5 @@
 -- The script that a value of the program stands for.
-use Rattle.std.specs.Prelude.{◌≡◌, ℕ, ℤ, List, map, flat_map, filter_map, option_map, string_bytes}
+use Rattle.std.specs.Prelude.{◌≡◌, ◌+◌, ℕ, ℤ, List, map, flat_map, filter_map, option_map, string_bytes}
 use Rattle.std.specs.Int.NonZero.{non_zero_u32_get}
 use Rattle.std.specs.declared.string.String.{String}
 use Rattle.std.specs.declared.alloc.Global.{Global}
@@ -12,7 +12,7 @@ use Rattle.drive_script.specs.Heads.{AreNoted}
 use Rattle.drive_script.specs.Reading.{Registered}
 use Rattle.drive_script.specs.declared.script.Settings.{Settings}
 use Rattle.drive_script.specs.Script as text
-use Rattle.drive_script.specs.Valid.{Registration, registration_of, registered_in, registered, IsValid}
+use Rattle.drive_script.specs.Valid.{Registration, registration_of, registered_in, registered, sample_total, IsValid}
 use Rattle.drive_script.specs.declared.progress.ScriptSoFar.{ScriptSoFar}
 use Rattle.drive_script.specs.declared.script.Act.{Act}
 use Rattle.drive_script.specs.declared.script.Act.TheVariants as acts
@@ -32,6 +32,8 @@ act_of (acts.Abs n) = text.Abs n
 act_of (acts.Add value) = text.Add value.0
 act_of (acts.Sub value) = text.Sub value.0
 act_of (acts.Set value) = text.Set value.0
+act_of (acts.Rec value) = text.Rec value.0
+act_of (acts.RecN value count) = text.RecN value.0 count
 
 abbrev pub call_line_of : CallLine → text.CallLine
 call_line_of line = record { lane = line.lane; handle = line.handle; act = act_of line.act }
@@ -92,11 +94,13 @@ line_of (lines.Call call) = text.CallOf (call_line_of call)
 abbrev pub script_so_far : ScriptSoFar → text.ScriptText
 script_so_far progress = record { settings = settings_of progress.settings; rounds = map round_of progress.rounds.items }
 
--- what is known beside the script: the global labels, the kind of each register line, and which lines print alike
+-- what is known beside the script: the global labels, the kind of each register line, which lines print alike, and how many
+-- more samples its call lines may record
 pub record IsKnown (progress : ScriptSoFar) : Type 0 where
   pub globals : labels_of progress.heads.globals.entries ≡ text.global_labels (script_so_far progress).settings
   pub kinds : progress.kinds.items ≡ map (λ r. r.kind) (registered (script_so_far progress))
   pub heads : AreNoted (labels_of progress.heads.globals.entries) progress.heads.table (registered (script_so_far progress))
+  pub samples : sample_total (script_so_far progress) + progress.samples_left ≡ 16777216
 
 -- the progress stands behind these lines: they are the valid script of its rounds
 pub record StandsBehind (lines : List (List ℕ)) (progress : ScriptSoFar) : Type 0 where

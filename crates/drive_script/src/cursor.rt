@@ -39,6 +39,7 @@ ghost use Rattle.drive_script.specs.Reading.{
   label_at,
   kind_at,
   kind_of_letter,
+  kind_word_at,
   labels_at,
   mask_at,
   matcher_at,
@@ -57,6 +58,7 @@ ghost use Rattle.std.specs.Int.NonZero.{non_zero_u32_get};
 ghost use Rattle.metrics_registry.specs.Masks.{only};
 ghost use Rattle.prom_format.specs.MatcherTexts.{matcher_text};
 ghost use Rattle.drive_script.specs.Texts.{act_of, values_of};
+ghost use Rattle.drive_script.specs.declared.lines.Verb.TheVariants as verbs;
 
 use crate::Act;
 use crate::headers::MatcherForm;
@@ -76,6 +78,9 @@ const PLACES: usize = 9;
 
 /// The greatest whole part of a value.
 const MOST_WHOLE: u64 = 9_223_372_036;
+
+/// How many samples one line may record.
+const MOST_SAMPLES: u32 = 1_000_000;
 
 /// The bytes of a line that are still to be read. A method that answers `None` ends the reading of the line.
 #[derive(Drop)]
@@ -383,6 +388,10 @@ impl<'a> Cursor<'a> {
             Some(Verb::Sub)
         } else if self.literal(b" set ").is_some() {
             Some(Verb::Set)
+        } else if self.literal(b" rec ").is_some() {
+            Some(Verb::Rec)
+        } else if self.literal(b" recn ").is_some() {
+            Some(Verb::RecN)
         } else {
             None
         }
@@ -394,11 +403,24 @@ impl<'a> Cursor<'a> {
         ensures { MatchOption result (registered_kind_at self.old.rest.now ≡ None)
             (λ kind. registered_kind_at self.old.rest.now ≡ Some (kind, self.new.rest.now)) }
     {
-        if self.literal(b"register counter ").is_some() {
+        self.literal(b"register ")?;
+        self.kind_word()
+    }
+
+    /// Takes the word of a kind, and the space behind it.
+    #[tactic(auto, unfolding(crate::specs::Reading::kind_word_at))]
+    fn kind_word(&mut self) -> Option<MetricKind>
+        ensures { MatchOption result (kind_word_at self.old.rest.now ≡ None)
+            (λ kind. kind_word_at self.old.rest.now ≡ Some (kind, self.new.rest.now)) }
+    {
+        if self.literal(b"counter ").is_some() {
             return Some(MetricKind::Counter);
         }
-        self.literal(b"register gauge ")?;
-        Some(MetricKind::Gauge)
+        if self.literal(b"gauge ").is_some() {
+            return Some(MetricKind::Gauge);
+        }
+        self.literal(b"histogram ")?;
+        Some(MetricKind::Histogram)
     }
 
     /// Takes the argument of a call line.
@@ -412,7 +434,20 @@ impl<'a> Cursor<'a> {
             Verb::Add => Some(Act::Add(self.fixed()?)),
             Verb::Sub => Some(Act::Sub(self.fixed()?)),
             Verb::Set => Some(Act::Set(self.fixed()?)),
+            Verb::Rec => Some(Act::Rec(self.fixed()?)),
+            Verb::RecN => self.repeated(),
         }
+    }
+
+    /// Takes a value and how many times it is recorded.
+    fn repeated(&mut self) -> Option<Act>
+        ensures { MatchOption result (argument_at verbs.RecN self.old.rest.now ≡ None)
+            (λ act. argument_at verbs.RecN self.old.rest.now ≡ Some (act_of act, self.new.rest.now)) }
+    {
+        let value = self.fixed()?;
+        self.literal(b" ")?;
+        let count = self.positive(MOST_SAMPLES)?;
+        Some(Act::RecN(value, count.get()))
     }
 
     /// Takes the end of the line.

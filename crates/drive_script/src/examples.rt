@@ -2,11 +2,16 @@
 
 ghost use Rattle.std.specs.Prelude.{[]};
 ghost use Rattle.drive_script.specs.Valid.{IsScriptOf};
-ghost use Rattle.drive_script.specs.Vectors.{basic, basic_bytes, empty};
+ghost use Rattle.drive_script.specs.Vectors.{basic, basic_bytes, empty, sampled, sampled_bytes};
 
 /// A round line, a register line and a call line are a script of one round.
 pub fn basic_example()
     ensures { IsScriptOf basic_bytes basic }
+{}
+
+/// A line may record one sample many times.
+pub fn sampled_example()
+    ensures { IsScriptOf sampled_bytes sampled }
 {}
 
 /// No bytes are the script without rounds.

@@ -35,6 +35,8 @@ pub(crate) enum Verb {
     Add,
     Sub,
     Set,
+    Rec,
+    RecN,
 }
 
 /// What a line says, if it is of some form.

@@ -21,14 +21,18 @@ use std::alloc::Global;
 /// How many register lines a script may have.
 const MAX_REGISTRATIONS: usize = 1_000_000;
 
-/// The settings and the rounds so far, the kind of each register line in them, and which of these print alike. After an `Err`
-/// of a method it is of no use.
+/// How many samples the call lines of a script may record.
+const MAX_SAMPLES: u32 = 16_777_216;
+
+/// The settings and the rounds so far, the kind of each register line in them, which of these print alike, and how many more
+/// samples there is room for. After an `Err` of a method it is of no use.
 #[derive(Drop)]
 pub(crate) struct ScriptSoFar {
     settings: Settings,
     rounds: Vec<Round>,
     kinds: Vec<MetricKind>,
     heads: Heads,
+    samples_left: u32,
 }
 
 impl ScriptSoFar {
@@ -41,6 +45,7 @@ impl ScriptSoFar {
             rounds: Vec::new(alloc),
             kinds: Vec::new(alloc),
             heads: Heads::new(alloc),
+            samples_left: MAX_SAMPLES,
         }
     }
 
@@ -143,10 +148,14 @@ impl ScriptSoFar {
         if !self.has_handle(&call) {
             return Ok(false);
         }
+        let Some(samples_left) = self.samples_left.checked_sub(call.act.samples()) else {
+            return Ok(false);
+        };
         let Some(round) = self.rounds.last_mut() else {
             return Ok(false);
         };
         round.calls.push(call)?;
+        self.samples_left = samples_left;
         Ok(true)
     }
 

@@ -3,6 +3,7 @@
 ghost use Rattle.std.specs.Prelude.{◌≡◌, []};
 ghost use Rattle.drive_script.specs.Script.{kind_of, only_globals};
 ghost use Rattle.drive_script.specs.Texts.{act_of, settings_of};
+ghost use Rattle.drive_script.specs.Valid.{sample_count};
 
 use metrics_core::{Fixed, Key, MetricKind};
 use metrics_registry::MetricKindMask;
@@ -88,6 +89,10 @@ pub enum Act {
     Sub(Fixed),
     /// Sets a gauge.
     Set(Fixed),
+    /// Records one sample in a histogram.
+    Rec(Fixed),
+    /// Records a sample in a histogram so many times.
+    RecN(Fixed, u32),
 }
 
 impl Act {
@@ -98,6 +103,18 @@ impl Act {
         match self {
             Act::Inc(_) | Act::Abs(_) => MetricKind::Counter,
             Act::Add(_) | Act::Sub(_) | Act::Set(_) => MetricKind::Gauge,
+            Act::Rec(_) | Act::RecN(..) => MetricKind::Histogram,
+        }
+    }
+
+    /// How many samples it records.
+    pub fn samples(&self) -> u32
+        ensures { result ≡ sample_count (act_of self.now) }
+    {
+        match self {
+            Act::Rec(_) => 1,
+            Act::RecN(_, count) => *count,
+            Act::Inc(_) | Act::Abs(_) | Act::Add(_) | Act::Sub(_) | Act::Set(_) => 0,
         }
     }
 }

@@ -1,4 +1,4 @@
-use Rattle.std.proofs.Common.{◌≡◌, ◌≤◌, List, [], map, sym, ap, subst, ◌∙◌, rules}
+use Rattle.std.proofs.Common.{◌≡◌, ◌≤◌, ◌+◌, List, [], map, sym, ap, subst, ◌∙◌, rules}
 use Rattle.std.specs.Prelude.{All, vec_len}
 use Rattle.std.specs.List.Sorted.{IsNonDecreasingBy}
 use Rattle.std.proofs.lemmas.List.{nil_from_length}
@@ -9,7 +9,7 @@ use Rattle.drive_script.specs.Heads.{AreNoted}
 use Rattle.drive_script.specs.Growth.{BeginsRound}
 use Rattle.drive_script.specs.Texts.{round_of, settings_of, script_so_far}
 use Rattle.drive_script.specs.declared.script.Round.{Round}
-use Rattle.drive_script.proofs.Growth.{round_registered}
+use Rattle.drive_script.proofs.Growth.{round_registered, round_samples}
 use Rattle.drive_script.proofs.Steps.{script_with, round_begun, none_after, kinds_of}
 use Rattle.drive_script.proofs.progress.ScriptSoFar.begin_round.Goals as goal
 use Rattle.drive_script.proofs.progress.ScriptSoFar.begin_round.Goals.{In_ok-push, in_default-via-in-None-1, in_default-via-in-Some+else-moment-last}
@@ -40,6 +40,7 @@ returns-2 c =
               globals = known.globals;
               kinds = known.kinds ∙ ap kinds_of (sym same);
               heads = subst (AreNoted (labels_of old.heads.globals.entries) old.heads.table) (sym same) known.heads;
+              samples = ap (λ n. n + old.samples_left) (round_samples (script_so_far old) (script_with (settings_of old.settings) c.push.new.self.items) c.args.moment begins) ∙ known.samples;
             },
           );
     }

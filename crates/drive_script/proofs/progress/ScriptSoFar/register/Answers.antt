@@ -1,4 +1,4 @@
-use Rattle.std.proofs.Common.{◌≡◌, ◌∷◌, ◌++◌, ◌-◌, ◌∙◌, sym, ap, subst, set, arith, [], refl}
+use Rattle.std.proofs.Common.{◌≡◌, ◌∷◌, ◌++◌, ◌+◌, ◌-◌, ◌∙◌, sym, ap, subst, set, arith, [], refl}
 use Rattle.std.specs.Prelude.{All, vec_len}
 use Rattle.std.proofs.lemmas.List.{get_or_default, map_push}
 use Rattle.prom_format.specs.LabelSets.{labels_of}
@@ -7,6 +7,8 @@ use Rattle.drive_script.specs.Texts.{settings_of, script_so_far}
 use Rattle.drive_script.specs.Taking.{MayRegister}
 use Rattle.drive_script.specs.declared.script.Round.{Round}
 use Rattle.drive_script.specs.Valid.{Registration, registered, PrintApart}
+use Rattle.drive_script.specs.Script.{Register}
+use Rattle.drive_script.proofs.Growth.{setup_samples}
 use Rattle.drive_script.proofs.Steps.{script_with, register_added, key_registered, kinds_of}
 use Rattle.drive_script.proofs.progress.ScriptSoFar.register.Goals as goal
 
@@ -40,13 +42,15 @@ returns c = record {
       let same : may.round ≡ c.in-Some.round.now = may.last ∙ get_or_default rounds.items (vec_len rounds - 1) may.round c.in-Some.round.now (omega (arith, some, rounds.ok.0)) ∙ sym last in
       let no_call : c.in-Some.round.now.calls.items ≡ [] = ap (λ (r : Round). r.calls.items) (sym same) ∙ may.no_call in
       let grown = script_with settings (set rounds.items (vec_len rounds - 1) (record { moment = c.in-Some.round.now.moment; setup = c.push-2.new.self; calls = c.in-Some.round.now.calls })) in
-      let all = key_registered settings rounds.items (vec_len rounds) rounds.ok.0 some c.in-Some.round.now last c.push-2.new.self _ c.args.kind c.args.key refl pushed no_call in (
-        register_added settings rounds.items (vec_len rounds) rounds.ok.0 some c.in-Some.round.now last c.push-2.new.self _ c.args.kind c.args.key refl pushed no_call may.room apart,
+      let all = key_registered settings rounds.items (vec_len rounds) rounds.ok.0 some c.in-Some.round.now last c.push-2.new.self _ c.args.kind c.args.key refl pushed no_call in
+      let added = register_added settings rounds.items (vec_len rounds) rounds.ok.0 some c.in-Some.round.now last c.push-2.new.self _ c.args.kind c.args.key refl pushed no_call may.room apart in (
+        added,
         record {
           globals = ap (λ globals. labels_of globals.entries) c.in_ok-note.ensures.globals ∙ known.globals;
           kinds = c.in_ok-push.ensures.items ∙ ap (λ ks. ks ++ c.args.kind ∷ []) known.kinds ∙ sym (ap kinds_of all ∙ map_push (λ (r : Registration). r.kind) earlier new);
           heads = subst (λ globals. AreNoted (labels_of globals.entries) c.note.new.self.table (registered grown)) (sym c.in_ok-note.ensures.globals)
               (subst (AreNoted (labels_of old.heads.globals.entries) c.note.new.self.table) (sym all) noted.0);
+          samples = ap (λ n. n + old.samples_left) (setup_samples (script_so_far old) grown (Register c.args.kind c.args.key) added) ∙ known.samples;
         },
       );
 }
