@@ -12,7 +12,7 @@ use Rattle.prom_exporter.specs.Heads.{pieces, AreCuts}
 
 -- ---- one more behind the others
 
-drop-whole : (bytes more : List ℕ) → drop (length bytes) (bytes ++ more) ≡ more
+pub drop-whole : (bytes more : List ℕ) → drop (length bytes) (bytes ++ more) ≡ more
 drop-whole [] more = refl
 drop-whole (b ∷ bytes) more = drop-whole bytes more
 

@@ -1,7 +1,7 @@
 -- Cells of which no pass is out: what the exporter sees of them is the whole history.
 use Rattle.std.proofs.Common.{◌≡◌, List, [], ◌∷◌, ◌++◌, refl, sym, ap, subst, ◌∙◌, inl, inr, arith}
 use Rattle.std.specs.Prelude.{All}
-use Rattle.std.proofs.lemmas.List.Elements.{All-cons, All-append}
+use Rattle.std.proofs.lemmas.List.Elements.{All-nil, All-cons, All-append}
 use Rattle.legal_history.specs.declared.history.View.{View}
 use mathlib.Core.List.{IsPrefix}
 use Rattle.legal_history.specs.declared.history.Held.{Held}
@@ -12,12 +12,14 @@ use Rattle.metrics_core.specs.declared.kinds.SeriesId.{SeriesId}
 use Rattle.metrics_registry.specs.Live.{LiveSeries}
 use Rattle.metrics_core.specs.declared.calls.SeriesCall.{SeriesCall}
 use Rattle.prom_exporter.specs.Shared.{Shared, IsHome, unused, Looks, TakesBack}
-use Rattle.metrics_core.specs.declared.kinds.MetricKind.TheVariants.{Counter, Gauge}
-use Rattle.prom_exporter.specs.Families.{ExporterSettings}
+use Rattle.metrics_core.specs.declared.kinds.MetricKind.TheVariants.{Counter, Gauge, Histogram}
+use Rattle.prom_format.specs.Names.{sanitized_metric_name}
+use Rattle.prom_exporter.specs.Families.{ExporterSettings, distribution_of}
+use Rattle.prom_exporter.specs.Sampled.{Sampled, IsAtRest, unsampled}
 use Rattle.series_cells.specs.declared.counter.PromCounter.{PromCounter}
 use Rattle.series_cells.specs.declared.gauge.PromGauge.{PromGauge}
 use Rattle.std.proofs.Common.{◌+◌}
-use Rattle.prom_exporter.specs.Exporter.{Cells, Exporter, AllHome, AddsCounter, AddsGauge}
+use Rattle.prom_exporter.specs.Exporter.{Cells, Exporter, AllHome, AddsCounter, AddsGauge, AddsHistogram}
 
 among_last : (h : Held SeriesCall) (hs : List (Held SeriesCall)) → Among h (hs ++ h ∷ [])
 among_last h [] = inl refl
@@ -46,10 +48,19 @@ unused-home {F} es e cell is home =
     (All-cons (λ (s : LiveSeries (Shared F)). IsHome s.cell) e [] (rw is (refl, refl)) (λ k d none. absurd (omega (arith, none))))
 
 pub adds_counter-home : (key : KeyText) (old new : Exporter) → AddsCounter key old new → AllHome old → AllHome new
-adds_counter-home key old new adds home = rw adds.1 (unused-home old.series.counters _ adds.0 refl home.0, home.1)
+adds_counter-home key old new adds home = rw adds.1 (unused-home old.series.counters _ adds.0 refl home.0, home.1, home.2)
 
 pub adds_gauge-home : (key : KeyText) (old new : Exporter) → AddsGauge key old new → AllHome old → AllHome new
-adds_gauge-home key old new adds home = rw adds.1 (home.0, unused-home old.series.gauges _ adds.0 refl home.1)
+adds_gauge-home key old new adds home = rw adds.1 (home.0, unused-home old.series.gauges _ adds.0 refl home.1, home.2)
+
+pub adds_histogram-home : (key : KeyText) (old new : Exporter) → AddsHistogram key old new → AllHome old → AllHome new
+adds_histogram-home key old new adds home =
+    rw adds.1 (
+      home.0,
+      home.1,
+      All-append (λ (s : LiveSeries Sampled). IsAtRest s.cell) old.series.histograms _ home.2
+          (All-cons (λ (s : LiveSeries Sampled). IsAtRest s.cell) _ [] (refl, refl) (All-nil _)),
+    )
 
 -- a counter that was made went last
 pub counter_added : (exporter : Exporter) (settings : ExporterSettings) (series after : Cells) (key copied : KeyText) (id : SeriesId) (cell : Shared PromCounter)
@@ -75,4 +86,17 @@ gauge_added exporter settings series after key copied id cell is added numbered 
       cell.cell,
       ap (λ (cells : Cells). record { settings = settings; series = cells })
           (added ∙ (λ j. record series { gauges = series.gauges ++ record { id = numbered j; key = same j; cell = fresh j } ∷ []; made = series.made + 1 })),
+    )
+
+-- a histogram that was made went last
+pub histogram_added : (exporter : Exporter) (settings : ExporterSettings) (series after : Cells) (key copied : KeyText) (id : SeriesId) (cell : Sampled)
+    → record { settings = settings; series = series } ≡ exporter
+    → after ≡ record series { histograms = series.histograms ++ record { id = id; key = copied; cell = cell } ∷ []; made = series.made + 1 }
+    → id ≡ record { kind = Histogram; number = series.made } → copied ≡ key → cell ≡ unsampled (distribution_of settings (sanitized_metric_name key.name)) cell.series.cell
+    → AddsHistogram key exporter (record { settings = settings; series = after })
+histogram_added exporter settings series after key copied id cell is added numbered same fresh =
+    rw (← is) (
+      cell.series.cell,
+      ap (λ (cells : Cells). record { settings = settings; series = cells })
+          (added ∙ (λ j. record series { histograms = series.histograms ++ record { id = numbered j; key = same j; cell = fresh j } ∷ []; made = series.made + 1 })),
     )

@@ -15,7 +15,7 @@ use Rattle.prom_format.specs.Pages.{row_text, body_text, type_line_text}
 use Rattle.prom_format.specs.declared.families.FamilyType.{FamilyType}
 use Rattle.distributions.specs.Kinds.{DistributionRules}
 use Rattle.prom_exporter.specs.Exporter.{Cells}
-use Rattle.prom_exporter.specs.Kept.{KeepsFirst, IsKept}
+use Rattle.prom_exporter.specs.Kept.{KeepsFirst, HaveKinds, IsKept}
 use Rattle.prom_exporter.specs.Families.{ExporterSettings, distinct}
 use Rattle.prom_exporter.specs.Rows.{RowsText, head_of, name_at, places_of, rows_of, keys_of, row_at, kept_block}
 use Rattle.prom_exporter.specs.Values.{named, grouped, with_member, member_of, metric_name, value_row, value_family, value_families}
@@ -119,13 +119,17 @@ module _ {X : Type 0} where
   keys-with_cell_at (s ∷ live) zero cell = refl
   keys-with_cell_at (s ∷ live) (suc place) cell = ap (λ l. s.key ∷ l) (keys-with_cell_at live place cell)
 
--- what is kept fits as long as the keys stay
-pub kept_same : (settings : ExporterSettings) (distributions : DistributionRules) (old new : Cells) (counters gauges : RowsText) → IsKept settings distributions old counters gauges → keys_of new.counters ≡ keys_of old.counters → keys_of new.gauges ≡ keys_of old.gauges → IsKept settings distributions new counters gauges
-kept_same settings distributions old new counters gauges kept same also = record {
+-- what is kept fits as long as the keys stay, and histograms are of their kinds
+pub kept_same : (settings : ExporterSettings) (distributions : DistributionRules) (old new : Cells) (counters gauges histograms : RowsText) → IsKept settings distributions old counters gauges histograms
+    → keys_of new.counters ≡ keys_of old.counters → keys_of new.gauges ≡ keys_of old.gauges → keys_of new.histograms ≡ keys_of old.histograms → HaveKinds settings new.histograms
+    → IsKept settings distributions new counters gauges histograms
+kept_same settings distributions old new counters gauges histograms kept same also too sampled = record {
   counters = first_same settings.globals old.counters new.counters counters kept.counters same;
   gauges = first_same settings.globals old.gauges new.gauges gauges kept.gauges also;
+  histograms = first_same settings.globals old.histograms new.histograms histograms kept.histograms too;
   names = kept.names;
   kinds = kept.kinds;
+  sampled = sampled;
 }
 
 -- ---- groups of things that stand for others
@@ -158,16 +162,16 @@ module _ {X Y : Type 0} (name_of : Y → List ℕ) (g : X → Y) where
 
 module _ {X : Type 0} where
   -- a series with its place, as its key and as a member of a family
-  abbrev placed_key : ℕ × LiveSeries X → ℕ × KeyText
+  abbrev pub placed_key : ℕ × LiveSeries X → ℕ × KeyText
   placed_key p = (p.0, p.1.key)
 
   abbrev placed_member : ℕ × LiveSeries X → KeyText × X
   placed_member p = member_of p.1
 
-  abbrev placed_name : ℕ × LiveSeries X → List ℕ
+  abbrev pub placed_name : ℕ × LiveSeries X → List ℕ
   placed_name p = sanitized_metric_name p.1.key.name
 
-  keys-placed : (n : ℕ) (live : List (LiveSeries X)) → enumerate_from n (keys_of live) ≡ map placed_key (enumerate_from n live)
+  pub keys-placed : (n : ℕ) (live : List (LiveSeries X)) → enumerate_from n (keys_of live) ≡ map placed_key (enumerate_from n live)
   keys-placed n [] = refl
   keys-placed n (s ∷ live) = ap (λ l. (n, s.key) ∷ l) (keys-placed (n + 1) live)
 
@@ -179,7 +183,7 @@ module _ {X : Type 0} where
   first-placed [] = refl
   first-placed (m ∷ ms) = ap (λ l. m.0 ∷ l) (first-placed ms)
 
-  places-placed : (gs : List (List ℕ × List (ℕ × LiveSeries X))) → map places_of (map (stood name_at placed_key) gs) ≡ map places_of gs
+  pub places-placed : (gs : List (List ℕ × List (ℕ × LiveSeries X))) → map places_of (map (stood name_at placed_key) gs) ≡ map places_of gs
   places-placed [] = refl
   places-placed (g ∷ gs) = (λ j. (g.0, first-placed g.1 j) ∷ places-placed gs j)
 

@@ -1,18 +1,23 @@
--- The exporter's series by their indices: counters, then gauges.
-use Rattle.std.proofs.Common.{◌≡◌, true, false, ℕ, zero, suc, ◌+◌, ◌-◌, ◌<◌, ◌≤◌, List, [], ◌∷◌, ◌++◌, length, map, set, Option, Some, None, refl, sym, ap, subst, ◌∙◌, ◌⊎◌, inl, inr, ⊎_elim, arith}
+-- The exporter's series by their indices: counters, then gauges, then histograms.
+use Rattle.std.proofs.Common.{◌≡◌, true, false, ℕ, zero, suc, ◌+◌, ◌-◌, ◌<◌, ◌≤◌, List, [], ◌∷◌, ◌++◌, length, map, set, Option, Some, None, refl, sym, ap, subst, ◌∙◌, ◌⊎◌, inl, inr, ⊎_elim, arith, length-append}
 use Rattle.std.specs.Prelude.{option_map, slice_get, All}
 use Rattle.std.specs.List.{list_any}
-use Rattle.std.proofs.lemmas.Bool.{true≢false, or_parts}
+use Rattle.std.proofs.lemmas.Bool.{cases_lt, true≢false, or_parts}
 use Rattle.std.proofs.lemmas.List.Elements.{All-nil, All-cons}
 use Rattle.cell_lanes.specs.Lanes.{Roots, Home}
 use Rattle.std.proofs.lemmas.Option.{same_Some}
 use Rattle.std.proofs.lemmas.List.{length-map}
 use mathlib.Core.Option.{some, some-ne-none, some-injective}
 use lib.ListN.{get_elem?}
-use Rattle.atomic_table.proofs.Lists.{at_longer}
+use Rattle.atomic_table.proofs.Lists.{at_longer, at_map}
 use Rattle.legal_history.proofs.Steps.{one_at}
 use Rattle.legal_history.specs.declared.history.View.{View}
-use Rattle.cell_lanes.specs.Things.{Thing, TookBack, root_of}
+use Rattle.legal_history.specs.History.{Settled, lender, child, taker, longer}
+use Rattle.legal_history.specs.Mapped.{mapped_view}
+use Rattle.legal_history.proofs.Mapped.{settled-mapped}
+use Rattle.legal_history.proofs.Prefixes.{prefix_self}
+use Rattle.cell_lanes.specs.Things.{Thing, TookBack, Lease, root_of}
+use Rattle.cell_lanes.proofs.Mapped.{took_back-mapped}
 use Rattle.metrics_core.specs.declared.kinds.SeriesId.{SeriesId}
 use Rattle.metrics_registry.specs.Live.{LiveSeries, id_eq, has_id}
 use Rattle.metrics_registry.proofs.IdTests.{id_eq-same, id_eq-refl}
@@ -20,31 +25,35 @@ use Rattle.metrics_registry.specs.Places.{with_cell_at}
 use Rattle.metrics_core.specs.declared.calls.SeriesCall.{SeriesCall}
 use Rattle.series_cells.specs.declared.counter.PromCounter.{PromCounter}
 use Rattle.series_cells.specs.declared.gauge.PromGauge.{PromGauge}
+use Rattle.histogram_series.specs.Entries.{TimedCall, TimedQueue}
+use Rattle.histogram_series.specs.Series.{with_one_back}
+use Rattle.prom_exporter.specs.declared.lanes.LanePass.{LanePass}
+use Rattle.prom_exporter.specs.declared.lanes.LanePass.TheVariants as passes
 use Rattle.prom_exporter.specs.declared.lanes.SeriesCell.{SeriesCell}
 use Rattle.prom_exporter.specs.declared.lanes.SeriesCell.TheVariants as cells
-use Rattle.prom_exporter.specs.Shared.{Shared, IsHome, TakesBack, unused}
-use Rattle.prom_exporter.specs.Exporter.{Cells, Exporter, AllHome}
-use Rattle.prom_exporter.specs.LanePasses.{counter_thing, gauge_thing, things_of, ids_of, unseen, frame_of}
+use Rattle.prom_exporter.specs.declared.lanes.SeriesEntry.{SeriesEntry}
+use Rattle.prom_exporter.specs.declared.lanes.SeriesEntry.TheVariants as entry
+use Rattle.prom_exporter.specs.Shared.{Shared, Looks, TakesBack, unused, with_one_out}
+use Rattle.prom_exporter.specs.Sampled.{Sampled, with_pass_out}
+use Rattle.prom_exporter.specs.Exporter.{Exporter, AllHome}
+use Rattle.prom_exporter.proofs.Home.{looks-home}
+use Rattle.prom_exporter.specs.LanePasses.{IsPassOf, of_counter, of_gauge, of_histogram, counter_thing, gauge_thing, histogram_thing, things_of, ids_of, pass_known, unseen, unheard, unheard_series, frame_of}
 
--- ---- two lists, one behind the other
+-- ---- lists, one behind the other
 
 module _ {A : Type 0} where
-  at_back : (xs ys : List A) (i : ℕ) (a : A) → length xs ≤ i → get_elem? ys (i - length xs) ≡ some a → get_elem? (xs ++ ys) i ≡ some a
-  at_back [] ys i a h e = subst (λ n. get_elem? ys n ≡ some a) (omega arith) e
-  at_back (x ∷ xs) ys zero a h e = absurd (omega (arith, h))
-  at_back (x ∷ xs) ys (suc i) a h e = at_back xs ys i a (omega (arith, h)) (subst (λ n. get_elem? ys n ≡ some a) (omega arith) e)
-
   set_front : (xs ys : List A) (i : ℕ) (a : A) → i < length xs → set (xs ++ ys) i a ≡ set xs i a ++ ys
   set_front [] ys i a h = absurd (omega (arith, h))
   set_front (x ∷ xs) ys zero a h = refl
   set_front (x ∷ xs) ys (suc i) a h = ap (λ l. x ∷ l) (set_front xs ys i a (omega (arith, h)))
 
-  set_back : (xs ys : List A) (i : ℕ) (a : A) → length xs ≤ i → set (xs ++ ys) i a ≡ xs ++ set ys (i - length xs) a
-  set_back [] ys i a h = ap (λ n. set ys n a) (omega arith)
-  set_back (x ∷ xs) ys zero a h = absurd (omega (arith, h))
-  set_back (x ∷ xs) ys (suc i) a h = ap (λ l. x ∷ l) (set_back xs ys i a (omega (arith, h)) ∙ ap (λ n. xs ++ set ys n a) (omega arith))
+  set_behind : (xs ys : List A) (k : ℕ) (a : A) → set (xs ++ ys) (length xs + k) a ≡ xs ++ set ys k a
+  set_behind [] ys k a = ap (λ n. set ys n a) (omega arith)
+  set_behind (x ∷ xs) ys k a =
+      let more : length (x ∷ xs) + k ≡ suc (length xs + k) = omega arith in
+      ap (λ n. set (x ∷ (xs ++ ys)) n a) more ∙ ap (λ l. x ∷ l) (set_behind xs ys k a)
 
-  at_behind : (xs ys : List A) (k : ℕ) (a : A) → get_elem? ys k ≡ some a → get_elem? (xs ++ ys) (length xs + k) ≡ some a
+  pub at_behind : (xs ys : List A) (k : ℕ) (a : A) → get_elem? ys k ≡ some a → get_elem? (xs ++ ys) (length xs + k) ≡ some a
   at_behind [] ys k a e = subst (λ n. get_elem? ys n ≡ some a) (omega arith) e
   at_behind (x ∷ xs) ys k a e = let more : suc (length xs + k) ≡ length (x ∷ xs) + k = omega arith in subst (λ n. get_elem? (x ∷ (xs ++ ys)) n ≡ some a) more (at_behind xs ys k a e)
 
@@ -53,121 +62,380 @@ module _ {A : Type 0} where
   front_or_back (x ∷ xs) ys zero a e = inl e
   front_or_back (x ∷ xs) ys (suc j) a e = front_or_back xs ys j a e
 
-  some_at : (xs : List A) (i : ℕ) → i < length xs → (a : A) × (get_elem? xs i ≡ some a)
-  some_at [] i h = absurd (omega (arith, h))
-  some_at (x ∷ xs) zero h = (x, refl)
-  some_at (x ∷ xs) (suc i) h = some_at xs i (omega (arith, h))
-
   -- what is got at an index stands there
   pub at_got : (xs : List A) (i : ℕ) (a : A) → slice_get xs i ≡ Some a → get_elem? xs i ≡ some a
   at_got [] i a e = absurd cc
   at_got (x ∷ xs) zero a e = ap some (same_Some x a e)
   at_got (x ∷ xs) (suc i) a e = at_got xs i a e
 
+  -- what is got of the first of two lists, and of the second
+  pub got_front : (xs ys : List A) (i : ℕ) → i < length xs → slice_get (xs ++ ys) i ≡ slice_get xs i
+  got_front [] ys i h = absurd (omega (arith, h))
+  got_front (x ∷ xs) ys zero h = refl
+  got_front (x ∷ xs) ys (suc i) h = got_front xs ys i (omega (arith, h))
+
+  pub got_behind : (xs ys : List A) (k : ℕ) → slice_get (xs ++ ys) (length xs + k) ≡ slice_get ys k
+  got_behind [] ys k = ap (slice_get ys) (omega arith)
+  got_behind (x ∷ xs) ys k =
+      let more : length (x ∷ xs) + k ≡ suc (length xs + k) = omega arith in
+      ap (slice_get (x ∷ (xs ++ ys))) more ∙ got_behind xs ys k
+
+-- what is got of a list of images
+got_map : {A B : Type 0} (f : A → B) (xs : List A) (i : ℕ) → slice_get (map f xs) i ≡ option_map f (slice_get xs i)
+got_map f [] i = refl
+got_map f (x ∷ xs) zero = refl
+got_map f (x ∷ xs) (suc i) = got_map f xs i
+
 -- ---- the series of one kind
 
-module _ {F : Type 0} (kind : F → SeriesCell) where
-  abbrev of_cell : Shared F → Thing SeriesCall SeriesCell
-  of_cell cell = record { root = cell.root; fixed = kind cell.cell }
+module _ {X : Type 0} where
+  abbrev pub Got : List (LiveSeries X) → ℕ → X → Type 0
+  Got es i cell = option_map (λ (s : LiveSeries X). s.cell) (slice_get es i) ≡ Some cell
 
-  abbrev thing : LiveSeries (Shared F) → Thing SeriesCall SeriesCell
-  thing series = of_cell series.cell
+  found : (es : List (LiveSeries X)) (i : ℕ) → i < length es → (cell : X) × Got es i cell
+  found [] i h = absurd (omega (arith, h))
+  found (x ∷ es) zero h = (x.cell, refl)
+  found (x ∷ es) (suc i) h = found es i (omega (arith, h))
 
-  here : (es : List (LiveSeries (Shared F))) (i : ℕ) (cell : Shared F) → option_map (λ (s : LiveSeries (Shared F)). s.cell) (slice_get es i) ≡ Some cell → get_elem? (map thing es) i ≡ some (of_cell cell)
-  here [] i cell e = absurd cc
-  here (x ∷ es) zero cell e = ap (λ c. some (of_cell c)) (same_Some x.cell cell e)
-  here (x ∷ es) (suc i) cell e = here es i cell e
+  module _ {T : Type 0} (of : X → T) where
+    abbrev thing : LiveSeries X → T
+    thing series = of series.cell
 
-  put : (es : List (LiveSeries (Shared F))) (i : ℕ) (cell : Shared F) → map thing (with_cell_at es i cell) ≡ set (map thing es) i (of_cell cell)
-  put [] i cell = refl
-  put (x ∷ es) zero cell = refl
-  put (x ∷ es) (suc i) cell = ap (λ l. thing x ∷ l) (put es i cell)
+    here : (es : List (LiveSeries X)) (i : ℕ) (cell : X) → Got es i cell → get_elem? (map thing es) i ≡ some (of cell)
+    here [] i cell e = absurd cc
+    here (x ∷ es) zero cell e = ap (λ c. some (of c)) (same_Some x.cell cell e)
+    here (x ∷ es) (suc i) cell e = here es i cell e
 
-  same : (es : List (LiveSeries (Shared F))) (i : ℕ) (cell : Shared F) → option_map (λ (s : LiveSeries (Shared F)). s.cell) (slice_get es i) ≡ Some cell → with_cell_at es i cell ≡ es
+    put : (es : List (LiveSeries X)) (i : ℕ) (cell : X) → map thing (with_cell_at es i cell) ≡ set (map thing es) i (of cell)
+    put [] i cell = refl
+    put (x ∷ es) zero cell = refl
+    put (x ∷ es) (suc i) cell = ap (λ l. thing x ∷ l) (put es i cell)
+
+  same : (es : List (LiveSeries X)) (i : ℕ) (cell : X) → Got es i cell → with_cell_at es i cell ≡ es
   same [] i cell e = refl
   same (x ∷ es) zero cell e = (λ j. record x { cell = sym (same_Some x.cell cell e) j } ∷ es)
   same (x ∷ es) (suc i) cell e = ap (λ l. x ∷ l) (same es i cell e)
 
--- ---- the series of an exporter
+  -- each cell as far as a round leaves it
+  module _ (f : X → X) where
+    abbrev but : LiveSeries X → LiveSeries X
+    but series = record series { cell = f series.cell }
 
-abbrev pub things_in : Cells → List (Thing SeriesCall SeriesCell)
-things_in series = map counter_thing series.counters ++ map gauge_thing series.gauges
+    but_put : (es : List (LiveSeries X)) (i : ℕ) (cell new : X) → Got es i cell → f new ≡ f cell → map but (with_cell_at es i new) ≡ map but es
+    but_put [] i cell new e left = refl
+    but_put (x ∷ es) zero cell new e left = (λ j. record x { cell = (left ∙ ap f (sym (same_Some x.cell cell e))) j } ∷ map but es)
+    but_put (x ∷ es) (suc i) cell new e left = ap (λ l. but x ∷ l) (but_put es i cell new e left)
 
-abbrev pub of_counter : Shared PromCounter → Thing SeriesCall SeriesCell
-of_counter = of_cell cells.Counter
+  -- each at home
+  module _ {C : Type 0} (of : X → Thing C SeriesCell) where
+    each_home : (es : List (LiveSeries X)) → ((j : ℕ) (cell : X) → Got es j cell → ((of cell).root.number ≡ 0) × ((of cell).root.out ≡ 0)) → All (λ (s : LiveSeries X). ((of s.cell).root.number ≡ 0) × ((of s.cell).root.out ≡ 0)) es
+    each_home [] home = All-nil _
+    each_home (x ∷ es) home = All-cons (λ (s : LiveSeries X). ((of s.cell).root.number ≡ 0) × ((of s.cell).root.out ≡ 0)) x es (home 0 x.cell refl) (each_home es (λ j cell got. home (suc j) cell got))
 
-abbrev pub of_gauge : Shared PromGauge → Thing SeriesCall SeriesCell
-of_gauge = of_cell cells.Gauge
-
-pub counter_here : (series : Cells) (i : ℕ) (cell : Shared PromCounter) → option_map (λ (s : LiveSeries (Shared PromCounter)). s.cell) (slice_get series.counters i) ≡ Some cell → get_elem? (things_in series) i ≡ some (of_counter cell)
-counter_here series i cell e = at_longer (map counter_thing series.counters) (map gauge_thing series.gauges) i (of_counter cell) (here cells.Counter series.counters i cell e)
-
-pub counter_put : (series : Cells) (i : ℕ) (cell : Shared PromCounter) → i < length series.counters → things_in (record series { counters = with_cell_at series.counters i cell }) ≡ set (things_in series) i (of_counter cell)
-counter_put series i cell h =
-    ap (λ l. l ++ map gauge_thing series.gauges) (put cells.Counter series.counters i cell)
-    ∙ sym (set_front (map counter_thing series.counters) (map gauge_thing series.gauges) i (of_counter cell) (subst (λ n. i < n) (sym (length-map series.counters counter_thing)) h))
-
-pub counter_same : (series : Cells) (i : ℕ) (cell : Shared PromCounter) → option_map (λ (s : LiveSeries (Shared PromCounter)). s.cell) (slice_get series.counters i) ≡ Some cell → things_in (record series { counters = with_cell_at series.counters i cell }) ≡ things_in series
-counter_same series i cell e = ap (λ l. map counter_thing l ++ map gauge_thing series.gauges) (same cells.Counter series.counters i cell e)
-
-pub gauge_here : (series : Cells) (i : ℕ) (cell : Shared PromGauge) → length series.counters ≤ i → option_map (λ (s : LiveSeries (Shared PromGauge)). s.cell) (slice_get series.gauges (i - length series.counters)) ≡ Some cell → get_elem? (things_in series) i ≡ some (of_gauge cell)
-gauge_here series i cell h e =
-    let n = length-map series.counters counter_thing in
-    at_back (map counter_thing series.counters) (map gauge_thing series.gauges) i (of_gauge cell) (omega (arith, n, h))
-    (subst (λ m. get_elem? (map gauge_thing series.gauges) (i - m) ≡ some (of_gauge cell)) (sym n) (here cells.Gauge series.gauges (i - length series.counters) cell e))
-
-pub gauge_put : (series : Cells) (i : ℕ) (cell : Shared PromGauge) → length series.counters ≤ i → things_in (record series { gauges = with_cell_at series.gauges (i - length series.counters) cell }) ≡ set (things_in series) i (of_gauge cell)
-gauge_put series i cell h =
-    let n = length-map series.counters counter_thing in
-    ap (λ l. map counter_thing series.counters ++ l) (put cells.Gauge series.gauges (i - length series.counters) cell ∙ ap (λ m. set (map gauge_thing series.gauges) (i - m) (of_gauge cell)) (sym n))
-    ∙ sym (set_back (map counter_thing series.counters) (map gauge_thing series.gauges) i (of_gauge cell) (omega (arith, n, h)))
-
-pub gauge_same : (series : Cells) (i : ℕ) (cell : Shared PromGauge) → option_map (λ (s : LiveSeries (Shared PromGauge)). s.cell) (slice_get series.gauges i) ≡ Some cell → things_in (record series { gauges = with_cell_at series.gauges i cell }) ≡ things_in series
-gauge_same series i cell e = ap (λ l. map counter_thing series.counters ++ map gauge_thing l) (same cells.Gauge series.gauges i cell e)
-
--- each index has its thing
-pub is_one : (series : Cells) (i : ℕ) (s t : Thing SeriesCall SeriesCell) → get_elem? (things_in series) i ≡ some s → get_elem? (things_in series) i ≡ some t → s ≡ t
-is_one series i s t e f = one_at (things_in series) i s t e f
-
--- a counter stands where an index is below the number of counters, and a gauge elsewhere
-pub counter_found : (series : Cells) (i : ℕ) → i < length series.counters → (cell : Shared PromCounter) × (get_elem? (things_in series) i ≡ some (of_counter cell))
-counter_found series i h =
-    let found = some_at series.counters i h in
-    (found.0.cell, at_longer (map counter_thing series.counters) (map gauge_thing series.gauges) i (of_counter found.0.cell) (Rattle.atomic_table.proofs.Lists.at_map counter_thing series.counters i found.0 found.1))
-
-pub gauge_found : (series : Cells) (i : ℕ) → length series.counters ≤ i → i < length (things_in series) → (cell : Shared PromGauge) × (get_elem? (things_in series) i ≡ some (of_gauge cell))
-gauge_found series i h below =
-    let n = length-map series.counters counter_thing in
-    let m = length-map series.gauges gauge_thing in
-    let found = some_at series.gauges (i - length series.counters) (omega (arith, h, below, n, m, Rattle.std.proofs.Common.length-append (map counter_thing series.counters) (map gauge_thing series.gauges))) in (
-      found.0.cell,
-      at_back (map counter_thing series.counters) (map gauge_thing series.gauges) i (of_gauge found.0.cell) (omega (arith, n, h))
-          (subst (λ k. get_elem? (map gauge_thing series.gauges) (i - k) ≡ some (of_gauge found.0.cell)) (sym n) (Rattle.atomic_table.proofs.Lists.at_map gauge_thing series.gauges (i - length series.counters) found.0 found.1)),
-    )
-
--- ---- giving back
-
-pub took_back : {F : Type 0} (s t : Shared F) (known : View SeriesCall) → TakesBack known s t → TookBack s.root known t.root × (t.cell ≡ s.cell) × (t.note ≡ s.note)
+took_back : {F : Type 0} (s t : Shared F) (known : View SeriesCall) → TakesBack known s t → TookBack s.root known t.root × (t.cell ≡ s.cell) × (t.note ≡ s.note)
 took_back s t known takes = (
   subst (λ (x : Shared _). TookBack s.root known x.root) (sym takes.2) (record { number = refl; mine = refl; joined = refl; seen = takes.1.begins; out = refl }),
   ap (λ (x : Shared _). x.cell) takes.2,
   ap (λ (x : Shared _). x.note) takes.2,
 )
 
--- ---- all at home
+-- ---- the series of an exporter
 
-module _ {F : Type 0} (kind : F → SeriesCell) where
-  list_home : (es : List (LiveSeries (Shared F))) → ((j : ℕ) (t : Thing SeriesCall SeriesCell) → get_elem? (map (thing kind) es) j ≡ some t → t.root.number ≡ 0) → ((j : ℕ) (t : Thing SeriesCall SeriesCell) → get_elem? (map (thing kind) es) j ≡ some t → t.root.out ≡ 0) → All (λ (s : LiveSeries (Shared F)). IsHome s.cell) es
-  list_home [] roots home = All-nil _
-  list_home (e ∷ es) roots home =
-      All-cons (λ (s : LiveSeries (Shared F)). IsHome s.cell) e es (roots 0 (thing kind e) refl, home 0 (thing kind e) refl)
-      (list_home es (λ j t a. roots (suc j) t a) (λ j t a. home (suc j) t a))
+abbrev pub SeriesThing : Type 0
+SeriesThing = Thing SeriesEntry SeriesCell
 
-pub all_home : (exporter : Exporter) → Roots root_of (things_of exporter) → Home root_of (things_of exporter) → AllHome exporter
-all_home exporter roots home = (
-  list_home cells.Counter exporter.series.counters (λ j t e. roots j t (at_longer (map counter_thing exporter.series.counters) _ j t e)) (λ j t e. home j t (at_longer (map counter_thing exporter.series.counters) _ j t e)),
-  list_home cells.Gauge exporter.series.gauges (λ j t e. roots _ t (at_behind (map counter_thing exporter.series.counters) _ j t e)) (λ j t e. home _ t (at_behind (map counter_thing exporter.series.counters) _ j t e)),
-)
+-- the exporter with another cell at a place
+abbrev pub with_counter_at : Exporter → ℕ → Shared PromCounter → Exporter
+with_counter_at e place cell = record e { series = record e.series { counters = with_cell_at e.series.counters place cell } }
+
+abbrev pub with_gauge_at : Exporter → ℕ → Shared PromGauge → Exporter
+with_gauge_at e place cell = record e { series = record e.series { gauges = with_cell_at e.series.gauges place cell } }
+
+abbrev pub with_histogram_at : Exporter → ℕ → Sampled → Exporter
+with_histogram_at e place cell = record e { series = record e.series { histograms = with_cell_at e.series.histograms place cell } }
+
+module _ (e : Exporter) where
+  abbrev counters : List SeriesThing
+  counters = map counter_thing e.series.counters
+
+  abbrev gauges : List SeriesThing
+  gauges = map gauge_thing e.series.gauges
+
+  abbrev histograms : List SeriesThing
+  histograms = map histogram_thing e.series.histograms
+
+  many_counters : length counters ≡ length e.series.counters
+  many_counters = length-map e.series.counters counter_thing
+
+  many_gauges : length gauges ≡ length e.series.gauges
+  many_gauges = length-map e.series.gauges gauge_thing
+
+  many_histograms : length histograms ≡ length e.series.histograms
+  many_histograms = length-map e.series.histograms histogram_thing
+
+  pub many_things : length (things_of e) ≡ length e.series.counters + (length e.series.gauges + length e.series.histograms)
+  many_things =
+      length-append counters (gauges ++ histograms)
+      ∙ (λ i. many_counters i + (length-append gauges histograms ∙ (λ j. many_gauges j + many_histograms j)) i)
+
+  -- ---- what has an index
+
+  pub counter_here : (i place : ℕ) (cell : Shared PromCounter) → i ≡ place → Got e.series.counters place cell → get_elem? (things_of e) i ≡ some (of_counter cell)
+  counter_here i place cell at got =
+      subst (λ n. get_elem? (things_of e) n ≡ some (of_counter cell)) (sym at) (at_longer counters (gauges ++ histograms) place (of_counter cell) (here of_counter e.series.counters place cell got))
+
+  pub gauge_here : (i place : ℕ) (cell : Shared PromGauge) → i ≡ length e.series.counters + place → Got e.series.gauges place cell → get_elem? (things_of e) i ≡ some (of_gauge cell)
+  gauge_here i place cell at got =
+      subst (λ n. get_elem? (things_of e) n ≡ some (of_gauge cell)) (ap (λ n. n + place) many_counters ∙ sym at)
+      (at_behind counters (gauges ++ histograms) place (of_gauge cell) (at_longer gauges histograms place (of_gauge cell) (here of_gauge e.series.gauges place cell got)))
+
+  pub histogram_here : (i place : ℕ) (cell : Sampled) → i ≡ length e.series.counters + (length e.series.gauges + place) → Got e.series.histograms place cell → get_elem? (things_of e) i ≡ some (of_histogram cell)
+  histogram_here i place cell at got =
+      subst (λ n. get_elem? (things_of e) n ≡ some (of_histogram cell)) ((λ j. many_counters j + (many_gauges j + place)) ∙ sym at)
+      (at_behind counters (gauges ++ histograms) (length gauges + place) (of_histogram cell)
+      (at_behind gauges histograms place (of_histogram cell) (here of_histogram e.series.histograms place cell got)))
+
+  -- what holds of what has an index holds of whatever has it
+  pub of_each : (P : SeriesThing → Type 0) (i : ℕ) (s t : SeriesThing) → get_elem? (things_of e) i ≡ some s → P s → get_elem? (things_of e) i ≡ some t → P t
+  of_each P i s t at holds also = subst P (one_at (things_of e) i s t at also) holds
+
+  -- ---- where an index is
+
+  abbrev pub CounterAt : ℕ → Type 0
+  CounterAt i = i < length e.series.counters
+
+  abbrev pub GaugeAt : ℕ → Type 0
+  GaugeAt i = (length e.series.counters ≤ i) × (i - length e.series.counters < length e.series.gauges)
+
+  abbrev pub HistogramAt : ℕ → Type 0
+  HistogramAt i = (length e.series.counters + length e.series.gauges ≤ i) × (i - (length e.series.counters + length e.series.gauges) < length e.series.histograms)
+
+  where_at : (i : ℕ) → i < length (things_of e) → CounterAt i ⊎ (GaugeAt i ⊎ HistogramAt i)
+  where_at i below = ⊎_elim
+      (λ (front : i < length e.series.counters). inl front)
+      (λ (past : length e.series.counters ≤ i). inr (⊎_elim
+      (λ (middle : i < length e.series.counters + length e.series.gauges). inl (past, omega (arith, past, middle)))
+      (λ (back : length e.series.counters + length e.series.gauges ≤ i). inr (back, omega (arith, back, below, many_things)))
+      (cases_lt i (length e.series.counters + length e.series.gauges))))
+      (cases_lt i (length e.series.counters))
+
+  abbrev pub IsPassHere : LanePass → ℕ → Type 0
+  IsPassHere lent i = (t : SeriesThing) → get_elem? (things_of e) i ≡ some t → IsPassOf t.fixed lent
+
+  -- where a pass of a kind is one of what has an index, a series of the kind has it
+  pub counter_place : (i : ℕ) (lent : Lease SeriesCall PromCounter) → i < length (things_of e) → IsPassHere (passes.Counter lent) i → CounterAt i
+  counter_place i lent below owned = ⊎_elim (λ (c : CounterAt i). c)
+      (⊎_elim
+      (λ (g : GaugeAt i). let cell = found e.series.gauges (i - length e.series.counters) g.1 in absurd (owned (of_gauge cell.0) (gauge_here i (i - length e.series.counters) cell.0 (let least = g.0 in omega (arith, least)) cell.1)))
+      (λ (h : HistogramAt i).
+      let place = i - (length e.series.counters + length e.series.gauges) in
+      let cell = found e.series.histograms place h.1 in
+      absurd (owned (of_histogram cell.0) (histogram_here i place cell.0 (let least = h.0 in omega (arith, least)) cell.1))))
+      (where_at i below)
+
+  pub gauge_place : (i : ℕ) (lent : Lease SeriesCall PromGauge) → i < length (things_of e) → IsPassHere (passes.Gauge lent) i → GaugeAt i
+  gauge_place i lent below owned = ⊎_elim (λ (c : CounterAt i). let cell = found e.series.counters i c in absurd (owned (of_counter cell.0) (counter_here i i cell.0 refl cell.1)))
+      (⊎_elim
+      (λ (g : GaugeAt i). g)
+      (λ (h : HistogramAt i).
+      let place = i - (length e.series.counters + length e.series.gauges) in
+      let cell = found e.series.histograms place h.1 in
+      absurd (owned (of_histogram cell.0) (histogram_here i place cell.0 (let least = h.0 in omega (arith, least)) cell.1))))
+      (where_at i below)
+
+  pub histogram_place : (i : ℕ) (lent : Lease TimedCall TimedQueue) → i < length (things_of e) → IsPassHere (passes.Histogram lent) i → HistogramAt i
+  histogram_place i lent below owned = ⊎_elim (λ (c : CounterAt i). let cell = found e.series.counters i c in absurd (owned (of_counter cell.0) (counter_here i i cell.0 refl cell.1)))
+      (⊎_elim
+      (λ (g : GaugeAt i). let cell = found e.series.gauges (i - length e.series.counters) g.1 in absurd (owned (of_gauge cell.0) (gauge_here i (i - length e.series.counters) cell.0 (let least = g.0 in omega (arith, least)) cell.1)))
+      (λ (h : HistogramAt i). h))
+      (where_at i below)
+
+  -- its place, by the counts of series
+  pub gauge_counted : (i n : ℕ) → n ≡ length e.series.counters → GaugeAt i → (n ≤ i) × (i ≡ length e.series.counters + (i - n)) × (i - n < length e.series.gauges)
+  gauge_counted i n is at =
+      let least = at.0 in
+      let below = at.1 in
+      (omega (arith, is, least), omega (arith, is, least), subst (λ m. i - m < length e.series.gauges) (sym is) below)
+
+  pub histogram_counted : (i n m : ℕ) → n ≡ length e.series.counters → m ≡ length e.series.gauges → HistogramAt i
+      → (n + m ≤ i) × (i ≡ length e.series.counters + (length e.series.gauges + (i - (n + m)))) × (i - (n + m) < length e.series.histograms)
+  histogram_counted i n m is also at =
+      let least = at.0 in
+      let below = at.1 in
+      let both : n + m ≡ length e.series.counters + length e.series.gauges = omega (arith, is, also) in
+      (omega (arith, is, also, least), omega (arith, is, also, least), subst (λ k. i - k < length e.series.histograms) (sym both) below)
+
+  -- ---- another cell at an index
+
+  counter_put : (i place : ℕ) (cell : Shared PromCounter) → i ≡ place → place < length e.series.counters → things_of (with_counter_at e place cell) ≡ set (things_of e) i (of_counter cell)
+  counter_put i place cell at below =
+      ap (λ l. l ++ (gauges ++ histograms)) (put of_counter e.series.counters place cell)
+      ∙ sym (set_front counters (gauges ++ histograms) place (of_counter cell) (subst (λ n. place < n) (sym many_counters) below))
+      ∙ ap (λ n. set (things_of e) n (of_counter cell)) (sym at)
+
+  gauge_put : (i place : ℕ) (cell : Shared PromGauge) → i ≡ length e.series.counters + place → place < length e.series.gauges → things_of (with_gauge_at e place cell) ≡ set (things_of e) i (of_gauge cell)
+  gauge_put i place cell at below =
+      ap (λ l. counters ++ (l ++ histograms)) (put of_gauge e.series.gauges place cell)
+      ∙ ap (λ l. counters ++ l) (sym (set_front gauges histograms place (of_gauge cell) (subst (λ n. place < n) (sym many_gauges) below)))
+      ∙ sym (set_behind counters (gauges ++ histograms) place (of_gauge cell))
+      ∙ ap (λ n. set (things_of e) n (of_gauge cell)) (ap (λ n. n + place) many_counters ∙ sym at)
+
+  histogram_put : (i place : ℕ) (cell : Sampled) → i ≡ length e.series.counters + (length e.series.gauges + place) → things_of (with_histogram_at e place cell) ≡ set (things_of e) i (of_histogram cell)
+  histogram_put i place cell at =
+      ap (λ l. counters ++ (gauges ++ l)) (put of_histogram e.series.histograms place cell)
+      ∙ ap (λ l. counters ++ l) (sym (set_behind gauges histograms place (of_histogram cell)))
+      ∙ sym (set_behind counters (gauges ++ histograms) (length gauges + place) (of_histogram cell))
+      ∙ ap (λ n. set (things_of e) n (of_histogram cell)) ((λ j. many_counters j + (many_gauges j + place)) ∙ sym at)
+
+  -- the same cell
+  pub counter_kept : (place : ℕ) (cell new : Shared PromCounter) → Got e.series.counters place cell → new ≡ cell → with_counter_at e place new ≡ e
+  counter_kept place cell new got is = ap (with_counter_at e place) is ∙ ap (λ l. record e { series = record e.series { counters = l } }) (same e.series.counters place cell got)
+
+  pub gauge_kept : (place : ℕ) (cell new : Shared PromGauge) → Got e.series.gauges place cell → new ≡ cell → with_gauge_at e place new ≡ e
+  gauge_kept place cell new got is = ap (with_gauge_at e place) is ∙ ap (λ l. record e { series = record e.series { gauges = l } }) (same e.series.gauges place cell got)
+
+  pub histogram_kept : (place : ℕ) (cell new : Sampled) → Got e.series.histograms place cell → new ≡ cell → with_histogram_at e place new ≡ e
+  histogram_kept place cell new got is = ap (with_histogram_at e place) is ∙ ap (λ l. record e { series = record e.series { histograms = l } }) (same e.series.histograms place cell got)
+
+  -- ---- what lanes leave as it is
+
+  abbrev but_known : {F : Type 0} → Shared F → Shared F
+  but_known s = record (unused s.cell) { note = s.note }
+
+  counter_frame : (place : ℕ) (cell new : Shared PromCounter) → Got e.series.counters place cell → but_known new ≡ but_known cell → frame_of (with_counter_at e place new) ≡ frame_of e
+  counter_frame place cell new got left = ap (λ l. record (frame_of e) { series = record (frame_of e).series { counters = l } }) (but_put but_known e.series.counters place cell new got left)
+
+  gauge_frame : (place : ℕ) (cell new : Shared PromGauge) → Got e.series.gauges place cell → but_known new ≡ but_known cell → frame_of (with_gauge_at e place new) ≡ frame_of e
+  gauge_frame place cell new got left = ap (λ l. record (frame_of e) { series = record (frame_of e).series { gauges = l } }) (but_put but_known e.series.gauges place cell new got left)
+
+  histogram_frame : (place : ℕ) (cell new : Sampled) → Got e.series.histograms place cell → unheard new ≡ unheard cell → frame_of (with_histogram_at e place new) ≡ frame_of e
+  histogram_frame place cell new got left = ap (λ l. record (frame_of e) { series = record (frame_of e).series { histograms = l } }) (but_put unheard e.series.histograms place cell new got left)
+
+  -- ---- lending
+
+  -- a pass was lent of what has an index, and one more is out
+  abbrev pub LendsAt : ℕ → LanePass → Exporter → Type 0
+  LendsAt i lent new =
+      ((t : SeriesThing) → get_elem? (things_of e) i ≡ some t → IsPassOf t.fixed lent × (pass_known lent ≡ child t.root))
+      × ((t : SeriesThing) → get_elem? (things_of e) i ≡ some t → things_of new ≡ set (things_of e) i (record t { root = lender t.root }))
+      × (frame_of new ≡ frame_of e)
+
+  lends_at : (i : ℕ) (lent : LanePass) (new : Exporter) (s : SeriesThing) → get_elem? (things_of e) i ≡ some s → IsPassOf s.fixed lent → pass_known lent ≡ child s.root
+      → things_of new ≡ set (things_of e) i (record s { root = lender s.root }) → frame_of new ≡ frame_of e → LendsAt i lent new
+  lends_at i lent new s at owned knows puts frame = (
+    (λ t also. of_each (λ u. IsPassOf u.fixed lent × (pass_known lent ≡ child u.root)) i s t at (owned, knows) also),
+    (λ t also. of_each (λ u. things_of new ≡ set (things_of e) i (record u { root = lender u.root })) i s t at puts also),
+    frame,
+  )
+
+  pub counter_lends : (i place : ℕ) (cell new : Shared PromCounter) (lent : Lease SeriesCall PromCounter) → (i ≡ place) × (place < length e.series.counters) → Got e.series.counters place cell
+      → (lent.cell ≡ cell.cell) × (lent.knows ≡ child cell.root) → new ≡ with_one_out cell → LendsAt i (passes.Counter lent) (with_counter_at e place new)
+  counter_lends i place cell new lent at got lends out = lends_at i (passes.Counter lent) (with_counter_at e place new) (of_counter cell) (counter_here i place cell at.0 got)
+      lends.0 (ap (mapped_view entry.Value) lends.1)
+      (ap (λ x. things_of (with_counter_at e place x)) out ∙ counter_put i place (with_one_out cell) at.0 at.1)
+      (counter_frame place cell new got (ap but_known out))
+
+  pub gauge_lends : (i place : ℕ) (cell new : Shared PromGauge) (lent : Lease SeriesCall PromGauge) → (i ≡ length e.series.counters + place) × (place < length e.series.gauges) → Got e.series.gauges place cell
+      → (lent.cell ≡ cell.cell) × (lent.knows ≡ child cell.root) → new ≡ with_one_out cell → LendsAt i (passes.Gauge lent) (with_gauge_at e place new)
+  gauge_lends i place cell new lent at got lends out = lends_at i (passes.Gauge lent) (with_gauge_at e place new) (of_gauge cell) (gauge_here i place cell at.0 got)
+      lends.0 (ap (mapped_view entry.Value) lends.1)
+      (ap (λ x. things_of (with_gauge_at e place x)) out ∙ gauge_put i place (with_one_out cell) at.0 at.1)
+      (gauge_frame place cell new got (ap but_known out))
+
+  pub histogram_lends : (i place : ℕ) (cell new : Sampled) (lent : Lease TimedCall TimedQueue) → i ≡ length e.series.counters + (length e.series.gauges + place) → Got e.series.histograms place cell
+      → (lent.cell ≡ cell.series.cell) × (lent.knows ≡ child cell.series.root) → new ≡ with_pass_out cell → LendsAt i (passes.Histogram lent) (with_histogram_at e place new)
+  histogram_lends i place cell new lent at got lends out = lends_at i (passes.Histogram lent) (with_histogram_at e place new) (of_histogram cell) (histogram_here i place cell at got)
+      lends.0 (ap (mapped_view entry.Queue) lends.1)
+      (ap (λ x. things_of (with_histogram_at e place x)) out ∙ histogram_put i place (with_pass_out cell) at)
+      (histogram_frame place cell new got (ap unheard out))
+
+  -- ---- taking back
+
+  -- a pass was taken back of what has an index
+  abbrev pub TakesAt : ℕ → LanePass → Exporter → Type 0
+  TakesAt i lent new =
+      ((t : SeriesThing) → get_elem? (things_of e) i ≡ some t → (u : SeriesThing) × TookBack t.root (pass_known lent) u.root × (u.fixed ≡ t.fixed) × (things_of new ≡ set (things_of e) i u))
+      × (frame_of new ≡ frame_of e)
+
+  takes_at : (i : ℕ) (lent : LanePass) (new : Exporter) (s u : SeriesThing) → get_elem? (things_of e) i ≡ some s → TookBack s.root (pass_known lent) u.root → u.fixed ≡ s.fixed
+      → things_of new ≡ set (things_of e) i u → frame_of new ≡ frame_of e → TakesAt i lent new
+  takes_at i lent new s u at took fixed puts frame = (
+    (λ t also. of_each (λ x. (y : SeriesThing) × TookBack x.root (pass_known lent) y.root × (y.fixed ≡ x.fixed) × (things_of new ≡ set (things_of e) i y)) i s t at (u, took, fixed, puts) also),
+    frame,
+  )
+
+  pub counter_takes_back : (i place : ℕ) (cell new : Shared PromCounter) (lent : Lease SeriesCall PromCounter) → (i ≡ place) × (place < length e.series.counters) → Got e.series.counters place cell
+      → TakesBack lent.knows cell new → TakesAt i (passes.Counter lent) (with_counter_at e place new)
+  counter_takes_back i place cell new lent at got takes =
+      let took = took_back cell new lent.knows takes in
+      takes_at i (passes.Counter lent) (with_counter_at e place new) (of_counter cell) (of_counter new) (counter_here i place cell at.0 got)
+      (took_back-mapped entry.Value cell.root lent.knows new.root took.0) (ap cells.Counter took.1)
+      (counter_put i place new at.0 at.1)
+      (counter_frame place cell new got (λ j. record (unused (took.1 j)) { note = took.2 j }))
+
+  pub gauge_takes_back : (i place : ℕ) (cell new : Shared PromGauge) (lent : Lease SeriesCall PromGauge) → (i ≡ length e.series.counters + place) × (place < length e.series.gauges) → Got e.series.gauges place cell
+      → TakesBack lent.knows cell new → TakesAt i (passes.Gauge lent) (with_gauge_at e place new)
+  gauge_takes_back i place cell new lent at got takes =
+      let took = took_back cell new lent.knows takes in
+      takes_at i (passes.Gauge lent) (with_gauge_at e place new) (of_gauge cell) (of_gauge new) (gauge_here i place cell at.0 got)
+      (took_back-mapped entry.Value cell.root lent.knows new.root took.0) (ap cells.Gauge took.1)
+      (gauge_put i place new at.0 at.1)
+      (gauge_frame place cell new got (λ j. record (unused (took.1 j)) { note = took.2 j }))
+
+  pub histogram_takes_back : (i place : ℕ) (cell new : Sampled) (lent : Lease TimedCall TimedQueue) → i ≡ length e.series.counters + (length e.series.gauges + place) → Got e.series.histograms place cell
+      → new ≡ record cell { series = with_one_back lent.knows cell.series } → TakesAt i (passes.Histogram lent) (with_histogram_at e place new)
+  histogram_takes_back i place cell new lent at got takes =
+      takes_at i (passes.Histogram lent) (with_histogram_at e place new) (of_histogram cell) (of_histogram new) (histogram_here i place cell at got)
+      (subst (λ (x : Sampled). TookBack (mapped_view entry.Queue cell.series.root) (mapped_view entry.Queue lent.knows) (mapped_view entry.Queue x.series.root)) (sym takes)
+      (took_back-mapped entry.Queue cell.series.root lent.knows (taker cell.series.root lent.knows) (record { number = refl; mine = refl; joined = refl; seen = prefix_self (longer cell.series.root.seen lent.knows.seen); out = refl })))
+      (ap (λ (x : Sampled). cells.Histogram x.series.cell) takes)
+      (histogram_put i place new at)
+      (histogram_frame place cell new got (ap unheard takes))
+
+  -- ---- reading
+
+  -- what has an index was found settled, and nothing changed
+  abbrev pub SettlesAt : ℕ → Exporter → Type 0
+  SettlesAt i new = (new ≡ e) × ((t : SeriesThing) → get_elem? (things_of e) i ≡ some t → Settled t.root)
+
+  -- no pass of what has an index is out
+  abbrev pub HomeAt : ℕ → Type 0
+  HomeAt i = (t : SeriesThing) → get_elem? (things_of e) i ≡ some t → (t.root.number ≡ 0) × (t.root.out ≡ 0)
+
+  pub counter_reads : (i place : ℕ) (cell new : Shared PromCounter) → i ≡ place → Got e.series.counters place cell → HomeAt i → Looks cell new → SettlesAt i (with_counter_at e place new)
+  counter_reads i place cell new at got home looks =
+      let own = counter_here i place cell at got in
+      let back = home (of_counter cell) own in (
+        counter_kept place cell new got (looks-home cell new back looks),
+        (λ t also. of_each (λ (u : SeriesThing). Settled u.root) i (of_counter cell) t own (settled-mapped entry.Value cell.root (looks.1.whole back.0 back.1).1) also),
+      )
+
+  pub gauge_reads : (i place : ℕ) (cell new : Shared PromGauge) → i ≡ length e.series.counters + place → Got e.series.gauges place cell → HomeAt i → Looks cell new → SettlesAt i (with_gauge_at e place new)
+  gauge_reads i place cell new at got home looks =
+      let own = gauge_here i place cell at got in
+      let back = home (of_gauge cell) own in (
+        gauge_kept place cell new got (looks-home cell new back looks),
+        (λ t also. of_each (λ (u : SeriesThing). Settled u.root) i (of_gauge cell) t own (settled-mapped entry.Value cell.root (looks.1.whole back.0 back.1).1) also),
+      )
+
+  pub histogram_settles : (i place : ℕ) (cell new : Sampled) → i ≡ length e.series.counters + (length e.series.gauges + place) → Got e.series.histograms place cell → new ≡ cell → Settled cell.series.root
+      → SettlesAt i (with_histogram_at e place new)
+  histogram_settles i place cell new at got is settled = (
+    histogram_kept place cell new got is,
+    (λ t also. of_each (λ (u : SeriesThing). Settled u.root) i (of_histogram cell) t (histogram_here i place cell at got) (settled-mapped entry.Queue cell.series.root settled) also),
+  )
+
+  -- ---- all at home
+
+  pub all_home : Roots root_of (things_of e) → Home root_of (things_of e) → AllHome e
+  all_home roots home = (
+    each_home of_counter e.series.counters
+        (λ j cell got. let at = counter_here j j cell refl got in (roots j (of_counter cell) at, home j (of_counter cell) at)),
+    each_home of_gauge e.series.gauges
+        (λ j cell got. let at = gauge_here (length e.series.counters + j) j cell refl got in (roots _ (of_gauge cell) at, home _ (of_gauge cell) at)),
+    each_home of_histogram e.series.histograms
+        (λ j cell got. let at = histogram_here (length e.series.counters + (length e.series.gauges + j)) j cell refl got in (roots _ (of_histogram cell) at, home _ (of_histogram cell) at)),
+  )
 
 -- ---- ids
 
@@ -190,33 +458,66 @@ module _ {X : Type 0} (id : SeriesId) where
   id_nowhere (x ∷ es) none zero e = true≢false (sym (id_eq-refl id) ∙ ap (λ a. id_eq a id) (sym (some-injective x.id id e)) ∙ (or_parts (has_id id x) (list_any (has_id id) es) none).0)
   id_nowhere (x ∷ es) none (suc i) e = id_nowhere es (or_parts (has_id id x) (list_any (has_id id) es) none).1 i e
 
-pub index_front : (id : SeriesId) (exporter : Exporter) (i : ℕ) → option_map (has_id id) (slice_get exporter.series.counters i) ≡ Some true → get_elem? (ids_of exporter) i ≡ some id
-index_front id exporter i e = at_longer (map (its_id id) exporter.series.counters) (map (its_id id) exporter.series.gauges) i id (id_here id exporter.series.counters i e)
+module _ (id : SeriesId) (e : Exporter) where
+  abbrev counter_ids : List SeriesId
+  counter_ids = map (its_id id) e.series.counters
 
-pub index_behind : (id : SeriesId) (exporter : Exporter) (n i : ℕ) → n ≡ length exporter.series.counters → option_map (has_id id) (slice_get exporter.series.gauges i) ≡ Some true → get_elem? (ids_of exporter) (n + i) ≡ some id
-index_behind id exporter n i is e =
-    subst (λ m. get_elem? (ids_of exporter) (m + i) ≡ some id) (length-map exporter.series.counters (its_id id) ∙ sym is)
-    (at_behind (map (its_id id) exporter.series.counters) (map (its_id id) exporter.series.gauges) i id (id_here id exporter.series.gauges i e))
+  abbrev gauge_ids : List SeriesId
+  gauge_ids = map (its_id id) e.series.gauges
 
-pub no_index : (id : SeriesId) (exporter : Exporter) → list_any (has_id id) exporter.series.counters ≡ false → list_any (has_id id) exporter.series.gauges ≡ false → (i : ℕ) → get_elem? (ids_of exporter) i ≡ some id → ⊥
-no_index id exporter none others i e =
-    ⊎_elim (λ (front : get_elem? (map (its_id id) exporter.series.counters) i ≡ some id). id_nowhere id exporter.series.counters none i front)
-    (λ (back : (k : ℕ) × (get_elem? (map (its_id id) exporter.series.gauges) k ≡ some id)). id_nowhere id exporter.series.gauges others back.0 back.1)
-    (front_or_back (map (its_id id) exporter.series.counters) (map (its_id id) exporter.series.gauges) i id e)
+  abbrev histogram_ids : List SeriesId
+  histogram_ids = map (its_id id) e.series.histograms
 
--- ---- what lanes leave as it is
+  pub counter_index : (i : ℕ) → option_map (has_id id) (slice_get e.series.counters i) ≡ Some true → get_elem? (ids_of e) i ≡ some id
+  counter_index i got = at_longer counter_ids (gauge_ids ++ histogram_ids) i id (id_here id e.series.counters i got)
 
-unseen_put : {F : Type 0} (es : List (LiveSeries (Shared F))) (i : ℕ) (cell new : Shared F) → option_map (λ (s : LiveSeries (Shared F)). s.cell) (slice_get es i) ≡ Some cell → new.cell ≡ cell.cell → new.note ≡ cell.note → map unseen (with_cell_at es i new) ≡ map unseen es
-unseen_put [] i cell new e stays noted = refl
-unseen_put (x ∷ es) zero cell new e stays noted =
-    let same = sym (same_Some x.cell cell e) in
-    (λ j. record x { cell = record (unused ((stays ∙ ap (λ (c : Shared _). c.cell) same) j)) { note = (noted ∙ ap (λ (c : Shared _). c.note) same) j } } ∷ map unseen es)
-unseen_put (x ∷ es) (suc i) cell new e stays noted = ap (λ l. unseen x ∷ l) (unseen_put es i cell new e stays noted)
+  pub gauge_index : (n i : ℕ) → n ≡ length e.series.counters → option_map (has_id id) (slice_get e.series.gauges i) ≡ Some true → get_elem? (ids_of e) (n + i) ≡ some id
+  gauge_index n i is got =
+      subst (λ m. get_elem? (ids_of e) (m + i) ≡ some id) (length-map e.series.counters (its_id id) ∙ sym is)
+      (at_behind counter_ids (gauge_ids ++ histogram_ids) i id (at_longer gauge_ids histogram_ids i id (id_here id e.series.gauges i got)))
 
-pub counter_frame : (exporter : Exporter) (i : ℕ) (cell new : Shared PromCounter) → option_map (λ (s : LiveSeries (Shared PromCounter)). s.cell) (slice_get exporter.series.counters i) ≡ Some cell → new.cell ≡ cell.cell → new.note ≡ cell.note
-    → frame_of (record exporter { series = record exporter.series { counters = with_cell_at exporter.series.counters i new } }) ≡ frame_of exporter
-counter_frame exporter i cell new e stays noted = ap (λ l. record exporter { series = record exporter.series { counters = l; gauges = map unseen exporter.series.gauges } }) (unseen_put exporter.series.counters i cell new e stays noted)
+  pub histogram_index : (n m i : ℕ) → n ≡ length e.series.counters → m ≡ length e.series.gauges → option_map (has_id id) (slice_get e.series.histograms i) ≡ Some true → get_elem? (ids_of e) (n + (m + i)) ≡ some id
+  histogram_index n m i counters_are gauges_are got =
+      subst (λ k. get_elem? (ids_of e) k ≡ some id)
+      (λ j. (length-map e.series.counters (its_id id) ∙ sym counters_are) j + ((length-map e.series.gauges (its_id id) ∙ sym gauges_are) j + i))
+      (at_behind counter_ids (gauge_ids ++ histogram_ids) (length gauge_ids + i) id (at_behind gauge_ids histogram_ids i id (id_here id e.series.histograms i got)))
 
-pub gauge_frame : (exporter : Exporter) (i : ℕ) (cell new : Shared PromGauge) → option_map (λ (s : LiveSeries (Shared PromGauge)). s.cell) (slice_get exporter.series.gauges i) ≡ Some cell → new.cell ≡ cell.cell → new.note ≡ cell.note
-    → frame_of (record exporter { series = record exporter.series { gauges = with_cell_at exporter.series.gauges i new } }) ≡ frame_of exporter
-gauge_frame exporter i cell new e stays noted = ap (λ l. record exporter { series = record exporter.series { counters = map unseen exporter.series.counters; gauges = l } }) (unseen_put exporter.series.gauges i cell new e stays noted)
+  pub no_index : list_any (has_id id) e.series.counters ≡ false → list_any (has_id id) e.series.gauges ≡ false → list_any (has_id id) e.series.histograms ≡ false → (i : ℕ) → get_elem? (ids_of e) i ≡ some id → ⊥
+  no_index no_counter no_gauge no_histogram i at = ⊎_elim
+      (λ (front : get_elem? counter_ids i ≡ some id). id_nowhere id e.series.counters no_counter i front)
+      (λ (rest : (k : ℕ) × (get_elem? (gauge_ids ++ histogram_ids) k ≡ some id)). ⊎_elim
+      (λ (middle : get_elem? gauge_ids rest.0 ≡ some id). id_nowhere id e.series.gauges no_gauge rest.0 middle)
+      (λ (back : (k : ℕ) × (get_elem? histogram_ids k ≡ some id)). id_nowhere id e.series.histograms no_histogram back.0 back.1)
+      (front_or_back gauge_ids histogram_ids rest.0 id rest.1))
+      (front_or_back counter_ids (gauge_ids ++ histogram_ids) i id at)
+
+-- what is got of the ids at the index of a place
+module _ (e : Exporter) (i place : ℕ) where
+  abbrev id_of_counter : LiveSeries (Shared PromCounter) → SeriesId
+  id_of_counter series = series.id
+
+  abbrev id_of_gauge : LiveSeries (Shared PromGauge) → SeriesId
+  id_of_gauge series = series.id
+
+  abbrev id_of_histogram : LiveSeries Sampled → SeriesId
+  id_of_histogram series = series.id
+
+  pub counter_id_got : (i ≡ place) × (place < length e.series.counters) → option_map id_of_counter (slice_get e.series.counters place) ≡ slice_get (ids_of e) i
+  counter_id_got at =
+      sym (got_map id_of_counter e.series.counters place)
+      ∙ sym (got_front (map id_of_counter e.series.counters) (map id_of_gauge e.series.gauges ++ map id_of_histogram e.series.histograms) place (subst (λ n. place < n) (sym (length-map e.series.counters id_of_counter)) at.1))
+      ∙ ap (slice_get (ids_of e)) (sym at.0)
+
+  pub gauge_id_got : (i ≡ length e.series.counters + place) × (place < length e.series.gauges) → option_map id_of_gauge (slice_get e.series.gauges place) ≡ slice_get (ids_of e) i
+  gauge_id_got at =
+      sym (got_map id_of_gauge e.series.gauges place)
+      ∙ sym (got_front (map id_of_gauge e.series.gauges) (map id_of_histogram e.series.histograms) place (subst (λ n. place < n) (sym (length-map e.series.gauges id_of_gauge)) at.1))
+      ∙ sym (got_behind (map id_of_counter e.series.counters) (map id_of_gauge e.series.gauges ++ map id_of_histogram e.series.histograms) place)
+      ∙ ap (slice_get (ids_of e)) (ap (λ n. n + place) (length-map e.series.counters id_of_counter) ∙ sym at.0)
+
+  pub histogram_id_got : i ≡ length e.series.counters + (length e.series.gauges + place) → option_map id_of_histogram (slice_get e.series.histograms place) ≡ slice_get (ids_of e) i
+  histogram_id_got at =
+      sym (got_map id_of_histogram e.series.histograms place)
+      ∙ sym (got_behind (map id_of_gauge e.series.gauges) (map id_of_histogram e.series.histograms) place)
+      ∙ sym (got_behind (map id_of_counter e.series.counters) (map id_of_gauge e.series.gauges ++ map id_of_histogram e.series.histograms) (length (map id_of_gauge e.series.gauges) + place))
+      ∙ ap (slice_get (ids_of e)) ((λ j. length-map e.series.counters id_of_counter j + (length-map e.series.gauges id_of_gauge j + place)) ∙ sym at)

@@ -4,9 +4,15 @@ pub mod Progress
 pub mod States
 pub mod Seen
 pub mod Home
+pub mod Drained
+pub mod Counted
+pub mod Upkeep
 pub mod Stepping
 pub mod PagesAgain
 pub mod LaneThings
+mod KeptCells
+mod LaneIndices
+mod LaneRounds
 pub mod CallKinds
 pub mod KeptRows
 pub mod HeadTexts
@@ -14,3 +20,5 @@ pub mod Looked
 mod CopiedRules
 mod Written
 pub mod ValuePages
+pub mod SampledRows
+pub mod SampledPages

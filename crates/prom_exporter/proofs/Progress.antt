@@ -1,8 +1,8 @@
 -- Bytes that go to a sink in pieces: what was sent, and what waits.
-use Rattle.std.proofs.Common.{ℕ, List, [], ◌++◌, refl, sym, ap, subst, ◌∙◌, append-nil, append_assoc}
+use Rattle.std.proofs.Common.{◌≡◌, ℕ, List, [], ◌++◌, refl, sym, ap, subst, ◌∙◌, append-nil, append_assoc}
 use Rattle.std.specs.Prelude.{Option, Some, None, Result, Ok, Err, OnOk, OnErr}
 use Rattle.metrics_core.specs.Outside.{GrewBy, GrewByPrefix}
-use Rattle.prom_exporter.specs.Sending.{IsSent}
+use Rattle.prom_exporter.specs.Sending.{IsSent, SendsMore, SendsPrefix}
 use Rattle.metrics_core.proofs.Grown.{grew_none, grew-append, grew_prefix-append, grew_prefix-longer}
 
 grew_nothing : (told : Option (List ℕ)) → GrewBy told told []
@@ -51,3 +51,27 @@ ok_behind (Err e) a b c x y first rest = tt
 pub err_behind : {T E : Type 0} (r : Result T E) (a b c : Option (List ℕ)) (x y : List ℕ) → GrewBy a b x → OnErr r (GrewByPrefix b c y) → OnErr r (GrewByPrefix a c (x ++ y))
 err_behind (Ok v) a b c x y first rest = tt
 err_behind (Err e) a b c x y first rest = grew_prefix-append a b c x y first rest
+
+-- ---- further bytes, one part behind the other
+
+pub sends_none : (a : Option (List ℕ)) (w : List ℕ) → SendsMore a a w w []
+sends_none a w start bytes waits = subst (IsSent start a w) (sym (append-nil bytes)) waits
+
+-- more bytes wait
+pub sends_grown : (a : Option (List ℕ)) (w v more : List ℕ) → v ≡ w ++ more → SendsMore a a w v more
+sends_grown a w v more is start bytes waits = subst (λ l. IsSent start a l (bytes ++ more)) (sym is) (sent-append start a w bytes waits more)
+
+module _ (a b : Option (List ℕ)) (w v x : List ℕ) where
+  pub sends_behind : (c : Option (List ℕ)) (u y : List ℕ) → SendsMore a b w v x → SendsMore b c v u y → SendsMore a c w u (x ++ y)
+  sends_behind c u y first rest start bytes waits = subst (IsSent start c u) (append_assoc bytes x y) (rest start (bytes ++ x) (first start bytes waits))
+
+  pub sends_prefix_behind : (c : Option (List ℕ)) (y : List ℕ) → SendsMore a b w v x → SendsPrefix b c v y → SendsPrefix a c w (x ++ y)
+  sends_prefix_behind c y first rest start bytes waits = subst (GrewByPrefix start c) (append_assoc bytes x y) (rest start (bytes ++ x) (first start bytes waits))
+
+  -- no more was sent
+  pub sends_stopped : (y : List ℕ) → SendsMore a b w v x → SendsPrefix a b w (x ++ y)
+  sends_stopped y first start bytes waits = subst (GrewByPrefix start b) (append_assoc bytes x y) (sent_nothing start b v (bytes ++ x) (first start bytes waits) y)
+
+-- a prefix of some bytes is one of more
+pub sends_prefix_more : (a b : Option (List ℕ)) (w x y : List ℕ) → SendsPrefix a b w x → SendsPrefix a b w (x ++ y)
+sends_prefix_more a b w x y first start bytes waits = subst (GrewByPrefix start b) (append_assoc bytes x y) (grew_prefix-longer start b (bytes ++ x) y (first start bytes waits))

@@ -10,28 +10,44 @@ use Rattle.std.proofs.lemmas.Bool.{and_parts}
 use Rattle.metrics_core.specs.Keys.{KeyText, key_eq}
 use Rattle.metrics_registry.specs.Live.{LiveSeries, RegistryText, has_id, has_key, id_of_key, cell_of, IsBelowAll, Rises, AreOf, IsNumbered}
 use Rattle.prom_exporter.specs.Shared.{Shared}
-use Rattle.prom_exporter.specs.Values.{SeenCell, seen_series, seen_registry}
+use Rattle.metrics_core.specs.Calls.{Call}
+use Rattle.prom_exporter.specs.Sampled.{Sampled}
+use Rattle.prom_exporter.specs.Values.{SeenCell, seen_cell, seen_series, sampled_series, seen_registry}
 
-module _ {F : Type 0} where
-  pub id_of_key-seen : (key : KeyText) (es : List (LiveSeries (Shared F))) → id_of_key key (map seen_series es) ≡ id_of_key key es
-  id_of_key-seen key [] = refl
-  id_of_key-seen key (e ∷ es) =
-      elim (key_eq e.key key) as (λ b. option_map (λ (s : LiveSeries SeenCell). s.id) (cond b (Some (seen_series e)) (find (has_key key) (map seen_series es))) ≡ option_map (λ (s : LiveSeries (Shared F)). s.id) (cond b (Some e) (find (has_key key) es))) [
+-- series with other cells, which keep their ids and keys
+module _ {X Y : Type 0} (g : X → Y) where
+  abbrev changed : LiveSeries X → LiveSeries Y
+  changed series = record { id = series.id; key = series.key; cell = g series.cell }
+
+  id_of_key-changed : (key : KeyText) (es : List (LiveSeries X)) → id_of_key key (map changed es) ≡ id_of_key key es
+  id_of_key-changed key [] = refl
+  id_of_key-changed key (e ∷ es) =
+      elim (key_eq e.key key) as (λ b. option_map (λ (s : LiveSeries Y). s.id) (cond b (Some (changed e)) (find (has_key key) (map changed es))) ≡ option_map (λ (s : LiveSeries X). s.id) (cond b (Some e) (find (has_key key) es))) [
         | true ↦ refl
-        | false ↦ id_of_key-seen key es
+        | false ↦ id_of_key-changed key es
       ]
 
-  is_below_all-seen : (n : ℕ) (es : List (LiveSeries (Shared F))) → IsBelowAll n es → IsBelowAll n (map seen_series es)
-  is_below_all-seen n [] h = tt
-  is_below_all-seen n (e ∷ es) h = (h.0, is_below_all-seen n es h.1)
+  is_below_all-changed : (n : ℕ) (es : List (LiveSeries X)) → IsBelowAll n es → IsBelowAll n (map changed es)
+  is_below_all-changed n [] h = tt
+  is_below_all-changed n (e ∷ es) h = (h.0, is_below_all-changed n es h.1)
 
-  rises-seen : (es : List (LiveSeries (Shared F))) → Rises es → Rises (map seen_series es)
-  rises-seen [] h = tt
-  rises-seen (e ∷ es) h = (is_below_all-seen e.id.number es h.0, rises-seen es h.1)
+  rises-changed : (es : List (LiveSeries X)) → Rises es → Rises (map changed es)
+  rises-changed [] h = tt
+  rises-changed (e ∷ es) h = (is_below_all-changed e.id.number es h.0, rises-changed es h.1)
 
-  are_of-seen : (kind : MetricKind) (n : ℕ) (es : List (LiveSeries (Shared F))) → AreOf kind n es → AreOf kind n (map seen_series es)
-  are_of-seen kind n [] h = tt
-  are_of-seen kind n (e ∷ es) h = (h.0, h.1, are_of-seen kind n es h.2)
+  are_of-changed : (kind : MetricKind) (n : ℕ) (es : List (LiveSeries X)) → AreOf kind n es → AreOf kind n (map changed es)
+  are_of-changed kind n [] h = tt
+  are_of-changed kind n (e ∷ es) h = (h.0, h.1, are_of-changed kind n es h.2)
+
+pub id_of_key-seen : {F : Type 0} (key : KeyText) (es : List (LiveSeries (Shared F))) → id_of_key key (map seen_series es) ≡ id_of_key key es
+id_of_key-seen key es = id_of_key-changed seen_cell key es
+
+-- a histogram as a state sees it, where these are the calls on it
+abbrev sampled_cell : (Sampled → List Call) → Sampled → SeenCell
+sampled_cell calls s = record { calls = calls s; note = s.note }
+
+pub id_of_key-sampled : (calls : Sampled → List Call) (key : KeyText) (es : List (LiveSeries Sampled)) → id_of_key key (map (sampled_series calls) es) ≡ id_of_key key es
+id_of_key-sampled calls key es = id_of_key-changed (sampled_cell calls) key es
 
 -- the id under which a cell is found has the kind of the list
 of_found : {F : Type 0} (kind : MetricKind) (id : SeriesId) (cell : F) (es : List (LiveSeries F)) (n : ℕ) → AreOf kind n es → cell_of id es ≡ Some cell → id.kind ≡ kind
@@ -48,9 +64,12 @@ of_counters id cell es n are found = subst (λ kind. AreOf kind n es) (sym (of_f
 pub of_gauges : {F : Type 0} (id : SeriesId) (cell : F) (es : List (LiveSeries F)) (n : ℕ) → AreOf kinds.Gauge n es → cell_of id es ≡ Some cell → AreOf id.kind n es
 of_gauges id cell es n are found = subst (λ kind. AreOf kind n es) (sym (of_found kinds.Gauge id cell es n are found)) are
 
-pub is_numbered-seen : {C G H : Type 0} (registry : RegistryText (Shared C) (Shared G) H) → IsNumbered registry → IsNumbered (seen_registry registry)
-is_numbered-seen registry h = record {
-  counters = (rises-seen registry.counters h.counters.0, are_of-seen _ _ registry.counters h.counters.1);
-  gauges = (rises-seen registry.gauges h.gauges.0, are_of-seen _ _ registry.gauges h.gauges.1);
-  histograms = h.histograms;
+pub of_histograms : {F : Type 0} (id : SeriesId) (cell : F) (es : List (LiveSeries F)) (n : ℕ) → AreOf kinds.Histogram n es → cell_of id es ≡ Some cell → AreOf id.kind n es
+of_histograms id cell es n are found = subst (λ kind. AreOf kind n es) (sym (of_found kinds.Histogram id cell es n are found)) are
+
+pub is_numbered-seen : {C G : Type 0} (calls : Sampled → List Call) (registry : RegistryText (Shared C) (Shared G) Sampled) → IsNumbered registry → IsNumbered (seen_registry calls registry)
+is_numbered-seen calls registry h = record {
+  counters = (rises-changed seen_cell registry.counters h.counters.0, are_of-changed seen_cell _ _ registry.counters h.counters.1);
+  gauges = (rises-changed seen_cell registry.gauges h.gauges.0, are_of-changed seen_cell _ _ registry.gauges h.gauges.1);
+  histograms = (rises-changed (sampled_cell calls) registry.histograms h.histograms.0, are_of-changed (sampled_cell calls) _ _ registry.histograms h.histograms.1);
 }

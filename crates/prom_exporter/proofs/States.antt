@@ -1,8 +1,9 @@
--- The state that a registry of counters and gauges makes: what registering does to it, and a cell that is put back.
+-- The state that a registry makes: what registering does to it, and a cell that is put back.
 use Rattle.std.proofs.Common.{◌≡◌, ◌≢◌, ℕ, ◌+◌, Bool, true, false, cond, ◌&&◌, List, [], ◌∷◌, ◌++◌, map, Option, None, Some, refl, sym, ap, subst, ◌∙◌, arith}
-use Rattle.std.specs.Prelude.{◌==◌, find, unwrap_or, option_map, is_some}
+use Rattle.std.specs.Prelude.{◌==◌, All, find, unwrap_or, option_map, is_some}
 use Rattle.std.proofs.lemmas.Bool.{ne_eqb, eq-eqb, eqb-true}
 use Rattle.std.proofs.lemmas.Option.{same_Some}
+use Rattle.std.proofs.lemmas.List.Elements.{All-head, All-tail, All-cons}
 use Rattle.metrics_core.specs.declared.kinds.MetricKind.{MetricKind}
 use Rattle.metrics_core.specs.declared.kinds.MetricKind.TheVariants as kinds
 use Rattle.metrics_core.specs.declared.kinds.SeriesId.{SeriesId}
@@ -50,12 +51,8 @@ kind_of_id kind n key (e ∷ es) id are found = by (key_eq e.key key) found (kin
 
 -- ---- registering, as a whole
 
--- a registry with other counters, or other gauges
-abbrev pub with_counters : {H : Type 0} → RegistryText Cell Cell H → List (LiveSeries Cell) → ℕ → RegistryText Cell Cell H
-with_counters registry counters made = record registry { counters = counters; made = made }
-
-abbrev pub with_gauges : {H : Type 0} → RegistryText Cell Cell H → List (LiveSeries Cell) → ℕ → RegistryText Cell Cell H
-with_gauges registry gauges made = record registry { gauges = gauges; made = made }
+abbrev Registry : Type 0
+Registry = RegistryText Cell Cell Cell
 
 abbrev new_id : MetricKind → ℕ → SeriesId
 new_id kind number = record { kind = kind; number = number }
@@ -64,17 +61,17 @@ abbrev pub new_series : MetricKind → ℕ → KeyText → LiveSeries Cell
 new_series kind number key = record { id = new_id kind number; key = key; cell = record { calls = []; note = None } }
 
 -- the series of a kind
-abbrev of_kind : {H : Type 0} → MetricKind → RegistryText Cell Cell H → List (LiveSeries Cell)
+abbrev of_kind : MetricKind → Registry → List (LiveSeries Cell)
 of_kind kinds.Counter registry = registry.counters
 of_kind kinds.Gauge registry = registry.gauges
-of_kind kinds.Histogram registry = []
+of_kind kinds.Histogram registry = registry.histograms
 
-live_is : {H : Type 0} (kind : MetricKind) (registry : RegistryText Cell Cell H) → live kind (state_of registry) ≡ map series_of (of_kind kind registry)
+live_is : (kind : MetricKind) (registry : Registry) → live kind (state_of registry) ≡ map series_of (of_kind kind registry)
 live_is kinds.Counter registry = refl
 live_is kinds.Gauge registry = refl
 live_is kinds.Histogram registry = refl
 
-module _ {H : Type 0} (kind : MetricKind) (key : KeyText) (registry : RegistryText Cell Cell H) where
+module _ (kind : MetricKind) (key : KeyText) (registry : Registry) where
   number_found : option_map (λ (series : Series). series.number) (live_series kind key (state_of registry)) ≡ option_map (λ (id : SeriesId). id.number) (id_of_key key (of_kind kind registry))
   number_found = ap (λ es. option_map (λ (series : Series). series.number) (find (has_equal_key key) es)) (live_is kind registry) ∙ found_number key (of_kind kind registry)
 
@@ -130,3 +127,21 @@ kept {X} id (e ∷ es) n cell rises are found = by (e.id.number == id.number) re
         let has : has_id id e ≡ false = same_id id e are.0 ∙ is in
         let later : cell_of id es ≡ Some cell = sym (ap (λ b. option_map (λ (s : LiveSeries X). s.cell) (cond b (Some e) (find (has_id id) es))) has) ∙ found in
         (λ j. cond (has j) (record e { cell = cell }) e ∷ rest later j)
+
+-- what holds of each series, where the cell with an id is replaced
+pub all-with_cell : {X : Type 0} (P : LiveSeries X → Type 0) (id : SeriesId) (es : List (LiveSeries X)) (n : ℕ) (cell left : X) → Rises es → AreOf id.kind n es → cell_of id es ≡ Some cell
+    → ((s : LiveSeries X) → s.cell ≡ cell → P s → P (record s { cell = left })) → All P es → All P (with_cell id es left)
+all-with_cell P id [] n cell left rises are found each all = all
+all-with_cell {X} P id (e ∷ es) n cell left rises are found each all = by (e.id.number == id.number) refl (λ later. all-with_cell P id es n cell left rises.1 are.2 later each (All-tail P e es all))
+  where
+    by : (b : Bool) → (e.id.number == id.number) ≡ b → (cell_of id es ≡ Some cell → All P (with_cell id es left)) → All P (with_cell id (e ∷ es) left)
+    by true is rest =
+        let has : has_id id e ≡ true = same_id id e are.0 ∙ is in
+        let here : e.cell ≡ cell = same_Some e.cell cell (sym (ap (λ b. option_map (λ (s : LiveSeries X). s.cell) (cond b (Some e) (find (has_id id) es))) has) ∙ found) in
+        let number : e.id.number ≡ id.number = eqb-true e.id.number id.number is in
+        let others : with_cell id es left ≡ es = above_keep id left es n are.2 (subst (λ m. IsBelowAll m es) number rises.0) in
+        subst (All P) (λ j. cond (sym has j) (record e { cell = left }) e ∷ sym others j) (All-cons P (record e { cell = left }) es (each e here (All-head P e es all)) (All-tail P e es all))
+    by false is rest =
+        let has : has_id id e ≡ false = same_id id e are.0 ∙ is in
+        let later : cell_of id es ≡ Some cell = sym (ap (λ b. option_map (λ (s : LiveSeries X). s.cell) (cond b (Some e) (find (has_id id) es))) has) ∙ found in
+        subst (All P) (λ j. cond (sym has j) (record e { cell = left }) e ∷ with_cell id es left) (All-cons P e (with_cell id es left) (All-head P e es all) (rest later))

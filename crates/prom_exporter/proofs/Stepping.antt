@@ -25,9 +25,11 @@ use Rattle.prom_exporter.specs.Families.{families_at}
 use Rattle.prom_exporter.specs.Rows.{keys_of}
 use Rattle.prom_exporter.specs.Shared.{Shared, IsHome, calls_seen}
 use Rattle.prom_exporter.specs.Values.{series_of, seen_series}
-use Rattle.prom_exporter.specs.Exporter.{Exporter, AllHome, state_of, page_body, shown_body}
-use Rattle.prom_exporter.specs.Stepped.{IsNoted, AreNoted, Steps}
+use Rattle.prom_exporter.specs.Exporter.{Exporter, AllHome, AreTimely, state_of, state_shown, page_body, shown_body}
+use Rattle.prom_exporter.specs.Stepped.{IsNoted, AreNoted, AreCounted, DrainsInPart, DrainsWhole, AreDrained, DrainsEach, Steps}
 use Rattle.prom_exporter.proofs.Home.{looks-home}
+use Rattle.prom_exporter.proofs.Drained.{AreWhole, drained-rest, drained-timely, drained-known, drained-whole, whole-parts}
+use Rattle.prom_exporter.proofs.Counted.{all_known, fewer_step, keys_step, counted-rest, counted-whole, counted-timely, counted-known, whole-shown}
 
 -- the number of updates is that of the calls
 length-calls : (log : List (Entry SeriesCall)) → length (calls log) ≡ length log
@@ -37,19 +39,10 @@ length-calls (e ∷ log) = ap suc (length-calls log)
 module _ (idle : Option Idle) (moment : ℕ) (kind : MetricKind) {F : Type 0} where
   -- ---- the series that stay
 
-  noted_step : (e : LiveSeries (Shared F)) (old rest : List (LiveSeries (Shared F))) (cell : Shared F) (stays : Bool) → length rest ≤ length old → length (cond stays (record e { cell = cell } ∷ rest) rest) ≤ length (e ∷ old)
-  noted_step e old rest cell true less = omega (arith, less)
-  noted_step e old rest cell false less = omega (arith, less)
-
   -- they are not more than there were
   pub noted_fewer : (old new : List (LiveSeries (Shared F))) → AreNoted idle moment kind old new → length new ≤ length old
   noted_fewer [] new is = let none : length new ≡ 0 = ap length is in omega (arith, none)
-  noted_fewer (e ∷ old) new (stays, cell, rest, noted, others, is) = subst (λ (l : List (LiveSeries (Shared F))). length l ≤ length (e ∷ old)) (sym is) (noted_step e old rest cell stays (noted_fewer old rest others))
-
-  keys_step : (e : LiveSeries (Shared F)) (old rest : List (LiveSeries (Shared F))) (cell : Shared F) (stays : Bool) → length rest ≤ length old → (length old ≤ length rest → keys_of rest ≡ keys_of old)
-      → length (e ∷ old) ≤ length (cond stays (record e { cell = cell } ∷ rest) rest) → keys_of (cond stays (record e { cell = cell } ∷ rest) rest) ≡ keys_of (e ∷ old)
-  keys_step e old rest cell true less same many = ap (λ l. e.key ∷ l) (same (omega (arith, many)))
-  keys_step e old rest cell false less same many = absurd (omega (arith, less, many))
+  noted_fewer (e ∷ old) new (stays, cell, rest, noted, others, is) = subst (λ (l : List (LiveSeries (Shared F))). length l ≤ length (e ∷ old)) (sym is) (fewer_step e old rest cell stays (noted_fewer old rest others))
 
   -- where they are as many, they have the same keys
   pub noted_keys : (old new : List (LiveSeries (Shared F))) → AreNoted idle moment kind old new → length old ≤ length new → keys_of new ≡ keys_of old
@@ -143,20 +136,96 @@ module _ (idle : Option Idle) (moment : ℕ) (kind : MetricKind) {K F : Type 0} 
 
 -- ---- the exporter
 
+-- histograms that were drained, where no pass is out
+module _ (old new : Exporter) (home : AllHome old) (drains : DrainsEach DrainsInPart old new) where
+  pub drains_home : AllHome new
+  drains_home = rw drains.1 (home.0, home.1, drained-rest old.series.histograms new.series.histograms drains.0 home.2)
+
+  pub drains_state : state_of new ≡ state_of old
+  drains_state = ap state_of drains.1 ∙ ap (λ es. record (state_of old) { histograms = map series_of es }) (drained-known old.series.histograms new.series.histograms drains.0 home.2)
+
+  -- moments of samples stay as they are
+  pub drains_timely : (t : ℕ) → AreTimely t old → AreTimely t new
+  drains_timely t timely = drained-timely t old.series.histograms new.series.histograms drains.0 home.2 timely
+
+-- those that were drained whole were drained in part
+pub drains_less : (old new : Exporter) → DrainsEach DrainsWhole old new → DrainsEach DrainsInPart old new
+drains_less old new drains = (whole-parts old.series.histograms new.series.histograms drains.0, drains.1)
+
+-- the page step is made of its parts: the histograms are drained, and then each kind in turn
+module _ (moment : ℕ) (old drained counted gauged new : Exporter) (drains : DrainsEach DrainsWhole old drained)
+    (counters : AreNoted drained.settings.idle moment kinds.Counter drained.series.counters counted.series.counters) (counted_is : counted ≡ record drained { series = record drained.series { counters = counted.series.counters } })
+    (gauges : AreNoted counted.settings.idle moment kinds.Gauge counted.series.gauges gauged.series.gauges) (gauged_is : gauged ≡ record counted { series = record counted.series { gauges = gauged.series.gauges } })
+    (histograms : AreCounted gauged.settings.idle moment gauged.series.histograms new.series.histograms) (new_is : new ≡ record gauged { series = record gauged.series { histograms = new.series.histograms } }) where
+  abbrev with_counters : Exporter → Exporter
+  with_counters e = record e { series = record e.series { counters = counted.series.counters } }
+
+  abbrev with_gauges : Exporter → Exporter
+  with_gauges e = record e { series = record e.series { gauges = gauged.series.gauges } }
+
+  from_counted : counted ≡ with_counters (record old { series = record old.series { histograms = drained.series.histograms } })
+  from_counted = counted_is ∙ ap with_counters drains.1
+
+  from_gauged : gauged ≡ with_gauges (with_counters (record old { series = record old.series { histograms = drained.series.histograms } }))
+  from_gauged = gauged_is ∙ ap with_gauges from_counted
+
+  from_new : new ≡ record (with_gauges (with_counters old)) { series = record (with_gauges (with_counters old)).series { histograms = new.series.histograms } }
+  from_new = new_is ∙ ap (λ (e : Exporter). record e { series = record e.series { histograms = new.series.histograms } }) from_gauged
+
+  pub steps_made : Steps moment old new
+  steps_made = record {
+    settings = ap (λ (e : Exporter). e.settings) from_new;
+    counters = subst (AreNoted old.settings.idle moment kinds.Counter old.series.counters) (sym (ap (λ (e : Exporter). e.series.counters) new_is ∙ ap (λ (e : Exporter). e.series.counters) gauged_is))
+        (subst (λ (e : Exporter). AreNoted e.settings.idle moment kinds.Counter e.series.counters counted.series.counters) drains.1 counters);
+    gauges = subst (AreNoted old.settings.idle moment kinds.Gauge old.series.gauges) (sym (ap (λ (e : Exporter). e.series.gauges) new_is))
+        (subst (λ (e : Exporter). AreNoted e.settings.idle moment kinds.Gauge e.series.gauges gauged.series.gauges) from_counted gauges);
+    drained = drained.series.histograms;
+    drains = drains.0;
+    histograms = subst (λ (e : Exporter). AreCounted e.settings.idle moment e.series.histograms new.series.histograms) from_gauged histograms;
+    made = ap (λ (e : Exporter). e.series.made) from_new;
+  }
+
 module _ (moment : ℕ) (old new : Exporter) (home : AllHome old) (steps : Steps moment old new) where
+  abbrev idle : Option Idle
+  idle = old.settings.idle
+
+  parts : AreDrained DrainsInPart old.series.histograms steps.drained
+  parts = whole-parts old.series.histograms steps.drained steps.drains
+
+  drained_whole : AreWhole steps.drained
+  drained_whole = drained-whole old.series.histograms steps.drained steps.drains home.2
+
   pub steps_home : AllHome new
-  steps_home = (noted_home old.settings.idle moment kinds.Counter old.series.counters new.series.counters home.0 steps.counters, noted_home old.settings.idle moment kinds.Gauge old.series.gauges new.series.gauges home.1 steps.gauges)
+  steps_home = (
+    noted_home idle moment kinds.Counter old.series.counters new.series.counters home.0 steps.counters,
+    noted_home idle moment kinds.Gauge old.series.gauges new.series.gauges home.1 steps.gauges,
+    counted-rest idle moment steps.drained new.series.histograms steps.histograms (drained-rest old.series.histograms steps.drained parts home.2),
+  )
+
+  -- moments of samples stay as they are
+  pub steps_timely : (t : ℕ) → AreTimely t old → AreTimely t new
+  steps_timely t timely =
+      counted-timely idle moment t steps.drained new.series.histograms steps.histograms (drained-timely t old.series.histograms steps.drained parts home.2 timely)
 
   -- what the exporter has seen then is the page step of what it had seen
   pub steps_state : state_of new ≡ page_step old.settings.idle moment (state_of old)
-  steps_state = (λ j. record {
-    counters = sym (noted_shown old.settings.idle moment kinds.Counter (λ made. refl) old.series.counters new.series.counters home.0 steps.counters) j;
-    gauges = sym (noted_shown old.settings.idle moment kinds.Gauge (λ made. refl) old.series.gauges new.series.gauges home.1 steps.gauges) j;
-    histograms = [];
-    made = steps.made j;
-    published = [];
-    pending = [];
-  })
+  steps_state =
+      let sampled : filter_map (kept_at idle moment kinds.Histogram) (all_known old.series.histograms) ≡ all_known new.series.histograms =
+      ap (λ es. filter_map (kept_at idle moment kinds.Histogram) (map series_of es)) (sym (drained-known old.series.histograms steps.drained parts home.2))
+      ∙ counted-known idle moment steps.drained new.series.histograms drained_whole steps.histograms in
+      (λ j. record {
+        counters = sym (noted_shown idle moment kinds.Counter (λ made. refl) old.series.counters new.series.counters home.0 steps.counters) j;
+        gauges = sym (noted_shown idle moment kinds.Gauge (λ made. refl) old.series.gauges new.series.gauges home.1 steps.gauges) j;
+        histograms = sym sampled j;
+        made = steps.made j;
+        published = [];
+        pending = [];
+      })
+
+  -- a page shows all of it: each sample is recorded
+  pub steps_shown : state_shown new ≡ state_of new
+  steps_shown =
+      ap (λ l. record (state_of new) { histograms = l }) (whole-shown new.series.histograms (counted-whole idle moment steps.drained new.series.histograms steps.histograms drained_whole))
 
   pub steps_page : shown_body moment new ≡ page_body moment old
-  steps_page = (λ j. body_text (families_at (steps.settings j) moment (steps_state j)))
+  steps_page = ap (λ s. body_text (families_at new.settings moment s)) steps_shown ∙ (λ j. body_text (families_at (steps.settings j) moment (steps_state j)))

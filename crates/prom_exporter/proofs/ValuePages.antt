@@ -1,21 +1,24 @@
--- The page of a state of counters and gauges: its families are the groups of its series.
+-- The page of a state: its families of counters and of gauges are the groups of its series.
 use Rattle.std.proofs.Common.{◌≡◌, ℕ, Bool, true, false, List, [], ◌∷◌, ◌++◌, map, filter, None, refl, ap, ◌∙◌, append-nil}
-use Rattle.std.specs.Prelude.{bytes_eq, flat_map, ℤ}
+use Rattle.std.specs.Prelude.{bytes_eq, flat_map, filter_map, ℤ}
 use Rattle.std.proofs.lemmas.Grind.{flat_map-append}
 use Rattle.std.proofs.lemmas.Slice.Eq.{bytes_eq-Decides}
 use Rattle.metrics_core.specs.Keys.{LabelText}
+use Rattle.metrics_core.specs.declared.kinds.MetricKind.TheVariants as kinds
 use Rattle.metrics_registry.specs.Live.{LiveSeries, RegistryText}
 use Rattle.prom_format.specs.Names.{sanitized_metric_name}
-use Rattle.prom_format.specs.Pages.{Row, body_text, block_text}
+use Rattle.prom_format.specs.Pages.{Row, Family, body_text, block_text}
 use Rattle.prom_format.specs.Lines.{shown_label_set}
 use Rattle.prom_format.specs.declared.families.FamilyType.{FamilyType}
 use Rattle.prom_format.specs.declared.families.FamilyType.TheVariants as types
 use Rattle.prom_exporter.specs.State.{Series}
-use Rattle.prom_exporter.specs.Families.{ExporterSettings, distinct, names_of_kind, counter_rows, gauge_rows, family_of}
+use Rattle.prom_exporter.specs.Families.{ExporterSettings, distinct, names_of_kind, counter_rows, gauge_rows, distribution_of, distribution_family}
 use Rattle.prom_exporter.specs.Families as pages
 use Rattle.prom_exporter.specs.Kept.{NamesAsTheyAre}
+use Rattle.prom_exporter.specs.Sampled.{Sampled}
 use Rattle.prom_exporter.specs.Shared.{Shared}
-use Rattle.prom_exporter.specs.Values.{series_of, seen_series, state_seen, counter_shown, gauge_shown, named, member_of, metric_name, value_row, value_family, value_families}
+use Rattle.prom_exporter.specs.Values.{series_of, seen_series, state_recorded, counter_shown, gauge_shown, named, member_of, metric_name, value_row, value_family, value_families}
+use Rattle.prom_exporter.proofs.SampledRows.{plain}
 
 abbrev metric : Series → List ℕ
 metric series = sanitized_metric_name series.key.name
@@ -65,22 +68,25 @@ row_of_series e value labels = record { name = metric_name (member_of e); labels
 one_row : {F : Type 0} (globals : List LabelText) (e : LiveSeries (Shared F)) (value : ℤ) → row_of_series e value (shown_label_set globals e.key.labels ++ []) ≡ row_of_series e value (shown_label_set globals e.key.labels)
 one_row globals e value = ap (row_of_series e value) (append-nil (shown_label_set globals e.key.labels))
 
--- the settings with names as they are
-abbrev plain : ExporterSettings → ExporterSettings
-plain settings = record settings { units = false; total_suffix = false }
+module _ {C G : Type 0} (settings : ExporterSettings) (t : ℕ) (registry : RegistryText (Shared C) (Shared G) Sampled) where
+  -- the families of distributions
+  abbrev pub sampled_families : List Family
+  sampled_families = filter_map (λ n. distribution_family (plain settings) (state_recorded registry) t n (distribution_of settings n)) (names_of_kind kinds.Histogram (state_recorded registry))
 
-module _ {C G H : Type 0} (settings : ExporterSettings) (t : ℕ) (registry : RegistryText (Shared C) (Shared G) H) where
-  families_are : pages.families_at (plain settings) t (state_seen registry) ≡ value_families types.Counter counter_shown settings.globals registry.counters ++ value_families types.Gauge gauge_shown settings.globals registry.gauges
+  families_are : pages.families_at (plain settings) t (state_recorded registry)
+      ≡ (value_families types.Counter counter_shown settings.globals registry.counters ++ value_families types.Gauge gauge_shown settings.globals registry.gauges) ++ sampled_families
   families_are =
-      append-nil _
-      ∙ (λ j.
-      families_of_kind counter_shown settings.globals (counter_rows (plain settings) (state_seen registry)) (λ e. one_row settings.globals e (counter_shown e.cell)) types.Counter registry.counters j
-      ++ families_of_kind gauge_shown settings.globals (gauge_rows (plain settings) (state_seen registry)) (λ e. one_row settings.globals e (gauge_shown e.cell)) types.Gauge registry.gauges j)
+      (λ j.
+      families_of_kind counter_shown settings.globals (counter_rows (plain settings) (state_recorded registry)) (λ e. one_row settings.globals e (counter_shown e.cell)) types.Counter registry.counters j
+      ++ families_of_kind gauge_shown settings.globals (gauge_rows (plain settings) (state_recorded registry)) (λ e. one_row settings.globals e (gauge_shown e.cell)) types.Gauge registry.gauges j
+      ++ sampled_families)
 
-  -- the body of the page is the text of the groups
-  pub body-values : NamesAsTheyAre settings → body_text (pages.families_at settings t (state_seen registry))
-      ≡ body_text (value_families types.Counter counter_shown settings.globals registry.counters) ++ body_text (value_families types.Gauge gauge_shown settings.globals registry.gauges)
+  -- the body of the page is the text of the groups, and that of the distributions
+  pub body-values : NamesAsTheyAre settings → body_text (pages.families_at settings t (state_recorded registry))
+      ≡ (body_text (value_families types.Counter counter_shown settings.globals registry.counters) ++ body_text (value_families types.Gauge gauge_shown settings.globals registry.gauges)) ++ body_text sampled_families
   body-values names =
-      (λ j. body_text (pages.families_at (record settings { units = names.units j; total_suffix = names.total_suffix j }) t (state_seen registry)))
+      (λ j. body_text (pages.families_at (record settings { units = names.units j; total_suffix = names.total_suffix j }) t (state_recorded registry)))
       ∙ ap body_text families_are
-      ∙ flat_map-append block_text (value_families types.Counter counter_shown settings.globals registry.counters) (value_families types.Gauge gauge_shown settings.globals registry.gauges)
+      ∙ flat_map-append block_text (value_families types.Counter counter_shown settings.globals registry.counters ++ value_families types.Gauge gauge_shown settings.globals registry.gauges) sampled_families
+      ∙ ap (λ l. l ++ body_text sampled_families)
+      (flat_map-append block_text (value_families types.Counter counter_shown settings.globals registry.counters) (value_families types.Gauge gauge_shown settings.globals registry.gauges))

@@ -2,6 +2,7 @@
 use Rattle.std.proofs.Common.{◌≡◌, ℕ, ◌+◌, ◌<◌, List, [], ◌∷◌, ◌++◌, map, take, drop, get_or, length, sym, ap, subst, ◌∙◌, append-nil, append_assoc}
 use Rattle.std.specs.Prelude.{Option, Some, flat_map, slice_get, option_map, ℤ}
 use Rattle.std.proofs.Common.{None}
+use Rattle.std.specs.List.{AllByRecursion}
 use Rattle.std.specs.Iterator.{Yields}
 use Rattle.std.specs.Map.Iter.{TakesFirst}
 use Rattle.std.proofs.lemmas.Grind.{flat_map-append}
@@ -86,3 +87,8 @@ before_end b y t f n a = simp append_assoc
 
 pub whole_block : (b y t f n : List ℕ) → (((b ++ y) ++ t) ++ f) ++ n ≡ b ++ (y ++ ((t ++ f) ++ n))
 whole_block b y t f n = simp append_assoc
+
+-- what holds of each thing that is seen holds of one in the middle
+pub all_yielded : {E X : Type 0} (Q : X → Type 0) (seen : E → X) (before after : List E) (e : E) → AllByRecursion Q (map seen (before ++ e ∷ after)) → Q (seen e)
+all_yielded Q seen [] after e all = all.0
+all_yielded Q seen (x ∷ before) after e all = all_yielded Q seen before after e all.1

@@ -6,15 +6,18 @@ use Rattle.metrics_core.specs.declared.kinds.SeriesId.{SeriesId}
 use Rattle.metrics_registry.specs.Live.{RegistryText, cell_of, with_cell}
 use Rattle.series_cells.specs.declared.counter.PromCounter.{PromCounter}
 use Rattle.series_cells.specs.declared.gauge.PromGauge.{PromGauge}
+use Rattle.histogram_series.specs.Entries.{TimedQueue}
+use Rattle.prom_format.specs.Names.{sanitized_metric_name}
 use Rattle.prom_format.specs.Pages.{Family, body_text}
 use Rattle.prom_exporter.specs.State.{PrometheusState, page_step}
-use Rattle.prom_exporter.specs.Families.{ExporterSettings, families_at}
+use Rattle.prom_exporter.specs.Families.{ExporterSettings, families_at, distribution_of}
 use Rattle.prom_exporter.specs.Shared.{Shared, IsHome, unused}
-use Rattle.prom_exporter.specs.Values.{state_seen}
+use Rattle.prom_exporter.specs.Sampled.{Sampled, IsAtRest, IsTimely, unsampled}
+use Rattle.prom_exporter.specs.Values.{state_seen, state_recorded}
 
 -- the live series, each with its cell
 abbrev pub Cells : Type 0
-Cells = RegistryText (Shared PromCounter) (Shared PromGauge) (Unit {0})
+Cells = RegistryText (Shared PromCounter) (Shared PromGauge) Sampled
 
 pub record Exporter : Type 0 where
   pub settings : ExporterSettings
@@ -27,6 +30,10 @@ no_cells = record { counters = []; gauges = []; histograms = []; made = 0 }
 -- the sequential state that the exporter has seen
 abbrev pub state_of : Exporter → PrometheusState
 state_of exporter = state_seen exporter.series
+
+-- the same as far as a page shows it, which has the samples that are recorded
+abbrev pub state_shown : Exporter → PrometheusState
+state_shown exporter = state_recorded exporter.series
 
 -- the settings of a new builder: quantiles 0, 0.5, 0.9, 0.95, 0.99, 0.999 and 1, three buckets of 20 seconds
 abbrev pub default_settings : ExporterSettings
@@ -51,9 +58,16 @@ settings_with globals = record default_settings { globals = globals }
 
 -- no pass of any cell is out
 abbrev pub AllHome : Exporter → Type 0
-AllHome exporter = All (λ series. IsHome series.cell) exporter.series.counters × All (λ series. IsHome series.cell) exporter.series.gauges
+AllHome exporter =
+    All (λ series. IsHome series.cell) exporter.series.counters
+    × All (λ series. IsHome series.cell) exporter.series.gauges
+    × All (λ series. IsAtRest series.cell) exporter.series.histograms
 
--- a new counter goes last, and a new gauge: its cell is one that nobody has called
+-- of each histogram the moments of the samples never fall, and none is after this moment
+abbrev pub AreTimely : ℕ → Exporter → Type 0
+AreTimely moment exporter = All (λ series. IsTimely moment series.cell) exporter.series.histograms
+
+-- a new counter goes last, a new gauge, and a new histogram, whose kind follows from its name: its cell is one that nobody has called
 abbrev pub AddsCounter : KeyText → Exporter → Exporter → Type 0
 AddsCounter key old new = (cell : PromCounter) × (new ≡ record old {
   series = record old.series {
@@ -70,7 +84,17 @@ AddsGauge key old new = (cell : PromGauge) × (new ≡ record old {
   };
 })
 
--- the counter with the id is live and changes so, and a gauge; nothing else does
+abbrev pub AddsHistogram : KeyText → Exporter → Exporter → Type 0
+AddsHistogram key old new = (queue : TimedQueue) × (new ≡ record old {
+  series = record old.series {
+    histograms =
+        old.series.histograms
+        ++ record { id = record { kind = kinds.Histogram; number = old.series.made }; key = key; cell = unsampled (distribution_of old.settings (sanitized_metric_name key.name)) queue } ∷ [];
+    made = old.series.made + 1;
+  };
+})
+
+-- the counter with the id is live and changes so, a gauge, and a histogram; nothing else does
 abbrev pub ChangesCounter : SeriesId → (Shared PromCounter → Shared PromCounter → Type 0) → Exporter → Exporter → Type 0
 ChangesCounter id changes old new =
     (s t : Shared PromCounter) × (cell_of id old.series.counters ≡ Some s) × changes s t
@@ -80,6 +104,11 @@ abbrev pub ChangesGauge : SeriesId → (Shared PromGauge → Shared PromGauge �
 ChangesGauge id changes old new =
     (s t : Shared PromGauge) × (cell_of id old.series.gauges ≡ Some s) × changes s t
     × (new ≡ record old { series = record old.series { gauges = with_cell id old.series.gauges t } })
+
+abbrev pub ChangesHistogram : SeriesId → (Sampled → Sampled → Type 0) → Exporter → Exporter → Type 0
+ChangesHistogram id changes old new =
+    (s t : Sampled) × (cell_of id old.series.histograms ≡ Some s) × changes s t
+    × (new ≡ record old { series = record old.series { histograms = with_cell id old.series.histograms t } })
 
 -- ---- pages
 
@@ -99,4 +128,4 @@ page_body moment exporter = body_shown exporter.settings moment (state_of export
 
 -- the body of the families that an exporter shows at a moment, as it is
 abbrev pub shown_body : ℕ → Exporter → List ℕ
-shown_body moment exporter = body_text (families_at exporter.settings moment (state_of exporter))
+shown_body moment exporter = body_text (families_at exporter.settings moment (state_shown exporter))

@@ -1,4 +1,4 @@
--- Counters and gauges as the exporter keeps them, and the state and the families that they make.
+-- Series as the exporter keeps them, and the state and the families that they make.
 use Rattle.std.specs.Prelude.{ℕ, List, [], ◌∷◌, ◌++◌, map, filter, ℤ, Option, None, bytes_eq, if◌then◌else◌}
 use Rattle.metrics_core.specs.Numbers.{whole}
 use Rattle.metrics_core.specs.Keys.{KeyText, LabelText}
@@ -11,6 +11,7 @@ use Rattle.prom_format.specs.declared.families.FamilyType.{FamilyType}
 use Rattle.prom_exporter.specs.State.{Series, PrometheusState}
 use Rattle.prom_exporter.specs.Families.{distinct}
 use Rattle.prom_exporter.specs.Shared.{Shared, calls_seen}
+use Rattle.prom_exporter.specs.Sampled.{Sampled, calls_known, calls_recorded}
 
 -- ---- the state
 
@@ -24,11 +25,11 @@ abbrev pub series_of : LiveSeries SeenCell → Series
 series_of series = record { number = series.id.number; key = series.key; calls = series.cell.calls; note = series.cell.note }
 
 -- the state of a registry, where nothing was described
-abbrev pub state_of : {H : Type 0} → RegistryText SeenCell SeenCell H → PrometheusState
+abbrev pub state_of : RegistryText SeenCell SeenCell SeenCell → PrometheusState
 state_of registry = record {
   counters = map series_of registry.counters;
   gauges = map series_of registry.gauges;
-  histograms = [];
+  histograms = map series_of registry.histograms;
   made = registry.made;
   published = [];
   pending = [];
@@ -41,17 +42,26 @@ seen_cell cell = record { calls = calls_seen cell; note = cell.note }
 abbrev pub seen_series : {F : Type 0} → LiveSeries (Shared F) → LiveSeries SeenCell
 seen_series series = record { id = series.id; key = series.key; cell = seen_cell series.cell }
 
-abbrev pub seen_registry : {C G H : Type 0} → RegistryText (Shared C) (Shared G) H → RegistryText SeenCell SeenCell H
-seen_registry registry = record {
+-- histograms, each with these calls
+abbrev pub sampled_series : (Sampled → List Call) → LiveSeries Sampled → LiveSeries SeenCell
+sampled_series calls series = record { id = series.id; key = series.key; cell = record { calls = calls series.cell; note = series.cell.note } }
+
+-- the registry, where these are the calls on histograms
+abbrev pub seen_registry : {C G : Type 0} → (Sampled → List Call) → RegistryText (Shared C) (Shared G) Sampled → RegistryText SeenCell SeenCell SeenCell
+seen_registry calls registry = record {
   counters = map seen_series registry.counters;
   gauges = map seen_series registry.gauges;
-  histograms = registry.histograms;
+  histograms = map (sampled_series calls) registry.histograms;
   made = registry.made;
 }
 
 -- the sequential state: the calls of a series are those of its cell's history that the exporter has seen
-abbrev pub state_seen : {C G H : Type 0} → RegistryText (Shared C) (Shared G) H → PrometheusState
-state_seen registry = state_of (seen_registry registry)
+abbrev pub state_seen : {C G : Type 0} → RegistryText (Shared C) (Shared G) Sampled → PrometheusState
+state_seen registry = state_of (seen_registry calls_known registry)
+
+-- the same as far as a page shows it: of a histogram the calls whose samples are recorded
+abbrev pub state_recorded : {C G : Type 0} → RegistryText (Shared C) (Shared G) Sampled → PrometheusState
+state_recorded registry = state_of (seen_registry calls_recorded registry)
 
 -- what a page shows of a counter and of a gauge, in billionths
 abbrev pub counter_shown : {F : Type 0} → Shared F → ℤ

@@ -7,21 +7,31 @@
 //!     exporter.render_to_write(rt, alloc, moment, &mut sink)?;
 #![tactic(auto)]
 
+mod body;
 mod builder;
 mod cells;
+mod distribution_pages;
 mod errors;
 mod heads;
+mod histograms;
+mod indices;
+mod lane_laws;
 mod lanes;
 mod laws;
 mod lent;
 mod pages;
 mod rows;
+mod sampled;
 mod settings;
 mod state;
 
 pub use builder::PrometheusBuilder;
 pub use errors::BuildError;
-pub use lanes::{LanePass, SeriesCell};
+pub use lane_laws::{
+    a_round_leaves_the_calls_of_a_value, a_round_leaves_the_pushes_of_a_histogram,
+    an_id_has_one_index, an_index_is_of_one_kind, series_have_their_indices,
+};
+pub use lanes::{LanePass, SeriesCell, SeriesEntry};
 pub use laws::{basic_page, given_back_is_seen, looking_forgets_nothing, pages_are_read};
 pub use lent::Lent;
 pub use state::PrometheusState;

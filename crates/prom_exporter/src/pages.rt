@@ -45,7 +45,7 @@ pub(crate) fn write_families<C: Shown, K: Sink>(
 }
 
 /// Appends the empty line behind a block.
-fn end_block(buffer: &mut String) -> Result<(), Memory>
+pub(crate) fn end_block(buffer: &mut String) -> Result<(), Memory>
     ensures { OnOk result (string_bytes buffer.new ≡ string_bytes buffer.old ++ line []) }
 {
     buffer.push('\n')?;
@@ -98,7 +98,7 @@ fn push_row<C: Shown>(
 }
 
 /// Sends what waits, where it fills a piece.
-fn send_full<K: Sink>(buffer: &mut String, sink: &mut K) -> Result<(), BuildError>
+pub(crate) fn send_full<K: Sink>(buffer: &mut String, sink: &mut K) -> Result<(), BuildError>
     ensures sent { (start : Option (List ℕ)) (bytes : List ℕ) → IsSent start (K.written sink.old) (string_bytes buffer.old) bytes
         → OnOk result (IsSent start (K.written sink.new) (string_bytes buffer.new) bytes) }
     ensures prefix { (start : Option (List ℕ)) (bytes : List ℕ) → IsSent start (K.written sink.old) (string_bytes buffer.old) bytes

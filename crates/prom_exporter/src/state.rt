@@ -1,8 +1,7 @@
 //! The state of the exporter: its live series of each kind, in order of registration.
 
-ghost use Rattle.std.specs.Prelude.{◌≡◌, ◌+◌, ◌-◌, ◌^◌, ◌<◌, ◌≤◌, ◌⊎◌, length, set, All, IfOk, IfErr, OnErr, OnOk, None, slice_get, true, unwrap_or};
+ghost use Rattle.std.specs.Prelude.{◌≡◌, ℕ, ◌-◌, ◌^◌, ◌<◌, ◌≤◌, ◌⊎◌, set, IfOk, IfErr, OnErr, OnOk, None, unwrap_or};
 ghost use Rattle.metrics_core.specs.declared.kinds.MetricKind.TheVariants.{Counter, Gauge};
-ghost use Rattle.metrics_registry.specs.Live.{IsNumbered};
 ghost use Rattle.metrics_core.specs.Outside.{Rose, GrewBy, GrewByPrefix};
 ghost use Rattle.prom_format.specs.LabelSets.{labels_of};
 ghost use Rattle.series_cells.specs.Pass.{view_of};
@@ -10,46 +9,37 @@ ghost use Rattle.prom_exporter.specs.State.{register, number_given, page_step};
 ghost use Rattle.prom_exporter.specs.Shared.{TakesBack};
 ghost use Rattle.prom_exporter.specs.Builder.{with_globals, SpanIsTooLong};
 ghost use Rattle.prom_exporter.specs.Kept.{NamesAsTheyAre};
-ghost use Rattle.prom_exporter.specs.Stepped.{IsNoted, AreNoted, Steps};
-ghost use Rattle.prom_exporter.specs.Exporter.{Exporter, state_of, no_cells, AllHome, AddsCounter, AddsGauge, ChangesCounter, ChangesGauge, page_body, shown_body};
-ghost use mathlib.Core.Option.{some};
-ghost use lib.ListN.{get_elem?};
-ghost use Rattle.legal_history.specs.History.{lender, child};
-ghost use Rattle.cell_lanes.specs.Things.{Thing, TookBack, root_of};
-ghost use Rattle.cell_lanes.specs.Lanes.{SettledAt};
-ghost use Rattle.metrics_core.specs.declared.calls.SeriesCall.{SeriesCall};
-ghost use Rattle.prom_exporter.specs.declared.lanes.SeriesCell.{SeriesCell};
-ghost use Rattle.prom_exporter.specs.LanePasses.{things_of, frame_of, ids_of, pass_known, IsPassOf, IsIndex};
+ghost use Rattle.prom_exporter.specs.Stepped.{IsNoted, AreNoted, Steps, DrainsEach, DrainsInPart};
+ghost use Rattle.prom_exporter.specs.Exporter.{Exporter, state_of, no_cells, AllHome, AddsCounter, AddsGauge, AreTimely, ChangesCounter, ChangesGauge, page_body, shown_body};
 ghost use Rattle.prom_exporter.specs.Lending.{LendsCounter, LendsGauge, LentCounter, LentGauge, HasNoCounter, HasNoGauge};
 
 use crate::BuildError;
 use crate::cells::{CounterCell, GaugeCell, new_counter, new_gauge};
-use crate::lanes::LanePass;
 use crate::lent::Lent;
-use crate::pages::write_families;
 use crate::rows::Rows;
+use crate::sampled::HistogramCell;
 use crate::settings::Settings;
 use distributions::DistributionBuilder;
 use indexmap::IndexMap;
-use metrics_core::{Key, Memory, MetricKind, SeriesId, Sink, write_whole};
+use metrics_core::{Key, Memory, MetricKind, SeriesId, Sink};
 use metrics_facade as facade;
 use metrics_registry::Registry;
-use prom_format::FamilyType;
 use series_cells::{CellPass, PromCounter, PromGauge};
 use std::alloc::Global;
 use std::marker::Model;
 use std::sync::Wait;
 
-/// The exporter: what it was built with, and its series. Each counter and each gauge is a cell that threads share, of which
-/// the exporter has the root pass; it lends passes of it and takes them back.
+/// The exporter: what it was built with, and its series. Each counter and each gauge is a cell that threads share, and each
+/// histogram a queue; the exporter has the root pass of each, lends passes of it and takes them back.
 #[derive(Drop)]
 pub struct PrometheusState {
-    globals: IndexMap<String, String>,
-    settings: Settings,
-    distributions: DistributionBuilder,
-    series: Registry<CounterCell, GaugeCell, ()>,
-    counter_rows: Rows,
-    gauge_rows: Rows,
+    pub(crate) globals: IndexMap<String, String>,
+    pub(crate) settings: Settings,
+    pub(crate) distributions: DistributionBuilder,
+    pub(crate) series: Registry<CounterCell, GaugeCell, HistogramCell>,
+    pub(crate) counter_rows: Rows,
+    pub(crate) gauge_rows: Rows,
+    pub(crate) histogram_rows: Rows,
 }
 
 impl Model for PrometheusState {
@@ -63,7 +53,7 @@ impl Model for PrometheusState {
 
     ghost use Rattle.prom_exporter.specs.Kept.{IsKept};
 
-    ghost invariant = { λ s. IsKept (with_globals s.settings (labels_of s.globals.entries)) s.distributions s.series s.counter_rows s.gauge_rows };
+    ghost invariant = { λ s. IsKept (with_globals s.settings (labels_of s.globals.entries)) s.distributions s.series s.counter_rows s.gauge_rows s.histogram_rows };
 }
 
 impl PrometheusState {
@@ -85,6 +75,7 @@ impl PrometheusState {
             series: Registry::new(alloc)?,
             counter_rows: Rows::new(alloc),
             gauge_rows: Rows::new(alloc),
+            histogram_rows: Rows::new(alloc),
         })
     }
 
@@ -256,143 +247,18 @@ impl PrometheusState {
         }
     }
 
-    /// The index under which lanes find a series: that of a counter among the counters, that of a gauge behind them. It is
-    /// `None` exactly where no counter and no gauge with the id is live.
-    pub fn index_of(&self, id: SeriesId) -> Option<usize>
-        ensures index { IsIndex id self.now result }
-        ensures numbered { IsNumbered self.now.series }
+    /// Makes the page step at a moment, in nanoseconds: drains the histograms, reads the other series, notes how many updates those
+    /// have that may fall idle, and removes those that are idle. Where memory is refused histograms were drained in part, and nothing
+    /// else was done.
+    fn step<R: Wait>(&mut self, rt: &R, alloc: Global, moment: u64) -> Result<(), Memory>
+        ensures steps { OnOk result (Steps moment self.old self.new) }
+        ensures refused { OnErr result (DrainsEach DrainsInPart self.old self.new) }
     {
-        if let Some(place) = self.series.place_of_counter(id) {
-            return Some(place);
-        }
-        let place = self.series.place_of_gauge(id)?;
-        Some(self.series.counter_count() + place)
-    }
-
-    /// The index of a series, as `index_of` answers it. The search begins at the place among those of its kind where the series
-    /// was found last, which `guess` keeps; it may be any number, and saves time alone.
-    pub fn index_near(&self, id: SeriesId, guess: &mut u32) -> Option<usize>
-        ensures index { IsIndex id self.now result }
-        ensures numbered { IsNumbered self.now.series }
-    {
-        let begin = self.begin_of(id.kind);
-        let near = begin.saturating_add(*guess as usize);
-        if self.stands_at(id, near) {
-            // The clause on numbers needs how many were made.
-            let _made = self.series.made();
-            return Some(near);
-        }
-        let index = self.index_of(id)?;
-        *guess = u32::try_from(index.saturating_sub(begin)).unwrap_or(0);
-        Some(index)
-    }
-
-    /// Whether the series with this index has the id.
-    fn stands_at(&self, id: SeriesId, index: usize) -> bool
-        ensures { result ≡ true → get_elem? (ids_of self.now) index ≡ some id }
-    {
-        match self.id_at(index) {
-            Some(own) => own == id,
-            None => false,
-        }
-    }
-
-    /// The id of the series with this index, if there is one.
-    fn id_at(&self, index: usize) -> Option<SeriesId>
-        ensures { result ≡ slice_get (ids_of self.now) index }
-    {
-        let counters = self.series.counter_count();
-        if index < counters {
-            self.series.counters().id(index)
-        } else {
-            self.series.gauges().id(index - counters)
-        }
-    }
-
-    /// Where the indices of the series of a kind begin.
-    fn begin_of(&self, kind: MetricKind) -> usize {
-        match kind {
-            MetricKind::Counter => 0,
-            MetricKind::Gauge | MetricKind::Histogram => self.series.counter_count(),
-        }
-    }
-
-    /// How many counters are live: the indices of gauges begin there.
-    pub fn counter_count(&self) -> usize
-        ensures count { result ≡ length self.now.series.counters }
-        ensures room { length self.now.series.counters + length self.now.series.gauges < 2 ^ 64 }
-        ensures numbered { IsNumbered self.now.series }
-    {
-        // The clause on numbers needs how many were made.
-        let _made = self.series.made();
-        self.series.counter_count()
-    }
-
-    /// Lends a new pass of the series with this index, counters first and gauges behind them, to a lane.
-    pub(crate) fn lend_to_lane(&mut self, alloc: Global, index: usize) -> Result<LanePass, Memory>
-        requires here { index < length (things_of self.old) }
-        ensures lent { IfOk result (λ lent. (t : Thing SeriesCall SeriesCell) → get_elem? (things_of self.old) index ≡ some t → IsPassOf t.fixed lent × (pass_known lent ≡ child t.root)) }
-        ensures out { OnOk result ((t : Thing SeriesCall SeriesCell) → get_elem? (things_of self.old) index ≡ some t → things_of self.new ≡ set (things_of self.old) index (record t { root = lender t.root })) }
-        ensures refused { OnErr result (things_of self.new ≡ things_of self.old) }
-        ensures frame { frame_of self.new ≡ frame_of self.old }
-    {
-        let counters = self.series.counter_count();
-        if index < counters {
-            let counter = self.series.counter_at(index).lend_to_lane(alloc)?;
-            Ok(LanePass::Counter(counter))
-        } else {
-            let gauge = self.series.gauge_at(index - counters).lend_to_lane(alloc)?;
-            Ok(LanePass::Gauge(gauge))
-        }
-    }
-
-    /// Takes a lane's pass of the series with this index back, and reads the series.
-    pub(crate) fn take_from_lane(&mut self, index: usize, lent: LanePass)
-        requires here { index < length (things_of self.old) }
-        requires lent { (t : Thing SeriesCall SeriesCell) → get_elem? (things_of self.old) index ≡ some t → IsPassOf t.fixed lent }
-        ensures taken { (t : Thing SeriesCall SeriesCell) → get_elem? (things_of self.old) index ≡ some t
-            → (u : Thing SeriesCall SeriesCell) × TookBack t.root (pass_known lent) u.root × (u.fixed ≡ t.fixed) × (things_of self.new ≡ set (things_of self.old) index u) }
-        ensures frame { frame_of self.new ≡ frame_of self.old }
-    {
-        let counters = self.series.counter_count();
-        match lent {
-            LanePass::Counter(counter) => {
-                if index < counters {
-                    self.series.counter_at(index).take_from_lane(counter);
-                }
-            }
-            LanePass::Gauge(gauge) => {
-                if index >= counters {
-                    self.series.gauge_at(index - counters).take_from_lane(gauge);
-                }
-            }
-        }
-    }
-
-    /// Reads the series with this index, counters first and gauges behind them. With no pass of it out, the exporter had seen
-    /// all of its history, so nothing changes.
-    pub(crate) fn read_one(&mut self, index: usize)
-        requires here { index < length (things_of self.old) }
-        requires home { (t : Thing SeriesCall SeriesCell) → get_elem? (things_of self.old) index ≡ some t → (t.root.number ≡ 0) × (t.root.out ≡ 0) }
-        ensures same { things_of self.new ≡ things_of self.old }
-        ensures settled { SettledAt root_of (things_of self.old) index }
-        ensures frame { frame_of self.new ≡ frame_of self.old }
-    {
-        let counters = self.series.counter_count();
-        if index < counters {
-            self.series.counter_at(index).read();
-        } else {
-            self.series.gauge_at(index - counters).read();
-        }
-    }
-
-    /// Makes the page step at a moment, in nanoseconds: reads every cell, notes how many updates those have that may fall idle,
-    /// and removes those that are idle. It takes no memory.
-    fn step(&mut self, moment: u64)
-        ensures { Steps moment self.old self.new }
-    {
+        self.run_upkeep(rt, alloc)?;
         self.step_counters(moment);
         self.step_gauges(moment);
+        self.step_histograms(moment);
+        Ok(())
     }
 
     /// Makes the page step of the counters.
@@ -430,70 +296,36 @@ impl PrometheusState {
     }
 
     /// Makes the page step at a moment, in nanoseconds, and writes the page's body (Prometheus text exposition format, version
-    /// 0.0.4). It shows each series that stays after a beginning of its cell's history that has all that the exporter had seen;
-    /// where no pass is out, after all calls ever made. Where an idle timeout is set, a series without an update for longer goes,
-    /// and passes of it that are out reach nothing of the exporter any more. After an error the step was made too; where the sink
-    /// fails a prefix of the body was written.
+    /// 0.0.4). It shows each series that stays after a beginning of its cell's history that has all that the exporter had seen, and of
+    /// a histogram the samples that are recorded; where no pass is out, after all calls ever made. Where an idle timeout is set, a
+    /// series without an update for longer goes, and passes of it that are out reach nothing of the exporter any more.
+    ///
+    /// After `WriteFault` the step was made too, and a prefix of the body was written. After `Memory` so, or histograms were drained in
+    /// part and nothing else happened: no sample is lost, and none counts twice.
     pub fn render_to_write<R: Wait, K: Sink>(
         &mut self,
-        _rt: &R,
+        rt: &R,
         alloc: Global,
         moment: u64,
         sink: &mut K,
     ) -> Result<(), BuildError>
-        ensures steps { Steps moment self.old self.new }
+        ensures steps { Steps moment self.old self.new ⊎ ((result ≡ Err BuildError.Memory) × DrainsEach DrainsInPart self.old self.new) }
         ensures home { AllHome self.old → AllHome self.new }
-        ensures stepped { AllHome self.old → state_of self.new ≡ page_step self.old.settings.idle moment (state_of self.old) }
-        ensures page { AllHome self.old → shown_body moment self.new ≡ page_body moment self.old }
+        ensures stepped { AllHome self.old → (state_of self.new ≡ page_step self.old.settings.idle moment (state_of self.old))
+            ⊎ ((result ≡ Err BuildError.Memory) × (state_of self.new ≡ state_of self.old)) }
+        ensures timely { (t : ℕ) → AllHome self.old → AreTimely t self.old → AreTimely t self.new }
 
-        ensures body { OnOk result (GrewBy (K.written sink.old) (K.written sink.new) (shown_body moment self.new)) }
-        ensures prefix { OnErr result (GrewByPrefix (K.written sink.old) (K.written sink.new) (shown_body moment self.new)) }
+        // What is shown of a histogram is defined where the moments of its samples never fall and none is after the page's moment.
+        ensures body { OnOk result (AreTimely moment self.new → GrewBy (K.written sink.old) (K.written sink.new) (shown_body moment self.new)) }
+        ensures prefix { OnErr result (AreTimely moment self.new → GrewByPrefix (K.written sink.old) (K.written sink.new) (shown_body moment self.new)) }
+        ensures page { OnOk result (AllHome self.old → AreTimely moment self.old → GrewBy (K.written sink.old) (K.written sink.new) (page_body moment self.old)) }
+        ensures page_prefix { OnErr result (AllHome self.old → AreTimely moment self.old → GrewByPrefix (K.written sink.old) (K.written sink.new) (page_body moment self.old)) }
 
         ensures errors { IfErr result (λ error. (error ≡ BuildError.WriteFault) ⊎ (error ≡ BuildError.Memory)) }
         ensures cause { result ≡ Err BuildError.WriteFault → Rose (K.faults sink.old) (K.faults sink.new) }
         ensures never_falls { K.faults sink.old ≤ K.faults sink.new }
     {
-        self.step(moment);
+        self.step(rt, alloc, moment)?;
         self.write_body(alloc, moment, sink)
-    }
-
-    /// Writes the body of the families that the exporter shows at a moment, as it is.
-    fn write_body<K: Sink>(
-        &mut self,
-        alloc: Global,
-        moment: u64,
-        sink: &mut K,
-    ) -> Result<(), BuildError>
-        ensures same { self.new ≡ self.old }
-        ensures body { OnOk result (GrewBy (K.written sink.old) (K.written sink.new) (shown_body moment self.old)) }
-        ensures prefix { OnErr result (GrewByPrefix (K.written sink.old) (K.written sink.new) (shown_body moment self.old)) }
-        ensures errors { IfErr result (λ error. (error ≡ BuildError.WriteFault) ⊎ (error ≡ BuildError.Memory)) }
-        ensures cause { result ≡ Err BuildError.WriteFault → Rose (K.faults sink.old) (K.faults sink.new) }
-        ensures never_falls { K.faults sink.old ≤ K.faults sink.new }
-    {
-        let (counter_count, gauge_count) = (self.series.counter_count(), self.series.gauge_count());
-        let counters = self.series.counters();
-        self.counter_rows
-            .catch_up(alloc, &counters, counter_count, &self.globals)?;
-        let gauges = self.series.gauges();
-        self.gauge_rows
-            .catch_up(alloc, &gauges, gauge_count, &self.globals)?;
-        let mut buffer = String::new(alloc);
-        write_families(
-            FamilyType::Counter,
-            &self.counter_rows,
-            &counters,
-            &mut buffer,
-            sink,
-        )?;
-        write_families(
-            FamilyType::Gauge,
-            &self.gauge_rows,
-            &gauges,
-            &mut buffer,
-            sink,
-        )?;
-        write_whole(sink, buffer.as_bytes())?;
-        Ok(())
     }
 }

@@ -6,4 +6,4 @@ pub returns-in-Some : goal.returns-in-Some
 returns-in-Some c = record { taken = rw (← c.self.view_is) (inr (c.in-Some.gauge.now, c.take_back.new.self, sym c.in-Some.ensures.value, c.take_back.ensures, refl)) }
 
 pub invariant_of-self : goal.invariant_of-self
-invariant_of-self c = kept_same _ _ c.self.inside.series _ _ _ c.self.invariant refl (keys-with_cell _ c.self.inside.series.gauges _)
+invariant_of-self c = kept_same _ _ c.self.inside.series _ _ _ _ c.self.invariant refl (keys-with_cell _ c.self.inside.series.gauges _) refl c.self.invariant.sampled

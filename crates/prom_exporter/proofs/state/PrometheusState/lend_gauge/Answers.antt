@@ -30,7 +30,7 @@ returns-clause-lent c =
     )
 
 pub invariant_of-self-in_err-cell : goal.invariant_of-self-in_err-cell
-invariant_of-self-in_err-cell c = kept_same _ _ c.self.inside.series _ _ _ c.self.invariant refl (keys-with_cell c.args.id c.self.inside.series.gauges _)
+invariant_of-self-in_err-cell c = kept_same _ _ c.self.inside.series _ _ _ _ c.self.invariant refl (keys-with_cell c.args.id c.self.inside.series.gauges _) refl c.self.invariant.sampled
 
 pub invariant_of-self-2 : goal.invariant_of-self-2
-invariant_of-self-2 c = kept_same _ _ c.self.inside.series _ _ _ c.self.invariant refl (keys-with_cell c.args.id c.self.inside.series.gauges _)
+invariant_of-self-2 c = kept_same _ _ c.self.inside.series _ _ _ _ c.self.invariant refl (keys-with_cell c.args.id c.self.inside.series.gauges _) refl c.self.invariant.sampled

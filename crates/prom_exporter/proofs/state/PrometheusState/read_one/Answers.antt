@@ -1,55 +1,74 @@
-use Rattle.std.proofs.Common.{◌≡◌, ◌-◌, ◌≤◌, length, refl, ap, subst, ◌∙◌, arith}
-use Rattle.std.specs.Prelude.{option_map, slice_get, Some}
-use mathlib.Core.Option.{some}
-use lib.ListN.{get_elem?}
-use Rattle.legal_history.specs.History.{Settled}
-use Rattle.cell_lanes.specs.Things.{Thing}
-use Rattle.metrics_registry.specs.Live.{LiveSeries}
-use Rattle.metrics_registry.specs.Places.{with_cell_at}
-use Rattle.series_cells.specs.declared.gauge.PromGauge.{PromGauge}
-use Rattle.prom_exporter.specs.Shared.{Shared}
-use Rattle.prom_exporter.specs.LanePasses.{things_of}
+use Rattle.std.proofs.Common.{sym, ap, subst}
+use Rattle.prom_exporter.specs.declared.indices.Place.TheVariants as places
+use Rattle.prom_exporter.specs.Sampled.{Sampled}
+use Rattle.prom_exporter.specs.LanePasses.{StandsAt, of_histogram, things_of, frame_of}
 use Rattle.prom_exporter.specs.contracts.state.PrometheusState.{the_view}
-use Rattle.prom_exporter.proofs.Home.{looks-home}
-use Rattle.prom_exporter.proofs.LaneThings.{counter_frame, gauge_frame, things_in, of_counter, of_gauge, counter_here, counter_same, gauge_here, gauge_same, is_one}
-use Rattle.prom_exporter.proofs.KeptRows.{keys-with_cell_at, kept_same}
+use Rattle.prom_exporter.proofs.LaneThings.{HomeAt, histogram_here, counter_reads, gauge_reads, histogram_settles}
+use Rattle.prom_exporter.proofs.KeptCells.{counter_cell_kept, gauge_cell_kept, histogram_cell_kept}
 use Rattle.prom_exporter.proofs.state.PrometheusState.read_one.Goals as goal
 
-pub returns-then-index-counters : goal.returns-then-index-counters
-returns-then-index-counters c =
-    let series = c.self.inside.series in
-    let cell = c.counter_at.result.now in
-    let new = c.read.new.self in
-    let looks = c.read.ensures in
-    let at = counter_here series c.args.index cell c.counter_at.ensures.value in
-    let home = c.requires.home (of_counter cell) (subst (λ e. get_elem? (things_of e) c.args.index ≡ some (of_counter cell)) c.self.view_is at) in
-    let same : new ≡ cell = looks-home cell new home looks in
-    rw (← c.self.view_is) (record {
-      same = ap (λ x. things_in (record series { counters = with_cell_at series.counters c.args.index x })) same ∙ counter_same series c.args.index cell c.counter_at.ensures.value;
-      settled = λ t e. subst (λ (x : Thing _ _). Settled x.root) (is_one series c.args.index (of_counter cell) t at e) (looks.1.whole home.0 home.1).1;
-      frame = counter_frame (the_view c.self.inside) c.args.index cell new c.counter_at.ensures.value (ap (λ (x : Shared _). x.cell) same) (ap (λ (x : Shared _). x.note) same);
-    })
-
-pub returns-else-index-counters : goal.returns-else-index-counters
-returns-else-index-counters c =
-    let series = c.self.inside.series in
-    let cell = c.gauge_at.result.now in
-    let new = c.read-else-index-counters.new.self in
-    let looks = c.read-else-index-counters.ensures in
-    let past = c.if-index-counters.false in
-    let least : length series.counters ≤ c.args.index = omega (arith, past, c.counter_count-counters.ensures.count) in
-    let value = subst (λ n. option_map (λ (s : LiveSeries (Shared PromGauge)). s.cell) (slice_get series.gauges (c.args.index - n)) ≡ Some cell) c.counter_count-counters.ensures.count c.gauge_at.ensures.value in
-    let at = gauge_here series c.args.index cell least value in
-    let home = c.requires.home (of_gauge cell) (subst (λ e. get_elem? (things_of e) c.args.index ≡ some (of_gauge cell)) c.self.view_is at) in
-    let same : new ≡ cell = looks-home cell new home looks in
-    rw (← c.self.view_is) (record {
-      same = ap (λ x. things_in (record series { gauges = with_cell_at series.gauges (c.args.index - c.counter_count-counters.result) x })) same ∙ gauge_same series (c.args.index - c.counter_count-counters.result) cell c.gauge_at.ensures.value;
-      settled = λ t e. subst (λ (x : Thing _ _). Settled x.root) (is_one series c.args.index (of_gauge cell) t at e) (looks.1.whole home.0 home.1).1;
-      frame = gauge_frame (the_view c.self.inside) (c.args.index - c.counter_count-counters.result) cell new c.gauge_at.ensures.value (ap (λ (x : Shared _). x.cell) same) (ap (λ (x : Shared _). x.note) same);
-    })
-
 pub invariant_of-self : goal.invariant_of-self
-invariant_of-self c = kept_same _ _ c.self.inside.series _ _ _ c.self.invariant (keys-with_cell_at c.self.inside.series.counters c.args.index c.read.new.self) refl
+invariant_of-self g c = counter_cell_kept _ _ c.self.inside.series _ _ _ c.self.invariant c.in-Counter.place c.read.new.self
 
-pub invariant_of-self-else-index-counters : goal.invariant_of-self-else-index-counters
-invariant_of-self-else-index-counters c = kept_same _ _ c.self.inside.series _ _ _ c.self.invariant refl (keys-with_cell_at c.self.inside.series.gauges (c.args.index - c.counter_count-counters.result) c.read-else-index-counters.new.self)
+pub returns-in-Counter-clause-same : goal.returns-in-Counter-clause-same
+returns-in-Counter-clause-same g c =
+    let at = subst (λ e. StandsAt c.args.index e (places.Counter c.in-Counter.place)) (sym c.self.view_is) c.in-Counter.ensures in
+    let home = subst (λ e. HomeAt e c.args.index) (sym c.self.view_is) c.requires.home in
+    rw (← c.self.view_is) (ap things_of (counter_reads (the_view c.self.inside) c.args.index c.in-Counter.place c.counter_at.result.now c.read.new.self at.0 c.counter_at.ensures.value home c.read.ensures).0)
+
+pub returns-in-Counter-clause-settled : goal.returns-in-Counter-clause-settled
+returns-in-Counter-clause-settled g c =
+    let at = subst (λ e. StandsAt c.args.index e (places.Counter c.in-Counter.place)) (sym c.self.view_is) c.in-Counter.ensures in
+    let home = subst (λ e. HomeAt e c.args.index) (sym c.self.view_is) c.requires.home in
+    rw (← c.self.view_is) (counter_reads (the_view c.self.inside) c.args.index c.in-Counter.place c.counter_at.result.now c.read.new.self at.0 c.counter_at.ensures.value home c.read.ensures).1
+
+pub returns-in-Counter-clause-frame : goal.returns-in-Counter-clause-frame
+returns-in-Counter-clause-frame g c =
+    let at = subst (λ e. StandsAt c.args.index e (places.Counter c.in-Counter.place)) (sym c.self.view_is) c.in-Counter.ensures in
+    let home = subst (λ e. HomeAt e c.args.index) (sym c.self.view_is) c.requires.home in
+    rw (← c.self.view_is) (ap frame_of (counter_reads (the_view c.self.inside) c.args.index c.in-Counter.place c.counter_at.result.now c.read.new.self at.0 c.counter_at.ensures.value home c.read.ensures).0)
+
+pub invariant_of-self-in-Gauge : goal.invariant_of-self-in-Gauge
+invariant_of-self-in-Gauge g c = gauge_cell_kept _ _ c.self.inside.series _ _ _ c.self.invariant c.in-Gauge.place c.read-in-Gauge.new.self
+
+pub returns-in-Gauge-clause-same : goal.returns-in-Gauge-clause-same
+returns-in-Gauge-clause-same g c =
+    let at = subst (λ e. StandsAt c.args.index e (places.Gauge c.in-Gauge.place)) (sym c.self.view_is) c.in-Gauge.ensures in
+    let home = subst (λ e. HomeAt e c.args.index) (sym c.self.view_is) c.requires.home in
+    rw (← c.self.view_is) (ap things_of (gauge_reads (the_view c.self.inside) c.args.index c.in-Gauge.place c.gauge_at.result.now c.read-in-Gauge.new.self at.0 c.gauge_at.ensures.value home c.read-in-Gauge.ensures).0)
+
+pub returns-in-Gauge-clause-settled : goal.returns-in-Gauge-clause-settled
+returns-in-Gauge-clause-settled g c =
+    let at = subst (λ e. StandsAt c.args.index e (places.Gauge c.in-Gauge.place)) (sym c.self.view_is) c.in-Gauge.ensures in
+    let home = subst (λ e. HomeAt e c.args.index) (sym c.self.view_is) c.requires.home in
+    rw (← c.self.view_is) (gauge_reads (the_view c.self.inside) c.args.index c.in-Gauge.place c.gauge_at.result.now c.read-in-Gauge.new.self at.0 c.gauge_at.ensures.value home c.read-in-Gauge.ensures).1
+
+pub returns-in-Gauge-clause-frame : goal.returns-in-Gauge-clause-frame
+returns-in-Gauge-clause-frame g c =
+    let at = subst (λ e. StandsAt c.args.index e (places.Gauge c.in-Gauge.place)) (sym c.self.view_is) c.in-Gauge.ensures in
+    let home = subst (λ e. HomeAt e c.args.index) (sym c.self.view_is) c.requires.home in
+    rw (← c.self.view_is) (ap frame_of (gauge_reads (the_view c.self.inside) c.args.index c.in-Gauge.place c.gauge_at.result.now c.read-in-Gauge.new.self at.0 c.gauge_at.ensures.value home c.read-in-Gauge.ensures).0)
+
+pub invariant_of-self-in-Histogram : goal.invariant_of-self-in-Histogram
+invariant_of-self-in-Histogram g c = histogram_cell_kept _ _ c.self.inside.series _ _ _ c.self.invariant c.in-Histogram.place c.histogram_at.result.now c.settle.new.self c.histogram_at.ensures.value (ap (λ (x : Sampled). x.series.kind) c.settle.ensures.same)
+
+pub settle-requires : goal.settle-requires
+settle-requires g c =
+    let at = subst (λ e. StandsAt c.args.index e (places.Histogram c.in-Histogram.place)) (sym c.self.view_is) c.in-Histogram.ensures in
+    let home = subst (λ e. HomeAt e c.args.index) (sym c.self.view_is) c.requires.home in
+    home (of_histogram c.histogram_at.result.now) (histogram_here (the_view c.self.inside) c.args.index c.in-Histogram.place c.histogram_at.result.now at c.histogram_at.ensures.value)
+
+pub returns-in-Histogram-clause-same : goal.returns-in-Histogram-clause-same
+returns-in-Histogram-clause-same g c =
+    let at = subst (λ e. StandsAt c.args.index e (places.Histogram c.in-Histogram.place)) (sym c.self.view_is) c.in-Histogram.ensures in
+    rw (← c.self.view_is) (ap things_of (histogram_settles (the_view c.self.inside) c.args.index c.in-Histogram.place c.histogram_at.result.now c.settle.new.self at c.histogram_at.ensures.value c.settle.ensures.same c.settle.ensures.settled).0)
+
+pub returns-in-Histogram-clause-settled : goal.returns-in-Histogram-clause-settled
+returns-in-Histogram-clause-settled g c =
+    let at = subst (λ e. StandsAt c.args.index e (places.Histogram c.in-Histogram.place)) (sym c.self.view_is) c.in-Histogram.ensures in
+    rw (← c.self.view_is) (histogram_settles (the_view c.self.inside) c.args.index c.in-Histogram.place c.histogram_at.result.now c.settle.new.self at c.histogram_at.ensures.value c.settle.ensures.same c.settle.ensures.settled).1
+
+pub returns-in-Histogram-clause-frame : goal.returns-in-Histogram-clause-frame
+returns-in-Histogram-clause-frame g c =
+    let at = subst (λ e. StandsAt c.args.index e (places.Histogram c.in-Histogram.place)) (sym c.self.view_is) c.in-Histogram.ensures in
+    rw (← c.self.view_is) (ap frame_of (histogram_settles (the_view c.self.inside) c.args.index c.in-Histogram.place c.histogram_at.result.now c.settle.new.self at c.histogram_at.ensures.value c.settle.ensures.same c.settle.ensures.settled).0)

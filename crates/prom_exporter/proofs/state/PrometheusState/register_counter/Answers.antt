@@ -4,6 +4,7 @@ use Rattle.metrics_core.specs.Keys.{KeyText}
 use Rattle.metrics_core.specs.declared.kinds.MetricKind.TheVariants.{Counter}
 use Rattle.prom_exporter.specs.Exporter.{AddsCounter}
 use Rattle.prom_exporter.specs.Values.{seen_registry}
+use Rattle.prom_exporter.specs.Sampled.{calls_known}
 use Rattle.prom_exporter.proofs.Seen.{id_of_key-seen, is_numbered-seen}
 use Rattle.prom_exporter.proofs.States.{register-live, id-live}
 use Rattle.prom_exporter.proofs.state.PrometheusState.register_counter.Goals as goal
@@ -12,13 +13,13 @@ pub returns-in-Some-clause-registered : goal.returns-in-Some-clause-registered
 returns-in-Some-clause-registered c =
     let series = c.self.inside.series in
     let found = id_of_key-seen c.args.key.now series.counters ∙ sym c.in-Some.ensures in
-    rw (← c.self.view_is) (sym (register-live Counter c.args.key.now (seen_registry series) c.in-Some.id found))
+    rw (← c.self.view_is) (sym (register-live Counter c.args.key.now (seen_registry calls_known series) c.in-Some.id found))
 
 pub returns-in-Some-clause-id : goal.returns-in-Some-clause-id
 returns-in-Some-clause-id c =
     let series = c.self.inside.series in
     let found = id_of_key-seen c.args.key.now series.counters ∙ sym c.in-Some.ensures in
-    rw (← c.self.view_is) (id-live Counter c.args.key.now (seen_registry series) series.made c.in-Some.id (is_numbered-seen series c.made-made.ensures.numbered).counters.1 found)
+    rw (← c.self.view_is) (id-live Counter c.args.key.now (seen_registry calls_known series) series.made c.in-Some.id (is_numbered-seen calls_known series c.made-made.ensures.numbered).counters.1 found)
 
 pub returns-clause-cells : goal.returns-clause-cells
 returns-clause-cells c =

@@ -1,19 +1,16 @@
-use Rattle.std.proofs.Common.{sym, ap, subst, ◌∙◌}
-use Rattle.metrics_core.specs.declared.kinds.MetricKind.TheVariants.{Counter, Gauge}
-use Rattle.prom_exporter.specs.Exporter.{Exporter}
-use Rattle.prom_exporter.specs.Stepped.{AreNoted}
+use Rattle.std.proofs.lemmas.Result.{err_from_is_err_and}
+use Rattle.prom_exporter.proofs.Stepping.{steps_made}
 use Rattle.prom_exporter.proofs.state.PrometheusState.step.Goals as goal
 
-pub returns : goal.returns
-returns c =
-    let old = c.args.self.now in
-    let new = c.step_gauges.new.self in
+pub returns-in_err-run_upkeep-clause-refused : goal.returns-in_err-run_upkeep-clause-refused
+returns-in_err-run_upkeep-clause-refused g c =
+    let refusal = err_from_is_err_and c.from_residual.result c.from_residual.ensures.1 in
+    rw refusal.1 c.in_err-run_upkeep.ensures.refused
+
+pub returns-clause-steps : goal.returns-clause-steps
+returns-clause-steps g c =
     let counted = c.step_counters.ensures in
     let gauged = c.step_gauges.ensures in
-    record {
-      settings = ap (λ (e : Exporter). e.settings) gauged.others ∙ ap (λ (e : Exporter). e.settings) counted.others;
-      counters = subst (AreNoted old.settings.idle c.args.moment Counter old.series.counters) (sym (ap (λ (e : Exporter). e.series.counters) gauged.others)) counted.noted;
-      gauges = subst (λ (e : Exporter). AreNoted e.settings.idle c.args.moment Gauge e.series.gauges new.series.gauges) counted.others gauged.noted;
-      histograms = ap (λ (e : Exporter). e.series.histograms) gauged.others ∙ ap (λ (e : Exporter). e.series.histograms) counted.others;
-      made = ap (λ (e : Exporter). e.series.made) gauged.others ∙ ap (λ (e : Exporter). e.series.made) counted.others;
-    }
+    let sampled = c.step_histograms.ensures in
+    steps_made c.args.moment c.args.self.now c.run_upkeep.new.self c.step_counters.new.self c.step_gauges.new.self c.step_histograms.new.self
+    c.in_ok-run_upkeep.ensures.drained counted.noted counted.others gauged.noted gauged.others sampled.counted sampled.others

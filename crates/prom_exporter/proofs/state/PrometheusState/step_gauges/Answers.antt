@@ -1,8 +1,11 @@
-use Rattle.std.proofs.Common.{◌≡◌, ℕ, ◌≤◌, length, Option, None, refl, ap, subst, ◌∙◌, arith}
+use Rattle.std.proofs.Common.{◌≡◌, ℕ, ◌≤◌, length, Option, None, refl, sym, ap, subst, ◌∙◌, arith}
 use Rattle.std.specs.Prelude.{unwrap_or}
 use Rattle.metrics_core.specs.declared.kinds.MetricKind.TheVariants.{Gauge}
 use Rattle.metrics_registry.specs.Recency.{Idle}
+use Rattle.prom_format.specs.LabelSets.{labels_of}
+use Rattle.prom_exporter.specs.Builder.{with_globals}
 use Rattle.prom_exporter.specs.Exporter.{Cells}
+use Rattle.prom_exporter.specs.Kept.{HaveKinds}
 use Rattle.prom_exporter.specs.Rows.{keys_of}
 use Rattle.prom_exporter.specs.Stepped.{IsNoted, AreNoted}
 use Rattle.prom_exporter.proofs.KeptRows.{kept_same}
@@ -37,5 +40,6 @@ invariant_of-self-else-gauge_count-count c =
     )) _ _ _ _ refl c.retain_gauges.ensures.retained.1) in
     let past = c.if-gauge_count-count.false in
     let many : length series.gauges ≤ length now.gauges = omega (arith, past, c.gauge_count-count.ensures, c.gauge_count.ensures) in
-    kept_same _ _ series now _ _ c.self.invariant
+    kept_same _ _ series now _ _ _ c.self.invariant
     (ap (λ (cells : Cells). keys_of cells.counters) c.retain_gauges.ensures.others) (noted_keys c.self.inside.settings.idle c.args.moment Gauge series.gauges now.gauges noted many)
+    (ap (λ (cells : Cells). keys_of cells.histograms) c.retain_gauges.ensures.others) (subst (HaveKinds (with_globals c.self.inside.settings (labels_of c.self.inside.globals.entries))) (sym (ap (λ (cells : Cells). cells.histograms) c.retain_gauges.ensures.others)) c.self.invariant.sampled)

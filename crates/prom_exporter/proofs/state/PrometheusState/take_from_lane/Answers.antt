@@ -1,84 +1,117 @@
-use Rattle.std.proofs.Common.{◌≡◌, ◌-◌, ◌≤◌, ◌<◌, length, refl, sym, ap, subst, ◌∙◌, arith}
-use Rattle.std.specs.Prelude.{option_map, slice_get, Some}
+use Rattle.std.proofs.Common.{◌-◌, ◌+◌, ◌<◌, length, refl, sym, ap, subst}
 use mathlib.Core.Option.{some}
 use lib.ListN.{get_elem?}
-use Rattle.metrics_registry.specs.Live.{LiveSeries}
-use Rattle.metrics_registry.specs.Places.{with_cell_at}
-use Rattle.series_cells.specs.declared.gauge.PromGauge.{PromGauge}
-use Rattle.prom_exporter.specs.declared.lanes.SeriesCell.TheVariants as cells
-use Rattle.prom_exporter.specs.Shared.{Shared}
-use Rattle.prom_exporter.specs.LanePasses.{IsPassOf, things_of}
+use Rattle.prom_exporter.specs.declared.lanes.LanePass.TheVariants as passes
+use Rattle.prom_exporter.specs.Sampled.{Sampled}
+use Rattle.prom_exporter.specs.LanePasses.{IsPassOf, of_counter, of_gauge, of_histogram, things_of}
 use Rattle.prom_exporter.specs.contracts.state.PrometheusState.{the_view}
-use Rattle.prom_exporter.proofs.LaneThings.{counter_frame, gauge_frame, things_in, of_counter, of_gauge, counter_here, counter_put, counter_found, gauge_here, gauge_put, gauge_found, is_one, took_back}
-use Rattle.prom_exporter.proofs.KeptRows.{keys-with_cell_at, kept_same}
+use Rattle.prom_exporter.proofs.LaneThings.{IsPassHere, counter_here, gauge_here, histogram_here, counter_place, gauge_place, histogram_place, gauge_counted, histogram_counted, counter_takes_back, gauge_takes_back, histogram_takes_back}
+use Rattle.prom_exporter.proofs.KeptCells.{counter_cell_kept, gauge_cell_kept, histogram_cell_kept}
 use Rattle.prom_exporter.proofs.state.PrometheusState.take_from_lane.Goals as goal
+
+pub counter_at-requires : goal.counter_at-requires
+counter_at-requires c =
+    let below = subst (λ e. c.args.index < length (things_of e)) (sym c.self.view_is) c.requires.here in
+    let owned : IsPassHere (the_view c.self.inside) (passes.Counter c.in-Counter.counter) c.args.index = subst (λ p. IsPassHere (the_view c.self.inside) p c.args.index) c.in-Counter.is (subst (λ e. IsPassHere e c.args.lent c.args.index) (sym c.self.view_is) c.requires.lent) in
+    let at = counter_place (the_view c.self.inside) c.args.index c.in-Counter.counter below owned in
+    at
 
 pub take_from_lane-requires-clause-lent : goal.take_from_lane-requires-clause-lent
 take_from_lane-requires-clause-lent c κs =
-    let at = counter_here c.self.inside.series c.args.index c.counter_at.result.now c.counter_at.ensures.value in
-    subst (IsPassOf (cells.Counter c.counter_at.result.now.cell)) c.in-Counter.is (c.requires.lent (of_counter c.counter_at.result.now) (subst (λ e. get_elem? (things_of e) c.args.index ≡ some (of_counter c.counter_at.result.now)) c.self.view_is at))
-
-pub take_from_lane-requires-then-index-counters-2-clause-lent : goal.take_from_lane-requires-then-index-counters-2-clause-lent
-take_from_lane-requires-then-index-counters-2-clause-lent c κs =
-    let series = c.self.inside.series in
-    let cell = c.gauge_at.result.now in
-    let least : length series.counters ≤ c.args.index = subst (λ n. n ≤ c.args.index) c.counter_count-counters.ensures.count c.if-index-counters-2.true in
-    let value = subst (λ n. option_map (λ (s : LiveSeries (Shared PromGauge)). s.cell) (slice_get series.gauges (c.args.index - n)) ≡ Some cell) c.counter_count-counters.ensures.count c.gauge_at.ensures.value in
-    let at = gauge_here series c.args.index cell least value in
-    subst (IsPassOf (cells.Gauge cell.cell)) c.in-Gauge.is (c.requires.lent (of_gauge cell) (subst (λ e. get_elem? (things_of e) c.args.index ≡ some (of_gauge cell)) c.self.view_is at))
-
-pub returns-then-index-counters : goal.returns-then-index-counters
-returns-then-index-counters c =
-    let series = c.self.inside.series in
-    let cell = c.counter_at.result.now in
-    let new = c.take_from_lane.new.self in
-    let below = c.if-index-counters.true in
-    let took = took_back cell new c.in-Counter.counter.knows c.take_from_lane.ensures in
-    rw (← c.self.view_is, c.in-Counter.is) (record {
-      frame = counter_frame (the_view c.self.inside) c.args.index cell new c.counter_at.ensures.value took.1 took.2;
-      taken = λ t e.
-          rw (← is_one series c.args.index _ t (counter_here series c.args.index cell c.counter_at.ensures.value) e)
-          (of_counter new, took.0, ap cells.Counter took.1, counter_put series c.args.index new (subst (λ n. c.args.index < n) c.counter_count-counters.ensures.count below));
-    })
-
-pub returns-else-index-counters : goal.returns-else-index-counters
-returns-else-index-counters c =
-    let series = c.self.inside.series in
-    let least : length series.counters ≤ c.args.index = (let past = c.if-index-counters.false in omega (arith, past, c.counter_count-counters.ensures.count)) in
-    let found = gauge_found series c.args.index least (subst (λ e. c.args.index < length (things_of e)) (sym c.self.view_is) c.requires.here) in
-    let lent = c.requires.lent (of_gauge found.0) (subst (λ e. get_elem? (things_of e) c.args.index ≡ some (of_gauge found.0)) c.self.view_is found.1) in
-    absurd (subst (IsPassOf (cells.Gauge found.0.cell)) c.in-Counter.is lent)
-
-pub returns-then-index-counters-2 : goal.returns-then-index-counters-2
-returns-then-index-counters-2 c =
-    let series = c.self.inside.series in
-    let cell = c.gauge_at.result.now in
-    let new = c.take_from_lane-then-index-counters-2.new.self in
-    let least : length series.counters ≤ c.args.index = subst (λ n. n ≤ c.args.index) c.counter_count-counters.ensures.count c.if-index-counters-2.true in
-    let value = subst (λ n. option_map (λ (s : LiveSeries (Shared PromGauge)). s.cell) (slice_get series.gauges (c.args.index - n)) ≡ Some cell) c.counter_count-counters.ensures.count c.gauge_at.ensures.value in
-    let took = took_back cell new c.in-Gauge.gauge.knows c.take_from_lane-then-index-counters-2.ensures in
-    rw (← c.self.view_is, c.in-Gauge.is) (record {
-      frame = gauge_frame (the_view c.self.inside) (c.args.index - c.counter_count-counters.result) cell new c.gauge_at.ensures.value took.1 took.2;
-      taken = λ t e.
-          rw (← is_one series c.args.index _ t (gauge_here series c.args.index cell least value) e) (
-            of_gauge new,
-            took.0,
-            ap cells.Gauge took.1,
-            ap (λ n. things_in (record series { gauges = with_cell_at series.gauges (c.args.index - n) new })) c.counter_count-counters.ensures.count ∙ gauge_put series c.args.index new least,
-          );
-    })
-
-pub returns-else-index-counters-2 : goal.returns-else-index-counters-2
-returns-else-index-counters-2 c =
-    let series = c.self.inside.series in
-    let below : c.args.index < length series.counters = (let past = c.if-index-counters-2.false in omega (arith, past, c.counter_count-counters.ensures.count)) in
-    let found = counter_found series c.args.index below in
-    let lent = c.requires.lent (of_counter found.0) (subst (λ e. get_elem? (things_of e) c.args.index ≡ some (of_counter found.0)) c.self.view_is found.1) in
-    absurd (subst (IsPassOf (cells.Counter found.0.cell)) c.in-Gauge.is lent)
+    let below = subst (λ e. c.args.index < length (things_of e)) (sym c.self.view_is) c.requires.here in
+    let owned : IsPassHere (the_view c.self.inside) (passes.Counter c.in-Counter.counter) c.args.index = subst (λ p. IsPassHere (the_view c.self.inside) p c.args.index) c.in-Counter.is (subst (λ e. IsPassHere e c.args.lent c.args.index) (sym c.self.view_is) c.requires.lent) in
+    let at = counter_place (the_view c.self.inside) c.args.index c.in-Counter.counter below owned in
+    owned (of_counter c.counter_at.result.now) (counter_here (the_view c.self.inside) c.args.index c.args.index c.counter_at.result.now refl c.counter_at.ensures.value)
 
 pub invariant_of-self : goal.invariant_of-self
-invariant_of-self c = kept_same _ _ c.self.inside.series _ _ _ c.self.invariant (keys-with_cell_at c.self.inside.series.counters c.args.index c.take_from_lane.new.self) refl
+invariant_of-self c = counter_cell_kept _ _ c.self.inside.series _ _ _ c.self.invariant c.args.index c.take_from_lane.new.self
 
-pub invariant_of-self-then-index-counters-2 : goal.invariant_of-self-then-index-counters-2
-invariant_of-self-then-index-counters-2 c =
-    kept_same _ _ c.self.inside.series _ _ _ c.self.invariant refl (keys-with_cell_at c.self.inside.series.gauges (c.args.index - c.counter_count-counters.result) c.take_from_lane-then-index-counters-2.new.self)
+pub returns-in-Counter-clause-taken : goal.returns-in-Counter-clause-taken
+returns-in-Counter-clause-taken c =
+    let below = subst (λ e. c.args.index < length (things_of e)) (sym c.self.view_is) c.requires.here in
+    let owned : IsPassHere (the_view c.self.inside) (passes.Counter c.in-Counter.counter) c.args.index = subst (λ p. IsPassHere (the_view c.self.inside) p c.args.index) c.in-Counter.is (subst (λ e. IsPassHere e c.args.lent c.args.index) (sym c.self.view_is) c.requires.lent) in
+    let at = counter_place (the_view c.self.inside) c.args.index c.in-Counter.counter below owned in
+    rw (← c.self.view_is, c.in-Counter.is) (counter_takes_back (the_view c.self.inside) c.args.index c.args.index c.counter_at.result.now c.take_from_lane.new.self c.in-Counter.counter (refl, at) c.counter_at.ensures.value c.take_from_lane.ensures).0
+
+pub returns-in-Counter-clause-frame : goal.returns-in-Counter-clause-frame
+returns-in-Counter-clause-frame c =
+    let below = subst (λ e. c.args.index < length (things_of e)) (sym c.self.view_is) c.requires.here in
+    let owned : IsPassHere (the_view c.self.inside) (passes.Counter c.in-Counter.counter) c.args.index = subst (λ p. IsPassHere (the_view c.self.inside) p c.args.index) c.in-Counter.is (subst (λ e. IsPassHere e c.args.lent c.args.index) (sym c.self.view_is) c.requires.lent) in
+    let at = counter_place (the_view c.self.inside) c.args.index c.in-Counter.counter below owned in
+    rw (← c.self.view_is) (counter_takes_back (the_view c.self.inside) c.args.index c.args.index c.counter_at.result.now c.take_from_lane.new.self c.in-Counter.counter (refl, at) c.counter_at.ensures.value c.take_from_lane.ensures).1
+
+pub overflow_sub-index : goal.overflow_sub-index
+overflow_sub-index c =
+    let below = subst (λ e. c.args.index < length (things_of e)) (sym c.self.view_is) c.requires.here in
+    let owned : IsPassHere (the_view c.self.inside) (passes.Gauge c.in-Gauge.gauge) c.args.index = subst (λ p. IsPassHere (the_view c.self.inside) p c.args.index) c.in-Gauge.is (subst (λ e. IsPassHere e c.args.lent c.args.index) (sym c.self.view_is) c.requires.lent) in
+    let at = gauge_counted (the_view c.self.inside) c.args.index c.counter_count-counters.result c.counter_count-counters.ensures.count (gauge_place (the_view c.self.inside) c.args.index c.in-Gauge.gauge below owned) in
+    at.0
+
+pub gauge_at-requires : goal.gauge_at-requires
+gauge_at-requires c =
+    let below = subst (λ e. c.args.index < length (things_of e)) (sym c.self.view_is) c.requires.here in
+    let owned : IsPassHere (the_view c.self.inside) (passes.Gauge c.in-Gauge.gauge) c.args.index = subst (λ p. IsPassHere (the_view c.self.inside) p c.args.index) c.in-Gauge.is (subst (λ e. IsPassHere e c.args.lent c.args.index) (sym c.self.view_is) c.requires.lent) in
+    let at = gauge_counted (the_view c.self.inside) c.args.index c.counter_count-counters.result c.counter_count-counters.ensures.count (gauge_place (the_view c.self.inside) c.args.index c.in-Gauge.gauge below owned) in
+    at.2
+
+pub take_from_lane-requires-in-Gauge-clause-lent : goal.take_from_lane-requires-in-Gauge-clause-lent
+take_from_lane-requires-in-Gauge-clause-lent c κs =
+    let below = subst (λ e. c.args.index < length (things_of e)) (sym c.self.view_is) c.requires.here in
+    let owned : IsPassHere (the_view c.self.inside) (passes.Gauge c.in-Gauge.gauge) c.args.index = subst (λ p. IsPassHere (the_view c.self.inside) p c.args.index) c.in-Gauge.is (subst (λ e. IsPassHere e c.args.lent c.args.index) (sym c.self.view_is) c.requires.lent) in
+    let at = gauge_counted (the_view c.self.inside) c.args.index c.counter_count-counters.result c.counter_count-counters.ensures.count (gauge_place (the_view c.self.inside) c.args.index c.in-Gauge.gauge below owned) in
+    owned (of_gauge c.gauge_at.result.now) (gauge_here (the_view c.self.inside) c.args.index (c.args.index - c.counter_count-counters.result) c.gauge_at.result.now at.1 c.gauge_at.ensures.value)
+
+pub invariant_of-self-in-Gauge : goal.invariant_of-self-in-Gauge
+invariant_of-self-in-Gauge c = gauge_cell_kept _ _ c.self.inside.series _ _ _ c.self.invariant (c.args.index - c.counter_count-counters.result) c.take_from_lane-in-Gauge.new.self
+
+pub returns-in-Gauge-clause-taken : goal.returns-in-Gauge-clause-taken
+returns-in-Gauge-clause-taken c =
+    let below = subst (λ e. c.args.index < length (things_of e)) (sym c.self.view_is) c.requires.here in
+    let owned : IsPassHere (the_view c.self.inside) (passes.Gauge c.in-Gauge.gauge) c.args.index = subst (λ p. IsPassHere (the_view c.self.inside) p c.args.index) c.in-Gauge.is (subst (λ e. IsPassHere e c.args.lent c.args.index) (sym c.self.view_is) c.requires.lent) in
+    let at = gauge_counted (the_view c.self.inside) c.args.index c.counter_count-counters.result c.counter_count-counters.ensures.count (gauge_place (the_view c.self.inside) c.args.index c.in-Gauge.gauge below owned) in
+    rw (← c.self.view_is, c.in-Gauge.is) (gauge_takes_back (the_view c.self.inside) c.args.index (c.args.index - c.counter_count-counters.result) c.gauge_at.result.now c.take_from_lane-in-Gauge.new.self c.in-Gauge.gauge (at.1, at.2) c.gauge_at.ensures.value c.take_from_lane-in-Gauge.ensures).0
+
+pub returns-in-Gauge-clause-frame : goal.returns-in-Gauge-clause-frame
+returns-in-Gauge-clause-frame c =
+    let below = subst (λ e. c.args.index < length (things_of e)) (sym c.self.view_is) c.requires.here in
+    let owned : IsPassHere (the_view c.self.inside) (passes.Gauge c.in-Gauge.gauge) c.args.index = subst (λ p. IsPassHere (the_view c.self.inside) p c.args.index) c.in-Gauge.is (subst (λ e. IsPassHere e c.args.lent c.args.index) (sym c.self.view_is) c.requires.lent) in
+    let at = gauge_counted (the_view c.self.inside) c.args.index c.counter_count-counters.result c.counter_count-counters.ensures.count (gauge_place (the_view c.self.inside) c.args.index c.in-Gauge.gauge below owned) in
+    rw (← c.self.view_is) (gauge_takes_back (the_view c.self.inside) c.args.index (c.args.index - c.counter_count-counters.result) c.gauge_at.result.now c.take_from_lane-in-Gauge.new.self c.in-Gauge.gauge (at.1, at.2) c.gauge_at.ensures.value c.take_from_lane-in-Gauge.ensures).1
+
+pub overflow_sub-index-in-Histogram : goal.overflow_sub-index-in-Histogram
+overflow_sub-index-in-Histogram c =
+    let below = subst (λ e. c.args.index < length (things_of e)) (sym c.self.view_is) c.requires.here in
+    let owned : IsPassHere (the_view c.self.inside) (passes.Histogram c.in-Histogram.histogram) c.args.index = subst (λ p. IsPassHere (the_view c.self.inside) p c.args.index) c.in-Histogram.is (subst (λ e. IsPassHere e c.args.lent c.args.index) (sym c.self.view_is) c.requires.lent) in
+    let at = histogram_counted (the_view c.self.inside) c.args.index c.counter_count.result c.gauge_count.result c.counter_count.ensures.count c.gauge_count.ensures (histogram_place (the_view c.self.inside) c.args.index c.in-Histogram.histogram below owned) in
+    at.0
+
+pub histogram_at-requires : goal.histogram_at-requires
+histogram_at-requires c =
+    let below = subst (λ e. c.args.index < length (things_of e)) (sym c.self.view_is) c.requires.here in
+    let owned : IsPassHere (the_view c.self.inside) (passes.Histogram c.in-Histogram.histogram) c.args.index = subst (λ p. IsPassHere (the_view c.self.inside) p c.args.index) c.in-Histogram.is (subst (λ e. IsPassHere e c.args.lent c.args.index) (sym c.self.view_is) c.requires.lent) in
+    let at = histogram_counted (the_view c.self.inside) c.args.index c.counter_count.result c.gauge_count.result c.counter_count.ensures.count c.gauge_count.ensures (histogram_place (the_view c.self.inside) c.args.index c.in-Histogram.histogram below owned) in
+    at.2
+
+pub take_from_lane-requires-in-Histogram : goal.take_from_lane-requires-in-Histogram
+take_from_lane-requires-in-Histogram c =
+    let below = subst (λ e. c.args.index < length (things_of e)) (sym c.self.view_is) c.requires.here in
+    let owned : IsPassHere (the_view c.self.inside) (passes.Histogram c.in-Histogram.histogram) c.args.index = subst (λ p. IsPassHere (the_view c.self.inside) p c.args.index) c.in-Histogram.is (subst (λ e. IsPassHere e c.args.lent c.args.index) (sym c.self.view_is) c.requires.lent) in
+    let at = histogram_counted (the_view c.self.inside) c.args.index c.counter_count.result c.gauge_count.result c.counter_count.ensures.count c.gauge_count.ensures (histogram_place (the_view c.self.inside) c.args.index c.in-Histogram.histogram below owned) in
+    owned (of_histogram c.histogram_at.result.now) (histogram_here (the_view c.self.inside) c.args.index (c.args.index - (c.counter_count.result + c.gauge_count.result)) c.histogram_at.result.now at.1 c.histogram_at.ensures.value)
+
+pub invariant_of-self-in-Histogram : goal.invariant_of-self-in-Histogram
+invariant_of-self-in-Histogram c = histogram_cell_kept _ _ c.self.inside.series _ _ _ c.self.invariant (c.args.index - (c.counter_count.result + c.gauge_count.result)) c.histogram_at.result.now c.take_from_lane-in-Histogram.new.self c.histogram_at.ensures.value (ap (λ (x : Sampled). x.series.kind) c.take_from_lane-in-Histogram.ensures)
+
+pub returns-in-Histogram-clause-taken : goal.returns-in-Histogram-clause-taken
+returns-in-Histogram-clause-taken c =
+    let below = subst (λ e. c.args.index < length (things_of e)) (sym c.self.view_is) c.requires.here in
+    let owned : IsPassHere (the_view c.self.inside) (passes.Histogram c.in-Histogram.histogram) c.args.index = subst (λ p. IsPassHere (the_view c.self.inside) p c.args.index) c.in-Histogram.is (subst (λ e. IsPassHere e c.args.lent c.args.index) (sym c.self.view_is) c.requires.lent) in
+    let at = histogram_counted (the_view c.self.inside) c.args.index c.counter_count.result c.gauge_count.result c.counter_count.ensures.count c.gauge_count.ensures (histogram_place (the_view c.self.inside) c.args.index c.in-Histogram.histogram below owned) in
+    rw (← c.self.view_is, c.in-Histogram.is) (histogram_takes_back (the_view c.self.inside) c.args.index (c.args.index - (c.counter_count.result + c.gauge_count.result)) c.histogram_at.result.now c.take_from_lane-in-Histogram.new.self c.in-Histogram.histogram at.1 c.histogram_at.ensures.value c.take_from_lane-in-Histogram.ensures).0
+
+pub returns-in-Histogram-clause-frame : goal.returns-in-Histogram-clause-frame
+returns-in-Histogram-clause-frame c =
+    let below = subst (λ e. c.args.index < length (things_of e)) (sym c.self.view_is) c.requires.here in
+    let owned : IsPassHere (the_view c.self.inside) (passes.Histogram c.in-Histogram.histogram) c.args.index = subst (λ p. IsPassHere (the_view c.self.inside) p c.args.index) c.in-Histogram.is (subst (λ e. IsPassHere e c.args.lent c.args.index) (sym c.self.view_is) c.requires.lent) in
+    let at = histogram_counted (the_view c.self.inside) c.args.index c.counter_count.result c.gauge_count.result c.counter_count.ensures.count c.gauge_count.ensures (histogram_place (the_view c.self.inside) c.args.index c.in-Histogram.histogram below owned) in
+    rw (← c.self.view_is) (histogram_takes_back (the_view c.self.inside) c.args.index (c.args.index - (c.counter_count.result + c.gauge_count.result)) c.histogram_at.result.now c.take_from_lane-in-Histogram.new.self c.in-Histogram.histogram at.1 c.histogram_at.ensures.value c.take_from_lane-in-Histogram.ensures).1

@@ -1,8 +1,9 @@
 use Rattle.std.proofs.Common.{◌≡◌, ℕ, List, [], ◌++◌, refl, sym, ap, subst, ◌∙◌, append-nil}
-use Rattle.std.specs.Prelude.{flat_map, Option}
+use Rattle.std.specs.Prelude.{flat_map, All, Option, string_bytes}
+use Rattle.std.proofs.lemmas.List.Elements.{recursion_from_All}
 use Rattle.std.proofs.lemmas.Result.{err_from_is_err_and}
 use Rattle.metrics_core.specs.Keys.{LabelText}
-use Rattle.metrics_core.specs.Outside.{GrewByPrefix}
+use Rattle.metrics_core.specs.Outside.{GrewBy, GrewByPrefix}
 use Rattle.metrics_core.proofs.Grown.{grew_none}
 use Rattle.prom_format.specs.LabelSets.{labels_of}
 use Rattle.prom_format.specs.Pages.{body_text}
@@ -10,24 +11,30 @@ use Rattle.metrics_registry.specs.Live.{LiveSeries}
 use Rattle.series_cells.specs.declared.counter.PromCounter.{PromCounter}
 use Rattle.series_cells.specs.declared.gauge.PromGauge.{PromGauge}
 use Rattle.prom_format.specs.declared.families.FamilyType.TheVariants as types
+use Rattle.distributions.specs.Kinds.{DistributionRules}
 use Rattle.prom_exporter.specs.Builder.{with_globals}
 use Rattle.prom_exporter.specs.Families.{ExporterSettings}
-use Rattle.prom_exporter.specs.Kept.{NamesAsTheyAre}
-use Rattle.prom_exporter.specs.Exporter.{Exporter, Cells, shown_body}
+use Rattle.prom_exporter.specs.Kept.{NamesAsTheyAre, FitsSettings, HaveKinds}
+use Rattle.prom_exporter.specs.Exporter.{Exporter, Cells, AreTimely, shown_body}
 use Rattle.prom_exporter.specs.Rows.{RowsText, kept_block, keys_of, rows_of}
+use Rattle.prom_exporter.specs.Sampled.{Sampled, IsTimely}
+use Rattle.prom_exporter.specs.SampledRows.{sampled_block, HasRowsOf, AreShown}
 use Rattle.prom_exporter.specs.Sending.{IsSent}
 use Rattle.prom_exporter.specs.Shared.{Shared}
 use Rattle.prom_exporter.specs.Values.{counter_shown, gauge_shown, value_families}
 use Rattle.prom_exporter.proofs.KeptRows.{blocks-kept}
 use Rattle.prom_exporter.proofs.Progress.{sent_none, sent_all, sent_prefix}
-use Rattle.prom_exporter.proofs.ValuePages.{body-values}
+use Rattle.prom_exporter.proofs.SampledPages.{HasKind, blocks-sampled}
+use Rattle.prom_exporter.proofs.ValuePages.{body-values, sampled_families}
 use Rattle.prom_exporter.proofs.Written.{prefix_of_more}
 use Rattle.prom_exporter.proofs.state.PrometheusState.write_body.Goals as goal
 
--- the page is the blocks of what is kept for the counters, and those for the gauges
-page_is : (moment : ℕ) (settings : ExporterSettings) (series : Cells) (exporter : Exporter) (counters gauges : List ℕ) → record { settings = settings; series = series } ≡ exporter → NamesAsTheyAre settings
-    → counters ≡ body_text (value_families types.Counter counter_shown settings.globals series.counters) → gauges ≡ body_text (value_families types.Gauge gauge_shown settings.globals series.gauges) → shown_body moment exporter ≡ counters ++ gauges
-page_is moment settings series exporter counters gauges is names counted gauged = ap (shown_body moment) (sym is) ∙ body-values settings moment series names ∙ sym (λ j. counted j ++ gauged j)
+-- the page is the blocks of what is kept for the counters, for the gauges and for the histograms
+page_is : (moment : ℕ) (settings : ExporterSettings) (series : Cells) (exporter : Exporter) (counters gauges sampled : List ℕ) → record { settings = settings; series = series } ≡ exporter → NamesAsTheyAre settings
+    → counters ≡ body_text (value_families types.Counter counter_shown settings.globals series.counters) → gauges ≡ body_text (value_families types.Gauge gauge_shown settings.globals series.gauges)
+    → sampled ≡ body_text (sampled_families settings moment series) → shown_body moment exporter ≡ (counters ++ gauges) ++ sampled
+page_is moment settings series exporter counters gauges sampled is names counted gauged drawn =
+    ap (shown_body moment) (sym is) ∙ body-values settings moment series names ∙ sym (λ j. (counted j ++ gauged j) ++ drawn j)
 
 counter_blocks : (globals : List LabelText) (rows : RowsText) (live found : List (LiveSeries (Shared PromCounter))) → rows ≡ rows_of globals (keys_of live) → found ≡ live
     → flat_map (kept_block counter_shown types.Counter rows.heads found) rows.families ≡ body_text (value_families types.Counter counter_shown globals live)
@@ -37,6 +44,23 @@ gauge_blocks : (globals : List LabelText) (rows : RowsText) (live found : List (
     → flat_map (kept_block gauge_shown types.Gauge rows.heads found) rows.families ≡ body_text (value_families types.Gauge gauge_shown globals live)
 gauge_blocks globals rows live found kept same = (λ j. flat_map (kept_block gauge_shown types.Gauge (kept j).heads (same j)) (kept j).families) ∙ blocks-kept gauge_shown globals types.Gauge live
 
+sampled_blocks : (settings : ExporterSettings) (moment : ℕ) (series : Cells) (distributions : DistributionRules) (rows : RowsText) (found : List (LiveSeries Sampled)) → FitsSettings settings distributions → HaveKinds settings series.histograms
+    → HasRowsOf settings.globals found rows → found ≡ series.histograms
+    → flat_map (sampled_block settings.globals moment found distributions) rows.families ≡ body_text (sampled_families settings moment series)
+sampled_blocks settings moment series distributions rows found fits kinds kept same =
+    (λ j. flat_map (sampled_block settings.globals moment (same j) distributions) (kept j).families)
+    ∙ ap (λ live. flat_map (sampled_block settings.globals moment series.histograms distributions) (rows_of settings.globals (keys_of live)).families) same
+    ∙ blocks-sampled settings moment series distributions fits (recursion_from_All (HasKind settings) series.histograms kinds)
+
+shown_here : (globals : List LabelText) (moment : ℕ) (settings : ExporterSettings) (series : Cells) (exporter : Exporter) (found : List (LiveSeries Sampled)) (rows : RowsText) → record { settings = settings; series = series } ≡ exporter
+    → HasRowsOf globals found rows → found ≡ series.histograms → AreTimely moment exporter → AreShown globals moment found rows
+shown_here globals moment settings series exporter found rows is kept same timely =
+    let P : LiveSeries Sampled → Type 0 = λ s. IsTimely moment s.cell in
+    record { kept = kept; timely = subst (All P) (sym (same ∙ ap (λ (e : Exporter). e.series.histograms) is)) timely }
+
+prefix_longer : (a b : Option (List ℕ)) (some rest : List ℕ) → GrewByPrefix a b some → GrewByPrefix a b (some ++ rest)
+prefix_longer a b some rest prefix = prefix_of_more a b some rest (some ++ rest) refl prefix
+
 -- nothing waits at first
 starts : (told : Option (List ℕ)) (buffer : List ℕ) → buffer ≡ [] → IsSent told told buffer []
 starts told buffer empty = rw empty (sent_none told)
@@ -44,12 +68,17 @@ starts told buffer empty = rw empty (sent_none told)
 pub returns-in_err-catch_up-clause-prefix : goal.returns-in_err-catch_up-clause-prefix
 returns-in_err-catch_up-clause-prefix g c =
     let refusal = err_from_is_err_and c.from_residual.result c.from_residual.ensures.1 in
-    rw refusal.1 (grew_none _ _)
+    rw refusal.1 (λ timely. grew_none _ _)
 
 pub returns-in_err-catch_up-2-clause-prefix : goal.returns-in_err-catch_up-2-clause-prefix
 returns-in_err-catch_up-2-clause-prefix g c =
     let refusal = err_from_is_err_and c.from_residual-in_err-catch_up-2.result c.from_residual-in_err-catch_up-2.ensures.1 in
-    rw refusal.1 (grew_none _ _)
+    rw refusal.1 (λ timely. grew_none _ _)
+
+pub returns-in_err-catch_up-3-clause-prefix : goal.returns-in_err-catch_up-3-clause-prefix
+returns-in_err-catch_up-3-clause-prefix g c =
+    let refusal = err_from_is_err_and c.from_residual-in_err-catch_up-3.result c.from_residual-in_err-catch_up-3.ensures.1 in
+    rw refusal.1 (λ timely. grew_none _ _)
 
 pub returns-in_err-write_families-clause-prefix : goal.returns-in_err-write_families-clause-prefix
 returns-in_err-write_families-clause-prefix g c =
@@ -59,8 +88,10 @@ returns-in_err-write_families-clause-prefix g c =
     let series = c.self.inside.series in
     let told = g.K.Sink.written c.args.sink.now in
     let counted = counter_blocks globals c.catch_up.new.self series.counters c.counters-counters.result (c.in_ok-catch_up.ensures.all ∙ ap (λ l. rows_of globals (keys_of l)) c.counters-counters.ensures) c.counters-counters.ensures in
-    rw refusal.1 (prefix_of_more told (g.K.Sink.written c.write_families.new.sink) _ _ _ (page_is c.args.moment settings series c.args.self.now _ _ c.self.view_is c.self.invariant.names counted refl)
-    (c.in_err-write_families.ensures.prefix told [] (starts told _ c.new-buffer.ensures.bytes)))
+    let page = (page_is c.args.moment settings series c.args.self.now _ _ _ c.self.view_is c.self.invariant.names counted refl refl) in
+    let P : List ℕ → Type 0 = GrewByPrefix told (g.K.Sink.written c.write_families.new.sink) in
+    let blocks = c.in_err-write_families.ensures.prefix told [] (starts told _ c.new-buffer.ensures.bytes) in
+    rw refusal.1 (λ timely. subst P (sym page) (prefix_longer told _ _ _ (prefix_longer told _ _ _ blocks)))
 
 pub returns-in_err-write_families-2-clause-prefix : goal.returns-in_err-write_families-2-clause-prefix
 returns-in_err-write_families-2-clause-prefix g c =
@@ -71,8 +102,27 @@ returns-in_err-write_families-2-clause-prefix g c =
     let told = g.K.Sink.written c.args.sink.now in
     let counted = counter_blocks globals c.catch_up.new.self series.counters c.counters-counters.result (c.in_ok-catch_up.ensures.all ∙ ap (λ l. rows_of globals (keys_of l)) c.counters-counters.ensures) c.counters-counters.ensures in
     let gauged = gauge_blocks globals c.catch_up-2.new.self series.gauges c.gauges-gauges.result (c.in_ok-catch_up-2.ensures.all ∙ ap (λ l. rows_of globals (keys_of l)) c.gauges-gauges.ensures) c.gauges-gauges.ensures in
+    let page = (page_is c.args.moment settings series c.args.self.now _ _ _ c.self.view_is c.self.invariant.names counted gauged refl) in
+    let P : List ℕ → Type 0 = GrewByPrefix told (g.K.Sink.written c.write_families-2.new.sink) in
     let sent = c.in_ok-write_families.ensures.sent told [] (starts told _ c.new-buffer.ensures.bytes) in
-    rw (refusal.1, page_is c.args.moment settings series c.args.self.now _ _ c.self.view_is c.self.invariant.names counted gauged) (c.in_err-write_families-2.ensures.prefix told _ sent)
+    let blocks = c.in_err-write_families-2.ensures.prefix told _ sent in
+    rw refusal.1 (λ timely. subst P (sym page) (prefix_longer told _ _ _ blocks))
+
+pub returns-in_err-write_distributions-clause-prefix : goal.returns-in_err-write_distributions-clause-prefix
+returns-in_err-write_distributions-clause-prefix g c =
+    let refusal = err_from_is_err_and c.from_residual-in_err-write_distributions.result c.from_residual-in_err-write_distributions.ensures.1 in
+    let globals = labels_of c.self.inside.globals.entries in
+    let settings = with_globals c.self.inside.settings globals in
+    let series = c.self.inside.series in
+    let told = g.K.Sink.written c.args.sink.now in
+    let counted = counter_blocks globals c.catch_up.new.self series.counters c.counters-counters.result (c.in_ok-catch_up.ensures.all ∙ ap (λ l. rows_of globals (keys_of l)) c.counters-counters.ensures) c.counters-counters.ensures in
+    let gauged = gauge_blocks globals c.catch_up-2.new.self series.gauges c.gauges-gauges.result (c.in_ok-catch_up-2.ensures.all ∙ ap (λ l. rows_of globals (keys_of l)) c.gauges-gauges.ensures) c.gauges-gauges.ensures in
+    let drawn = sampled_blocks settings c.args.moment series c.self.inside.distributions c.catch_up-3.new.self c.histograms-histograms.result c.self.invariant.kinds c.self.invariant.sampled c.in_ok-catch_up-3.ensures.all c.histograms-histograms.ensures in
+    let shown = λ (timely : AreTimely c.args.moment c.args.self.now). shown_here globals c.args.moment settings series c.args.self.now c.histograms-histograms.result c.catch_up-3.new.self c.self.view_is c.in_ok-catch_up-3.ensures.all c.histograms-histograms.ensures timely in
+    let page = (page_is c.args.moment settings series c.args.self.now _ _ _ c.self.view_is c.self.invariant.names counted gauged drawn) in
+    let P : List ℕ → Type 0 = GrewByPrefix told (g.K.Sink.written c.write_distributions.new.sink) in
+    let sent = c.in_ok-write_families-2.ensures.sent told _ (c.in_ok-write_families.ensures.sent told [] (starts told _ c.new-buffer.ensures.bytes)) in
+    rw refusal.1 (λ timely. subst P (sym page) (c.in_err-write_distributions.ensures.prefix globals (shown timely) told _ sent))
 
 pub returns-in_err-write_whole-clause-prefix : goal.returns-in_err-write_whole-clause-prefix
 returns-in_err-write_whole-clause-prefix g c =
@@ -83,9 +133,13 @@ returns-in_err-write_whole-clause-prefix g c =
     let told = g.K.Sink.written c.args.sink.now in
     let counted = counter_blocks globals c.catch_up.new.self series.counters c.counters-counters.result (c.in_ok-catch_up.ensures.all ∙ ap (λ l. rows_of globals (keys_of l)) c.counters-counters.ensures) c.counters-counters.ensures in
     let gauged = gauge_blocks globals c.catch_up-2.new.self series.gauges c.gauges-gauges.result (c.in_ok-catch_up-2.ensures.all ∙ ap (λ l. rows_of globals (keys_of l)) c.gauges-gauges.ensures) c.gauges-gauges.ensures in
+    let drawn = sampled_blocks settings c.args.moment series c.self.inside.distributions c.catch_up-3.new.self c.histograms-histograms.result c.self.invariant.kinds c.self.invariant.sampled c.in_ok-catch_up-3.ensures.all c.histograms-histograms.ensures in
+    let shown = λ (timely : AreTimely c.args.moment c.args.self.now). shown_here globals c.args.moment settings series c.args.self.now c.histograms-histograms.result c.catch_up-3.new.self c.self.view_is c.in_ok-catch_up-3.ensures.all c.histograms-histograms.ensures timely in
+    let page = (page_is c.args.moment settings series c.args.self.now _ _ _ c.self.view_is c.self.invariant.names counted gauged drawn) in
+    let P : List ℕ → Type 0 = GrewByPrefix told (g.K.Sink.written c.write_whole.new.sink) in
     let sent = c.in_ok-write_families-2.ensures.sent told _ (c.in_ok-write_families.ensures.sent told [] (starts told _ c.new-buffer.ensures.bytes)) in
-    rw (refusal.1, page_is c.args.moment settings series c.args.self.now _ _ c.self.view_is c.self.invariant.names counted gauged)
-    (subst (GrewByPrefix told _) (append-nil _) (sent_prefix _ _ _ _ sent _ (rw (← c.as_bytes.ensures.value) c.in_err-write_whole.ensures.prefix) []))
+    let last : GrewByPrefix (g.K.Sink.written c.write_distributions.new.sink) (g.K.Sink.written c.write_whole.new.sink) (string_bytes c.write_distributions.new.buffer) = rw (← c.as_bytes.ensures.value) c.in_err-write_whole.ensures.prefix in
+    rw refusal.1 (λ timely. subst P (append-nil _ ∙ sym page) (sent_prefix _ _ _ _ (c.in_ok-write_distributions.ensures.sent globals (shown timely) told _ sent) _ last []))
 
 pub returns-clause-body : goal.returns-clause-body
 returns-clause-body g c =
@@ -95,5 +149,10 @@ returns-clause-body g c =
     let told = g.K.Sink.written c.args.sink.now in
     let counted = counter_blocks globals c.catch_up.new.self series.counters c.counters-counters.result (c.in_ok-catch_up.ensures.all ∙ ap (λ l. rows_of globals (keys_of l)) c.counters-counters.ensures) c.counters-counters.ensures in
     let gauged = gauge_blocks globals c.catch_up-2.new.self series.gauges c.gauges-gauges.result (c.in_ok-catch_up-2.ensures.all ∙ ap (λ l. rows_of globals (keys_of l)) c.gauges-gauges.ensures) c.gauges-gauges.ensures in
+    let drawn = sampled_blocks settings c.args.moment series c.self.inside.distributions c.catch_up-3.new.self c.histograms-histograms.result c.self.invariant.kinds c.self.invariant.sampled c.in_ok-catch_up-3.ensures.all c.histograms-histograms.ensures in
+    let shown = λ (timely : AreTimely c.args.moment c.args.self.now). shown_here globals c.args.moment settings series c.args.self.now c.histograms-histograms.result c.catch_up-3.new.self c.self.view_is c.in_ok-catch_up-3.ensures.all c.histograms-histograms.ensures timely in
+    let page = (page_is c.args.moment settings series c.args.self.now _ _ _ c.self.view_is c.self.invariant.names counted gauged drawn) in
+    let P : List ℕ → Type 0 = GrewBy told (g.K.Sink.written c.write_whole.new.sink) in
     let sent = c.in_ok-write_families-2.ensures.sent told _ (c.in_ok-write_families.ensures.sent told [] (starts told _ c.new-buffer.ensures.bytes)) in
-    rw (page_is c.args.moment settings series c.args.self.now _ _ c.self.view_is c.self.invariant.names counted gauged) (sent_all _ _ _ _ sent _ (rw (← c.as_bytes.ensures.value) c.in_ok-write_whole.ensures.whole))
+    let last : GrewBy (g.K.Sink.written c.write_distributions.new.sink) (g.K.Sink.written c.write_whole.new.sink) (string_bytes c.write_distributions.new.buffer) = rw (← c.as_bytes.ensures.value) c.in_ok-write_whole.ensures.whole in
+    λ timely. subst P (sym page) (sent_all _ _ _ _ (c.in_ok-write_distributions.ensures.sent globals (shown timely) told _ sent) _ last)

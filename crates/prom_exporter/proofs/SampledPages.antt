@@ -1,0 +1,230 @@
+-- The blocks of the histograms' families: what is kept for them, and the text that it makes.
+use Rattle.std.proofs.Common.{◌≡◌, ℕ, zero, suc, ◌+◌, Bool, true, false, cond, List, [], ◌∷◌, ◌++◌, map, filter, None, Some, refl, sym, ap, subst, ◌∙◌, arith, add-zero, zero-add, append_assoc}
+use Rattle.std.specs.Prelude.{Option, IfSome, option_map, All, flat_map, filter_map, slice_get, bytes_eq, codes}
+use Rattle.std.specs.List.{AllByRecursion, enumerate_from, cons_option}
+use Rattle.std.proofs.lemmas.Grind.{flat_map-append}
+use Rattle.std.proofs.lemmas.List.Elements.{All-from_recursion, recursion_from_All}
+use Rattle.std.proofs.lemmas.Option.{none-some, same_Some, slice_get-map}
+use Rattle.std.proofs.lemmas.Slice.Eq.{bytes_eq-Decides}
+use Rattle.metrics_core.specs.Characters.{line}
+use Rattle.metrics_core.specs.Keys.{LabelText}
+use Rattle.metrics_core.specs.declared.kinds.MetricKind.TheVariants as kinds
+use Rattle.metrics_registry.specs.Live.{LiveSeries, RegistryText}
+use Rattle.prom_format.specs.Names.{sanitized_metric_name}
+use Rattle.prom_format.specs.Lines.{type_line, head_text, shown_label_set}
+use Rattle.prom_format.specs.Pages.{Row, Family, row_text, block_text, body_text}
+use Rattle.distributions.specs.Kinds.{DistributionKind, NativeHistogram, Histogram, Summary, DistributionRules, kind_for}
+use Rattle.prom_exporter.specs.State.{Series, PrometheusState}
+use Rattle.prom_exporter.specs.Families.{ExporterSettings, distinct, names_of_kind, distribution_of, distribution_family, rules_of_settings, histogram_rows, summary_rows}
+use Rattle.prom_exporter.specs.Kept.{FitsSettings}
+use Rattle.prom_exporter.specs.Rows.{RowsText, head_of, name_at, places_of, rows_of, keys_of}
+use Rattle.prom_exporter.specs.Sampled.{Sampled, IsTimely, calls_recorded}
+use Rattle.prom_exporter.specs.SampledRows.{sampled_rows, shown_word, lines_if, lines_at, block_under, sampled_block, HasRowsOf, IsNamedAt}
+use Rattle.prom_exporter.specs.Shared.{Shared}
+use Rattle.prom_exporter.specs.Values.{named, grouped, series_of, sampled_series, state_recorded}
+use Rattle.prom_exporter.proofs.KeptRows.{placed_key, placed_name, keys-placed, places-placed, grouped-map}
+use Rattle.prom_exporter.proofs.SampledRows.{plain, seen, labels, summary-built, histogram_rows-are, summary_rows-are}
+
+abbrev all_seen : List (LiveSeries Sampled) → List Series
+all_seen live = map series_of (map (sampled_series calls_recorded) live)
+
+abbrev metric : Series → List ℕ
+metric series = sanitized_metric_name series.key.name
+
+module _ (live : List (LiveSeries Sampled)) where
+  abbrev all_placed : List (ℕ × LiveSeries Sampled)
+  all_placed = enumerate_from 0 live
+
+  abbrev placed_groups : List (List ℕ) → List (List ℕ × List ℕ)
+  placed_groups ns = map places_of (map (λ n. (n, named placed_name all_placed n)) ns)
+
+  -- the families that are kept, as groups of series with their places
+  families-placed : (globals : List LabelText) → (rows_of globals (keys_of live)).families ≡ placed_groups (distinct (map placed_name all_placed))
+  families-placed globals =
+      ap (λ l. map places_of (grouped name_at l)) (keys-placed 0 live)
+      ∙ ap (map places_of) (grouped-map name_at placed_key all_placed)
+      ∙ places-placed (grouped placed_name all_placed)
+
+  -- these series stand behind the first k
+  abbrev StandBehind : ℕ → List (LiveSeries Sampled) → Type 0
+  StandBehind k xs = (j : ℕ) → slice_get live (k + j) ≡ slice_get xs j
+
+  stand_here : (k : ℕ) (x : LiveSeries Sampled) (xs : List (LiveSeries Sampled)) → StandBehind k (x ∷ xs) → slice_get live k ≡ Some x
+  stand_here k x xs behind = ap (slice_get live) (sym (add-zero k)) ∙ behind 0
+
+  stand_later : (k : ℕ) (x : LiveSeries Sampled) (xs : List (LiveSeries Sampled)) → StandBehind k (x ∷ xs) → StandBehind (k + 1) xs
+  stand_later k x xs behind j = ap (slice_get live) (let e : k + 1 + j ≡ k + suc j = omega arith in e) ∙ behind (suc j)
+
+  -- ---- names
+
+  places_step : (n : List ℕ) (k : ℕ) (x : LiveSeries Sampled) (xs : List (LiveSeries Sampled)) (b : Bool) → bytes_eq (sanitized_metric_name x.key.name) n ≡ b → slice_get live k ≡ Some x
+      → AllByRecursion (IsNamedAt live n) (map (λ placed. placed.0) (named placed_name (enumerate_from (k + 1) xs) n))
+      → AllByRecursion (IsNamedAt live n) (map (λ placed. placed.0) (named placed_name (enumerate_from k (x ∷ xs)) n))
+  places_step n k x xs true is at rest =
+      let here : IsNamedAt live n k = rw at ((bytes_eq-Decides (sanitized_metric_name x.key.name) n).0 is) in
+      rw is (here, rest)
+  places_step n k x xs false is at rest = rw is rest
+
+  places-named : (n : List ℕ) (k : ℕ) (xs : List (LiveSeries Sampled)) → StandBehind k xs → AllByRecursion (IsNamedAt live n) (map (λ placed. placed.0) (named placed_name (enumerate_from k xs) n))
+  places-named n k [] behind = tt
+  places-named n k (x ∷ xs) behind =
+      places_step n k x xs (bytes_eq (sanitized_metric_name x.key.name) n) refl (stand_here k x xs behind) (places-named n (k + 1) xs (stand_later k x xs behind))
+
+  abbrev pub IsNamedFamily : List ℕ × List ℕ → Type 0
+  IsNamedFamily family = All (IsNamedAt live family.0) family.1
+
+  groups-named : (ns : List (List ℕ)) → AllByRecursion IsNamedFamily (placed_groups ns)
+  groups-named [] = tt
+  groups-named (n ∷ ns) = (All-from_recursion (IsNamedAt live n) _ (places-named n 0 live (λ j. ap (slice_get live) (zero-add j))), groups-named ns)
+
+  -- each family's series have its name
+  pub families-named : (globals : List LabelText) → AllByRecursion IsNamedFamily (rows_of globals (keys_of live)).families
+  families-named globals = rw (families-placed globals) (groups-named (distinct (map placed_name all_placed)))
+
+-- ---- the text
+
+-- the block of a family, if there is one
+abbrev text_if : Option Family → List ℕ
+text_if None = []
+text_if (Some family) = block_text family
+
+body-cons : (o : Option Family) (families : List Family) → body_text (cons_option o families) ≡ text_if o ++ body_text families
+body-cons None families = refl
+body-cons (Some family) families = refl
+
+-- each histogram's kind follows from its name
+abbrev pub HasKind : ExporterSettings → LiveSeries Sampled → Type 0
+HasKind settings e = e.cell.series.kind ≡ distribution_of settings (sanitized_metric_name e.key.name)
+
+names-seen : (k : ℕ) (live : List (LiveSeries Sampled)) → map placed_name (enumerate_from k live) ≡ map metric (all_seen live)
+names-seen k [] = refl
+names-seen k (e ∷ live) = ap (λ l. sanitized_metric_name e.key.name ∷ l) (names-seen (k + 1) live)
+
+module _ {C G : Type 0} (settings : ExporterSettings) (t : ℕ) (registry : RegistryText (Shared C) (Shared G) Sampled) where
+  abbrev live : List (LiveSeries Sampled)
+  live = registry.histograms
+
+  abbrev state : PrometheusState
+  state = state_recorded registry
+
+  -- each series under a name has these rows
+  module _ (n : List ℕ) (rows : Series → List Row) (one : (e : LiveSeries Sampled) → sanitized_metric_name e.key.name ≡ n → HasKind settings e → rows (seen e) ≡ sampled_rows t n (labels settings state t e) e.cell) where
+    abbrev written : List (ℕ × LiveSeries Sampled) → List ℕ
+    written placed = flat_map (lines_at settings.globals t live n) (map (λ p. p.0) (named placed_name placed n))
+
+    abbrev meant : List (LiveSeries Sampled) → List ℕ
+    meant xs = flat_map row_text (flat_map rows (filter (λ series. bytes_eq (metric series) n) (all_seen xs)))
+
+    rows_step : (k : ℕ) (x : LiveSeries Sampled) (xs : List (LiveSeries Sampled)) (b : Bool) → bytes_eq (sanitized_metric_name x.key.name) n ≡ b → slice_get live k ≡ Some x → HasKind settings x
+        → written (enumerate_from (k + 1) xs) ≡ meant xs → written (enumerate_from k (x ∷ xs)) ≡ meant (x ∷ xs)
+    rows_step k x xs true is at kind rest =
+        let same : sanitized_metric_name x.key.name ≡ n = (bytes_eq-Decides (sanitized_metric_name x.key.name) n).0 is in
+        let here : lines_at settings.globals t live n k ≡ flat_map row_text (rows (seen x)) = ap (lines_if settings.globals t live n) at ∙ sym (ap (flat_map row_text) (one x same kind)) in
+        rw is ((λ j. here j ++ rest j) ∙ sym (flat_map-append row_text (rows (seen x)) (flat_map rows (filter (λ series. bytes_eq (metric series) n) (all_seen xs)))))
+    rows_step k x xs false is at kind rest = rw is rest
+
+    rows-named : (k : ℕ) (xs : List (LiveSeries Sampled)) → StandBehind live k xs → AllByRecursion (HasKind settings) xs → written (enumerate_from k xs) ≡ meant xs
+    rows-named k [] behind have = refl
+    rows-named k (x ∷ xs) behind have =
+        rows_step k x xs (bytes_eq (sanitized_metric_name x.key.name) n) refl (stand_here live k x xs behind) have.0 (rows-named (k + 1) xs (stand_later live k x xs behind) have.1)
+
+    all_rows-named : AllByRecursion (HasKind settings) live → written (all_placed live) ≡ meant live
+    all_rows-named have = rows-named 0 live (λ j. ap (slice_get live) (zero-add j)) have
+
+  module _ (distributions : DistributionRules) (fits : FitsSettings settings distributions) (have : AllByRecursion (HasKind settings) live) where
+    abbrev group : List ℕ → List ℕ × List ℕ
+    group n = (n, map (λ p. p.0) (named placed_name (all_placed live) n))
+
+    block-by : (n : List ℕ) (kind : DistributionKind) → distribution_of settings n ≡ kind
+        → block_under settings.globals t live (shown_word kind) (group n) ≡ text_if (distribution_family (plain settings) state t n kind)
+    block-by n (NativeHistogram config) is = refl
+    block-by n (Histogram bounds) is =
+        let one = λ (e : LiveSeries Sampled) (same : sanitized_metric_name e.key.name ≡ n) (kind : HasKind settings e).
+        histogram_rows-are settings state t e bounds (kind ∙ ap (distribution_of settings) same ∙ is) ∙ ap (λ m. sampled_rows t m (labels settings state t e) e.cell) same in
+        ap (λ rows. type_line n None None (codes "histogram") ++ rows ++ line []) (all_rows-named n (histogram_rows (plain settings) state bounds) one have)
+    block-by n (Summary built) is =
+        let from : built ≡ (rules_of_settings settings).summary = summary-built (rules_of_settings settings) n built is in
+        let one = λ (e : LiveSeries Sampled) (same : sanitized_metric_name e.key.name ≡ n) (kind : HasKind settings e).
+        summary_rows-are settings state t e built from (kind ∙ ap (distribution_of settings) same ∙ is) ∙ ap (λ m. sampled_rows t m (labels settings state t e) e.cell) same in
+        ap (λ rows. type_line n None None (codes "summary") ++ rows ++ line []) (all_rows-named n (summary_rows (plain settings) state t) one have)
+
+    block-named : (n : List ℕ) → sampled_block settings.globals t live distributions (group n) ≡ text_if (distribution_family (plain settings) state t n (distribution_of settings n))
+    block-named n = ap (λ kind. block_under settings.globals t live (shown_word kind) (group n)) (fits n) ∙ block-by n (distribution_of settings n) refl
+
+    blocks-named : (ns : List (List ℕ)) → flat_map (sampled_block settings.globals t live distributions) (placed_groups live ns)
+        ≡ body_text (filter_map (λ n. distribution_family (plain settings) state t n (distribution_of settings n)) ns)
+    blocks-named [] = refl
+    blocks-named (n ∷ ns) =
+        (λ j. block-named n j ++ blocks-named ns j)
+        ∙ sym (body-cons (distribution_family (plain settings) state t n (distribution_of settings n)) (filter_map (λ m. distribution_family (plain settings) state t m (distribution_of settings m)) ns))
+
+    -- the blocks are those of the families that a page shows
+    pub blocks-sampled : flat_map (sampled_block settings.globals t live distributions) (rows_of settings.globals (keys_of live)).families
+        ≡ body_text (filter_map (λ n. distribution_family (plain settings) state t n (distribution_of settings n)) (names_of_kind kinds.Histogram state))
+    blocks-sampled =
+        ap (flat_map (sampled_block settings.globals t live distributions)) (families-placed live settings.globals)
+        ∙ ap (λ names. flat_map (sampled_block settings.globals t live distributions) (placed_groups live (distinct names))) (names-seen 0 live)
+        ∙ blocks-named (distinct (map metric (all_seen live)))
+
+-- ---- the series at a place
+
+all_at : {X : Type 0} (P : X → Type 0) (xs : List X) (k : ℕ) (x : X) → AllByRecursion P xs → slice_get xs k ≡ Some x → P x
+all_at P [] k x all at = absurd cc
+all_at P (y ∷ xs) zero x all at = subst P (same_Some y x at) all.0
+all_at P (y ∷ xs) (suc k) x all at = all_at P xs k x all.1 at
+
+-- what is found at a place is a series, whose rows begin with this text
+pub record IsFoundAt (globals : List LabelText) (live : List (LiveSeries Sampled)) (name : List ℕ) (place : ℕ) (head : List ℕ) (cell : Sampled) : Type 0 where
+  pub series : LiveSeries Sampled
+  pub at : slice_get live place ≡ Some series
+  pub cell_is : cell ≡ series.cell
+  pub head_is : head ≡ head_text name (shown_label_set globals series.key.labels)
+
+found-by : (globals : List LabelText) (live : List (LiveSeries Sampled)) (name : List ℕ) (place : ℕ) (head : List ℕ) (cell : Sampled) (o : Option (LiveSeries Sampled)) → slice_get live place ≡ o
+    → slice_get (map (head_of globals) (keys_of live)) place ≡ Some head → Some cell ≡ option_map (λ (s : LiveSeries Sampled). s.cell) o → IfSome o (λ s. sanitized_metric_name s.key.name ≡ name)
+    → IsFoundAt globals live name place head cell
+found-by globals live name place head cell None at head-at cell-at named = absurd cc
+found-by globals live name place head cell (Some s) at head-at cell-at named =
+    let here : slice_get (map (head_of globals) (keys_of live)) place ≡ Some (head_of globals s.key) =
+    slice_get-map (head_of globals) (keys_of live) place ∙ ap (option_map (head_of globals)) (slice_get-map (λ (series : LiveSeries Sampled). series.key) live place ∙ ap (option_map (λ (series : LiveSeries Sampled). series.key)) at) in
+    record {
+      series = s;
+      at = at;
+      cell_is = same_Some cell s.cell cell-at;
+      head_is = same_Some head (head_of globals s.key) (sym head-at ∙ here) ∙ ap (λ n. head_text n (shown_label_set globals s.key.labels)) named;
+    }
+
+pub found-at : (globals : List LabelText) (live : List (LiveSeries Sampled)) (rows : RowsText) (name : List ℕ) (place : ℕ) (head : List ℕ) (cell : Sampled) → HasRowsOf globals live rows
+    → slice_get rows.heads place ≡ Some head → Some cell ≡ option_map (λ (s : LiveSeries Sampled). s.cell) (slice_get live place) → IsNamedAt live name place → IsFoundAt globals live name place head cell
+found-at globals live rows name place head cell kept head-at cell-at named =
+    found-by globals live name place head cell (slice_get live place) refl (sym (ap (λ (r : RowsText). slice_get r.heads place) kept) ∙ head-at) cell-at named
+
+-- its lines, and that its samples have their moments in order
+pub found-lines : (globals : List LabelText) (t : ℕ) (live : List (LiveSeries Sampled)) (name : List ℕ) (place : ℕ) (head : List ℕ) (cell : Sampled) (found : IsFoundAt globals live name place head cell)
+    → flat_map row_text (sampled_rows t name (shown_label_set globals found.series.key.labels) cell) ≡ lines_at globals t live name place
+found-lines globals t live name place head cell found =
+    ap (λ c. flat_map row_text (sampled_rows t name (shown_label_set globals found.series.key.labels) c)) found.cell_is ∙ sym (ap (lines_if globals t live name) found.at)
+
+pub found-timely : (globals : List LabelText) (t : ℕ) (live : List (LiveSeries Sampled)) (name : List ℕ) (place : ℕ) (head : List ℕ) (cell : Sampled) (found : IsFoundAt globals live name place head cell)
+    → All (λ (s : LiveSeries Sampled). IsTimely t s.cell) live → IsTimely t cell
+found-timely globals t live name place head cell found all =
+    let P : LiveSeries Sampled → Type 0 = λ s. IsTimely t s.cell in
+    subst (IsTimely t) (sym found.cell_is) (all_at P live place found.series (recursion_from_All P live all) found.at)
+
+-- no head, or no series: no lines
+pub none-found : (globals : List LabelText) (t : ℕ) (live : List (LiveSeries Sampled)) (name : List ℕ) (place : ℕ) → None ≡ option_map (λ (s : LiveSeries Sampled). s.cell) (slice_get live place) → lines_at globals t live name place ≡ []
+none-found globals t live name place none = by (slice_get live place) none
+  where
+    by : (o : Option (LiveSeries Sampled)) → None ≡ option_map (λ (s : LiveSeries Sampled). s.cell) o → lines_if globals t live name o ≡ []
+    by None e = refl
+    by (Some s) e = absurd cc
+
+pub no_head-found : (globals : List LabelText) (t : ℕ) (live : List (LiveSeries Sampled)) (rows : RowsText) (name : List ℕ) (place : ℕ) → HasRowsOf globals live rows → slice_get rows.heads place ≡ None → lines_at globals t live name place ≡ []
+no_head-found globals t live rows name place kept none = by (slice_get live place) refl
+  where
+    by : (o : Option (LiveSeries Sampled)) → slice_get live place ≡ o → lines_if globals t live name o ≡ []
+    by None e = refl
+    by (Some s) e =
+        let here : slice_get (map (head_of globals) (keys_of live)) place ≡ Some (head_of globals s.key) =
+        slice_get-map (head_of globals) (keys_of live) place ∙ ap (option_map (head_of globals)) (slice_get-map (λ (series : LiveSeries Sampled). series.key) live place ∙ ap (option_map (λ (series : LiveSeries Sampled). series.key)) e) in
+        absurd (none-some _ (sym none ∙ ap (λ (r : RowsText). slice_get r.heads place) kept ∙ here))

@@ -1,0 +1,28 @@
+use Rattle.std.proofs.Common.{◌≡◌, ◌⊎◌, ◌∙◌, sym, subst}
+use Rattle.std.specs.Prelude.{OnOk}
+use Rattle.metrics_core.specs.Keys.{KeyText}
+use Rattle.metrics_core.specs.declared.kinds.MetricKind.TheVariants.{Histogram}
+use Rattle.prom_exporter.specs.Exporter.{AddsHistogram}
+use Rattle.prom_exporter.specs.Values.{seen_registry}
+use Rattle.prom_exporter.specs.Sampled.{calls_known}
+use Rattle.prom_exporter.proofs.Seen.{id_of_key-sampled, is_numbered-seen}
+use Rattle.prom_exporter.proofs.States.{register-live, id-live}
+use Rattle.prom_exporter.proofs.state.PrometheusState.register_histogram.Goals as goal
+
+pub returns-in-Some-clause-registered : goal.returns-in-Some-clause-registered
+returns-in-Some-clause-registered c =
+    let series = c.self.inside.series in
+    let found = id_of_key-sampled calls_known c.args.key.now series.histograms ∙ sym c.in-Some.ensures in
+    rw (← c.self.view_is) (sym (register-live Histogram c.args.key.now (seen_registry calls_known series) c.in-Some.id found))
+
+pub returns-in-Some-clause-id : goal.returns-in-Some-clause-id
+returns-in-Some-clause-id c =
+    let series = c.self.inside.series in
+    let found = id_of_key-sampled calls_known c.args.key.now series.histograms ∙ sym c.in-Some.ensures in
+    rw (← c.self.view_is) (id-live Histogram c.args.key.now (seen_registry calls_known series) series.made c.in-Some.id (is_numbered-seen calls_known series c.made-made.ensures.numbered).histograms.1 found)
+
+pub returns-clause-cells : goal.returns-clause-cells
+returns-clause-cells c =
+    let old = c.args.self.now in
+    let new = c.register_owned_histogram.new.self in
+    subst (λ (key : KeyText). OnOk c.register_owned_histogram.result ((new ≡ old) ⊎ AddsHistogram key old new)) c.in_ok-clone.ensures.same c.register_owned_histogram.ensures.cells
