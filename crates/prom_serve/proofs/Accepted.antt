@@ -1,18 +1,25 @@
 -- One connection after another.
 use Rattle.std.proofs.Common.{◌≡◌, ℕ, zero, suc, ◌+◌, ◌-◌, ◌%◌, ◌^◌, ◌<◌, ◌≤◌, ◌⊎◌, Bool, true, false, List, [], ◌∷◌, ◌++◌, Option, None, Some, length, take, sym, ap, subst, ◌∙◌, refl, inl, inr, arith, add-one, add-zero, add_assoc, length-append, append_assoc}
-use Rattle.std.specs.Prelude.{IsTrue, IfSome, All}
+use Rattle.std.specs.Prelude.{IsTrue, IsSome, IfSome, All}
+use Rattle.metrics_core.specs.Outside.{GrewBy}
 use Rattle.std.proofs.Math.Nat.{mod-add-mod}
 use Rattle.std.proofs.lemmas.List.{append-nil, take_all, take_at}
-use Rattle.std.proofs.lemmas.List.Elements.{All-push}
+use Rattle.std.proofs.lemmas.List.Elements.{All-push, All-weaker}
+use Rattle.std.proofs.lemmas.Bool.{true≢false}
+use Rattle.std.proofs.lemmas.Option.{same_Some}
+use Rattle.std.specs.declared.net.ip_addr.IpAddr.{IpAddr}
 use Rattle.net_addresses.specs.Addresses.{NetworkText}
-use Rattle.prom_exporter.specs.State.{page_step}
+use Rattle.prom_format.specs.Pages.{body_text}
+use Rattle.prom_exporter.specs.State.{PrometheusState, page_step}
+use Rattle.prom_exporter.specs.Families.{families_at}
+use Rattle.prom_exporter.specs.Stepped.{Steps, DrainsEach, DrainsInPart}
 use Rattle.prom_exporter.proofs.PagesAgain.{page_step-again}
-use Rattle.prom_exporter.specs.Exporter.{Exporter, AllHome, state_of, shown_body}
-use Rattle.prom_serve.specs.Connections.{Ended, CountedOn}
+use Rattle.prom_exporter.specs.Exporter.{Exporter, AllHome, AreTimely, state_of, body_shown, page_body}
+use Rattle.prom_serve.specs.Connections.{Ended, Told, IsFresh, CountedOn}
 use Rattle.prom_serve.specs.Refusals.{excepted}
 use Rattle.prom_serve.specs.declared.errors.ServeError.{ServeError}
 use Rattle.prom_serve.specs.declared.errors.ServeError.TheVariants.{FailedToCreateHTTPListener, Memory}
-use Rattle.prom_serve.specs.Serving.{MayRender, StaysHome, Renders, IsAnswered, IsServed, Listening, Accepts, AcceptsOne}
+use Rattle.prom_serve.specs.Serving.{MayRender, StaysHome, Renders, IsAnswered, IsAnsweredBy, IsAnsweredFirst, IsRendered, IsServed, IsShown, Listening, Accepts, AcceptsOne, ShowsPage}
 
 -- ---- counts
 
@@ -29,15 +36,21 @@ pub renders_next : (moment n : ℕ) (old middle new : Exporter) → Renders mome
 renders_next moment n old middle new first next = rw add-one (middle, first, next)
 
 -- where no pass is out renders make the page step, if anything
-next_state : (moment : ℕ) (old middle new : Exporter) → middle.settings ≡ old.settings → state_of new ≡ page_step middle.settings.idle moment (state_of middle)
-    → (state_of middle ≡ state_of old) ⊎ (state_of middle ≡ page_step old.settings.idle moment (state_of old)) → state_of new ≡ page_step old.settings.idle moment (state_of old)
-next_state moment old middle new settings step (inl same) = step ∙ (λ j. page_step (settings j).idle moment (same j))
-next_state moment old middle new settings step (inr stepped) = step ∙ (λ j. page_step (settings j).idle moment (stepped j)) ∙ page_step-again old.settings.idle moment (state_of old)
+next_state : (moment : ℕ) (old middle new : Exporter) → middle.settings ≡ old.settings → (state_of new ≡ page_step middle.settings.idle moment (state_of middle)) ⊎ (state_of new ≡ state_of middle)
+    → (state_of middle ≡ state_of old) ⊎ (state_of middle ≡ page_step old.settings.idle moment (state_of old)) → (state_of new ≡ state_of old) ⊎ (state_of new ≡ page_step old.settings.idle moment (state_of old))
+next_state moment old middle new settings (inl step) (inl same) = inr (step ∙ (λ j. page_step (settings j).idle moment (same j)))
+next_state moment old middle new settings (inl step) (inr stepped) = inr (step ∙ (λ j. page_step (settings j).idle moment (stepped j)) ∙ page_step-again old.settings.idle moment (state_of old))
+next_state moment old middle new settings (inr kept) (inl same) = inl (kept ∙ same)
+next_state moment old middle new settings (inr kept) (inr stepped) = inr (kept ∙ stepped)
+
+steps_settings : (moment : ℕ) (old new : Exporter) → Steps moment old new ⊎ DrainsEach DrainsInPart old new → new.settings ≡ old.settings
+steps_settings moment old new (inl steps) = steps.settings
+steps_settings moment old new (inr drains) = ap (λ (e : Exporter). e.settings) drains.1
 
 renders_settings : (moment n : ℕ) (old new : Exporter) → Renders moment n old new → new.settings ≡ old.settings
 renders_settings moment zero old new same = ap (λ (e : Exporter). e.settings) same
 renders_settings moment (suc n) old new (middle, first, inl same) = ap (λ (e : Exporter). e.settings) same ∙ renders_settings moment n old middle first
-renders_settings moment (suc n) old new (middle, first, inr rendered) = rendered.steps.settings ∙ renders_settings moment n old middle first
+renders_settings moment (suc n) old new (middle, first, inr rendered) = steps_settings moment middle new rendered.steps ∙ renders_settings moment n old middle first
 
 pub renders_home : (moment n : ℕ) (old new : Exporter) → AllHome old → Renders moment n old new → StaysHome moment old new
 renders_home moment zero old new home same = record { home = subst AllHome (sym same) home; state = inl (ap state_of same) }
@@ -48,8 +61,74 @@ renders_home moment (suc n) old new home (middle, first, inr rendered) =
     let stays = renders_home moment n old middle home first in
     record {
       home = rendered.home stays.home;
-      state = inr (next_state moment old middle new (renders_settings moment n old middle first) (rendered.stepped stays.home) stays.state);
+      state = next_state moment old middle new (renders_settings moment n old middle first) (rendered.stepped stays.home) stays.state;
     }
+
+renders_timely : (moment n : ℕ) (old new : Exporter) → AllHome old → AreTimely moment old → Renders moment n old new → AreTimely moment new
+renders_timely moment zero old new home timely same = subst (AreTimely moment) (sym same) timely
+renders_timely moment (suc n) old new home timely (middle, first, inl same) = subst (AreTimely moment) (sym same) (renders_timely moment n old middle home timely first)
+renders_timely moment (suc n) old new home timely (middle, first, inr rendered) = rendered.timely (renders_home moment n old middle home first).home (renders_timely moment n old middle home timely first)
+
+-- then the page stays the same
+page_stays : (moment : ℕ) (old new : Exporter) → new.settings ≡ old.settings → (state_of new ≡ state_of old) ⊎ (state_of new ≡ page_step old.settings.idle moment (state_of old)) → page_body moment new ≡ page_body moment old
+page_stays moment old new settings (inl same) = (λ j. body_shown (settings j) moment (same j))
+page_stays moment old new settings (inr stepped) =
+    (λ j. body_shown (settings j) moment (stepped j))
+    ∙ ap (λ (s : PrometheusState). body_text (families_at old.settings moment s)) (page_step-again old.settings.idle moment (state_of old))
+
+-- a render that answered, or not
+pub rendered_by : {A B : Type 0} (moment : ℕ) (old new : Exporter) → Steps moment old new ⊎ (A × DrainsEach DrainsInPart old new) → (AllHome old → AllHome new)
+    → (AllHome old → (state_of new ≡ page_step old.settings.idle moment (state_of old)) ⊎ (B × (state_of new ≡ state_of old))) → ((t : ℕ) → AllHome old → AreTimely t old → AreTimely t new) → IsRendered moment old new
+rendered_by {A} {B} moment old new steps home stepped timely = record { steps = steps_by steps; home = home; stepped = λ at_home. stepped_by (stepped at_home); timely = timely moment }
+  where
+    steps_by : Steps moment old new ⊎ (A × DrainsEach DrainsInPart old new) → Steps moment old new ⊎ DrainsEach DrainsInPart old new
+    steps_by (inl whole) = inl whole
+    steps_by (inr part) = inr part.1
+
+    stepped_by : (state_of new ≡ page_step old.settings.idle moment (state_of old)) ⊎ (B × (state_of new ≡ state_of old)) → (state_of new ≡ page_step old.settings.idle moment (state_of old)) ⊎ (state_of new ≡ state_of old)
+    stepped_by (inl step) = inl step
+    stepped_by (inr kept) = inr kept.1
+
+-- what is told of a connection that was answered and given back
+pub ended_by : (networks : Option (List NetworkText)) (moment : ℕ) (old new : Exporter) (who who_after : Option IpAddr) (finished after : Option (List Ended)) (start told : Option Told) (faults : ℕ) → who_after ≡ who → IfSome start IsFresh
+    → (IsSome finished → IsSome start) → (IsSome start → IsSome told) → IsAnsweredFirst networks moment old new who start told
+    → IfSome told (λ t. GrewBy finished after (record { who = who_after; told = t; faults = faults } ∷ []))
+    → IfSome finished (λ before. (ended : Ended) × (after ≡ Some (before ++ ended ∷ [])) × (IsTrue true → ended.faults ≡ 0 → IsAnsweredBy networks moment old new ended.who ended.told))
+ended_by networks moment old new who who_after None after start told faults same fresh tells told_on answered grew = tt
+ended_by networks moment old new who who_after (Some before) after None told faults same fresh tells told_on answered grew = absurd (true≢false (sym (tells refl)))
+ended_by networks moment old new who who_after (Some before) after (Some s) None faults same fresh tells told_on answered grew = absurd (true≢false (sym (told_on refl)))
+ended_by networks moment old new who who_after (Some before) after (Some s) (Some t) faults same fresh tells told_on answered grew =
+    let one = answered fresh in
+    let told_is : one.0 ≡ t = sym (same_Some t one.0 one.1) in (
+      record { who = who_after; told = t; faults = faults },
+      grew,
+      (λ truly no_faults. subst (λ (x : Told). IsAnsweredBy networks moment old new who_after x) told_is (subst (λ (w : Option IpAddr). IsAnsweredBy networks moment old new w one.0) (sym same) one.2)),
+    )
+
+-- a peer that was served saw the page of the exporter as it was
+pub served_shown : (networks : Option (List NetworkText)) (moment : ℕ) (exporter : Exporter) → AllHome exporter → AreTimely moment exporter → (ended : Ended) → IsServed networks moment exporter ended → IsShown networks moment exporter ended
+served_shown networks moment exporter home timely ended served no_faults = by (served no_faults)
+  where
+    by : (most : ℕ) × (before after : Exporter) × Renders moment most exporter before × MayRender moment before after × IsAnsweredBy networks moment before after ended.who ended.told
+        → IsAnswered networks (page_body moment exporter) ended.who ended.told
+    by (most, before, after, renders, may, inl (page, is, answered)) =
+        let stays = renders_home moment most exporter before home renders in
+        let same : page ≡ page_body moment exporter = is.home stays.home (renders_timely moment most exporter before home timely renders) ∙ page_stays moment exporter before (renders_settings moment most exporter before renders) stays.state in
+        subst (λ (p : List ℕ). IsAnswered networks p ended.who ended.told) same answered
+    by (most, before, after, renders, may, inr always) = always (page_body moment exporter)
+
+all_shown : (networks : Option (List NetworkText)) (moment : ℕ) (exporter : Exporter) → AllHome exporter → AreTimely moment exporter → (ended : List Ended) → All (IsServed networks moment exporter) ended → All (IsShown networks moment exporter) ended
+all_shown networks moment exporter home timely ended = All-weaker (IsServed networks moment exporter) (IsShown networks moment exporter) (served_shown networks moment exporter home timely) ended
+
+pub shows_page : (networks : Option (List NetworkText)) (moment accepted last : ℕ) (exporter left : Exporter) (old new : Listening) → Accepts networks moment accepted last exporter left old new
+    → ShowsPage networks moment accepted last exporter old.finished new.finished
+shows_page networks moment accepted last exporter left old new accepts home timely = by old.finished accepts.finished
+  where
+    by : (o : Option (List Ended))
+        → IfSome o (λ before. (ended : List Ended) × (new.finished ≡ Some (before ++ ended)) × (length ended ≡ accepted) × All (IsServed networks moment exporter) (take (accepted - last) ended))
+        → IfSome o (λ before. (ended : List Ended) × (new.finished ≡ Some (before ++ ended)) × (length ended ≡ accepted) × All (IsShown networks moment exporter) (take (accepted - last) ended))
+    by None none = tt
+    by (Some before) (ended, is, long, all) = (ended, is, long, all_shown networks moment exporter home timely (take (accepted - last) ended) all)
 
 -- ---- connections
 
@@ -73,27 +152,27 @@ module _ (networks : Option (List NetworkText)) (moment : ℕ) where
     -- one more was given back
     abbrev OneBehind : Bool → Option (List Ended) → List Ended → Type 0
     OneBehind was_served now before = (ended : Ended) × (now ≡ Some (before ++ ended ∷ []))
-        × (IsTrue was_served → ended.faults ≡ 0 → IsAnswered networks (shown_body moment new) ended.who ended.told)
+        × (IsTrue was_served → ended.faults ≡ 0 → IsAnsweredBy networks moment old new ended.who ended.told)
 
     -- what is shown of those that were served
-    abbrev Steps : Bool → ℕ → Type 0
-    Steps was_served last = (before : List Ended) (ended : Ended) → length before ≡ n → All (IsServed networks moment start) (take (n - 0) before)
-        → (IsTrue was_served → ended.faults ≡ 0 → IsAnswered networks (shown_body moment new) ended.who ended.told)
+    abbrev StepsOn : Bool → ℕ → Type 0
+    StepsOn was_served last = (before : List Ended) (ended : Ended) → length before ≡ n → All (IsServed networks moment start) (take (n - 0) before)
+        → (IsTrue was_served → ended.faults ≡ 0 → IsAnsweredBy networks moment old new ended.who ended.told)
         → All (IsServed networks moment start) (take (n + 1 - last) (before ++ ended ∷ []))
 
-    served_step : Renders moment (n + 1) start new → Steps true 0
-    served_step renders before ended long all answered =
+    served_step : Renders moment n start old → MayRender moment old new → StepsOn true 0
+    served_step renders one before ended long all answered =
         let whole : take (n - 0) before ≡ before = take_all (n - 0) before (omega arith) in
         let longer : take (n + 1 - 0) (before ++ ended ∷ []) ≡ before ++ ended ∷ [] = take_all (n + 1 - 0) (before ++ ended ∷ []) (omega (arith, length-append before (ended ∷ []))) in
-        rw longer (All-push (IsServed networks moment start) before ended (rw whole at all) (λ no_faults. (n + 1, new, renders, answered refl no_faults)))
+        rw longer (All-push (IsServed networks moment start) before ended (rw whole at all) (λ no_faults. (n, old, new, renders, one, answered refl no_faults)))
 
-    refused_step : Steps false 1
+    refused_step : StepsOn false 1
     refused_step before ended long all answered =
         let whole : take (n - 0) before ≡ before = take_all (n - 0) before (omega arith) in
         let same : take (n + 1 - 1) (before ++ ended ∷ []) ≡ before = take_at before (ended ∷ []) (n + 1 - 1) (omega arith) in
         rw same (rw whole at all)
 
-    behind_next : (was_served : Bool) (last : ℕ) → Steps was_served last → (first now after : Option (List Ended))
+    behind_next : (was_served : Bool) (last : ℕ) → StepsOn was_served last → (first now after : Option (List Ended))
         → IfSome first (Behind n 0 now) → IfSome now (OneBehind was_served after) → IfSome first (Behind (n + 1) last after)
     behind_next was_served last step None now after some one = tt
     behind_next was_served last step (Some before) now after (ended, is, long, all) one =
@@ -107,11 +186,10 @@ module _ (networks : Option (List NetworkText)) (moment : ℕ) where
     module _ (first now after : Listening) where
       pub served_next : Accepts networks moment n 0 start old first now → AcceptsOne networks moment true old new now after → Accepts networks moment (n + 1) 0 start new first after
       served_next some one =
-          let renders = renders_next moment n start old new some.renders one.renders in
           record {
             given = counted_more first.given now.given after.given n 1 some.given one.given;
-            renders = renders;
-            finished = behind_next true 0 (served_step renders) first.finished now.finished after.finished some.finished one.finished;
+            renders = renders_next moment n start old new some.renders one.renders;
+            finished = behind_next true 0 (served_step some.renders one.renders) first.finished now.finished after.finished some.finished one.finished;
           }
 
       pub refused_next : Accepts networks moment n 0 start old first now → AcceptsOne networks moment false old new now after → Accepts networks moment (n + 1) 1 start new first after

@@ -1,25 +1,44 @@
 -- How a peer was answered.
-use Rattle.std.proofs.Common.{◌≡◌, ℕ, Bool, List, Option, None, Some, subst, ap, ◌∙◌, refl}
+use Rattle.std.proofs.Common.{◌≡◌, ◌⊎◌, inl, inr, ℕ, Bool, List, Option, None, Some, subst, ap, ◌∙◌, refl}
 use Rattle.std.specs.Prelude.{IsTrue, IfSome, ◌↔◌}
 use Rattle.std.specs.declared.net.ip_addr.IpAddr.{IpAddr}
 use Rattle.net_addresses.specs.Addresses.{NetworkText}
+use Rattle.prom_exporter.specs.Exporter.{Exporter}
 use Rattle.prom_serve.specs.Answers.{IsAnswer}
+use Rattle.prom_serve.specs.Asked.{asked_text}
+use Rattle.prom_serve.specs.declared.answers.Asked.{Asked}
 use Rattle.prom_serve.specs.Connections.{Told, IsFresh, Wrote, with_taken, with_written}
 use Rattle.prom_serve.specs.Readings.{WereRead}
-use Rattle.prom_serve.specs.Serving.{IsAllowed, IsAnsweredFirst}
+use Rattle.prom_serve.specs.Serving.{IsAllowed, IsPageAt, IsAnswered, IsAnsweredBy, IsAnsweredFirst}
 
-module _ (networks : Option (List NetworkText)) (page : List ℕ) (who : Option IpAddr) (middle after : Option Told) (allowed : Bool) (head answer : List ℕ) where
+module _ (networks : Option (List NetworkText)) (moment : ℕ) (exporter_old exporter_new : Exporter) (who : Option IpAddr) (middle after : Option Told) (allowed : Bool) (head answer : List ℕ) where
   -- what is told of a new connection whose head was read and whose answer was written
   first_told : (before : Told) (left : List ℕ) → IsFresh before
       → (let told : Told = record { taken = head; left = left; written = answer } in with_written (with_taken before head left) answer ≡ told)
   first_told before left fresh = rw (fresh.0, fresh.1) refl
 
-  pub answered_first : (start : Option Told) → (IsTrue allowed ↔ IsAllowed networks who) → IsAnswer allowed head page answer
-      → IfSome start (λ before. WereRead before middle head) → Wrote middle after answer → IsAnsweredFirst networks page who start after
-  answered_first None is_allowed is_answer read wrote = tt
-  answered_first (Some before) is_allowed is_answer read wrote = λ fresh.
-      let written = subst (λ (o : Option Told). Wrote o after answer) read.told wrote in (
-        record { taken = head; left = read.left; written = answer },
+  -- the answer is one by the page that was rendered, or one whatever the page is
+  abbrev Answers : Type 0
+  Answers = ((page : List ℕ) × IsPageAt moment exporter_old exporter_new page × IsAnswer allowed head page answer) ⊎ ((page : List ℕ) → IsAnswer allowed head page answer)
+
+  answered_either : (told : Told) → ((page : List ℕ) → IsAnswer allowed head page answer → IsAnswered networks page who told) → Answers → IsAnsweredBy networks moment exporter_old exporter_new who told
+  answered_either told answered (inl (page, is, by)) = inl (page, is, answered page by)
+  answered_either told answered (inr always) = inr (λ page. answered page (always page))
+
+  pub answered_first : (start : Option Told) → (IsTrue allowed ↔ IsAllowed networks who) → Answers
+      → IfSome start (λ before. WereRead before middle head) → Wrote middle after answer → IsAnsweredFirst networks moment exporter_old exporter_new who start after
+  answered_first None is_allowed answers read wrote = tt
+  answered_first (Some before) is_allowed answers read wrote = λ fresh.
+      let written = subst (λ (o : Option Told). Wrote o after answer) read.told wrote in
+      let told : Told = record { taken = head; left = read.left; written = answer } in (
+        told,
         written ∙ ap Some (first_told before read.left fresh),
-        record { allowed = allowed; is_allowed = is_allowed; ends = read.ends; answer = is_answer },
+        answered_either told (λ page is_answer. record { allowed = allowed; is_allowed = is_allowed; ends = read.ends; answer = is_answer }) answers,
       )
+
+-- what is asked is answered so
+pub asked_either : (moment : ℕ) (old new : Exporter) (asked : Asked) (allowed : Bool) (head items : List ℕ) → ((page : List ℕ) → IsAnswer allowed head page (asked_text asked page))
+    → ((page : List ℕ) × IsPageAt moment old new page × (items ≡ asked_text asked page)) ⊎ ((page : List ℕ) → items ≡ asked_text asked page)
+    → ((page : List ℕ) × IsPageAt moment old new page × IsAnswer allowed head page items) ⊎ ((page : List ℕ) → IsAnswer allowed head page items)
+asked_either moment old new asked allowed head items is (inl (page, shown, same)) = inl (page, shown, rw same (is page))
+asked_either moment old new asked allowed head items is (inr same) = inr (λ page. rw (same page) (is page))

@@ -4,8 +4,8 @@ use Rattle.std.specs.List.{Any}
 use Rattle.std.specs.declared.net.ip_addr.IpAddr.{IpAddr}
 use Rattle.net_addresses.specs.Addresses.{NetworkText, Holds}
 use Rattle.prom_exporter.specs.State.{page_step}
-use Rattle.prom_exporter.specs.Exporter.{Exporter, AllHome, state_of, shown_body}
-use Rattle.prom_exporter.specs.Stepped.{Steps}
+use Rattle.prom_exporter.specs.Exporter.{Exporter, AllHome, AreTimely, state_of, shown_body, page_body}
+use Rattle.prom_exporter.specs.Stepped.{Steps, DrainsEach, DrainsInPart}
 use Rattle.prom_serve.specs.Answers.{IsAnswer}
 use Rattle.prom_serve.specs.Connections.{Told, Ended, IsFresh, CountedOn}
 use Rattle.prom_serve.specs.Readings.{EndsReading}
@@ -20,11 +20,17 @@ IsAllowed (Some networks) (Some address) = Any (λ network. Holds network addres
 
 -- ---- renders
 
--- one render at a moment
+-- one render at a moment: the page step was made, or histograms were drained in part, where memory was refused
 pub record IsRendered (moment : ℕ) (old new : Exporter) : Type 0 where
-  pub steps : Steps moment old new
+  pub steps : Steps moment old new ⊎ DrainsEach DrainsInPart old new
   pub home : AllHome old → AllHome new
-  pub stepped : AllHome old → state_of new ≡ page_step old.settings.idle moment (state_of old)
+  pub stepped : AllHome old → (state_of new ≡ page_step old.settings.idle moment (state_of old)) ⊎ (state_of new ≡ state_of old)
+  pub timely : AllHome old → AreTimely moment old → AreTimely moment new
+
+-- the bytes are the page that a render at a moment wrote
+pub record IsPageAt (moment : ℕ) (old new : Exporter) (page : List ℕ) : Type 0 where
+  pub shown : AreTimely moment new → page ≡ shown_body moment new
+  pub home : AllHome old → AreTimely moment old → page ≡ page_body moment old
 
 -- one render at a moment, or none
 abbrev pub MayRender : ℕ → Exporter → Exporter → Type 0
@@ -49,15 +55,25 @@ pub record IsAnswered (networks : Option (List NetworkText)) (page : List ℕ) (
   pub ends : EndsReading told.taken told.left
   pub answer : IsAnswer allowed told.taken page told.written
 
--- and so was the peer of a connection that tells and of which nothing was read before
-abbrev pub IsAnsweredFirst : Option (List NetworkText) → List ℕ → Option IpAddr → Option Told → Option Told → Type 0
-IsAnsweredFirst networks page who old new =
-    IfSome old (λ before. IsFresh before → (told : Told) × (new ≡ Some told) × IsAnswered networks page who told)
+-- a peer was answered: by the page that was just rendered, or by what is the answer whatever the page is
+abbrev pub IsAnsweredBy : Option (List NetworkText) → ℕ → Exporter → Exporter → Option IpAddr → Told → Type 0
+IsAnsweredBy networks moment old new who told =
+    ((page : List ℕ) × IsPageAt moment old new page × IsAnswered networks page who told) ⊎ ((page : List ℕ) → IsAnswered networks page who told)
 
--- a connection that was given back without faults was answered, by the page of the exporter after renders at the moment
+-- and so was the peer of a connection that tells and of which nothing was read before
+abbrev pub IsAnsweredFirst : Option (List NetworkText) → ℕ → Exporter → Exporter → Option IpAddr → Option Told → Option Told → Type 0
+IsAnsweredFirst networks moment exporter_old exporter_new who old new =
+    IfSome old (λ before. IsFresh before → (told : Told) × (new ≡ Some told) × IsAnsweredBy networks moment exporter_old exporter_new who told)
+
+-- a connection that was given back without faults was answered, the exporter being what earlier renders at the moment had left
 abbrev pub IsServed : Option (List NetworkText) → ℕ → Exporter → Ended → Type 0
 IsServed networks moment exporter ended =
-    ended.faults ≡ 0 → (most : ℕ) × (shown : Exporter) × Renders moment most exporter shown × IsAnswered networks (shown_body moment shown) ended.who ended.told
+    ended.faults ≡ 0
+    → (most : ℕ) × (before after : Exporter) × Renders moment most exporter before × MayRender moment before after × IsAnsweredBy networks moment before after ended.who ended.told
+
+-- it was answered by the page of the exporter as it was
+abbrev pub IsShown : Option (List NetworkText) → ℕ → Exporter → Ended → Type 0
+IsShown networks moment exporter ended = ended.faults ≡ 0 → IsAnswered networks (page_body moment exporter) ended.who ended.told
 
 -- ---- a call
 
@@ -79,4 +95,10 @@ pub record AcceptsOne (networks : Option (List NetworkText)) (moment : ℕ) (was
   pub renders : MayRender moment exporter_old exporter_new
   pub finished : IfSome old.finished (λ before.
       (ended : Ended) × (new.finished ≡ Some (before ++ ended ∷ []))
-      × (IsTrue was_served → ended.faults ≡ 0 → IsAnswered networks (shown_body moment exporter_new) ended.who ended.told))
+      × (IsTrue was_served → ended.faults ≡ 0 → IsAnsweredBy networks moment exporter_old exporter_new ended.who ended.told))
+
+-- Where no pass is out and no moment is after that of the page, each peer that was served saw the page of the exporter as it was.
+abbrev pub ShowsPage : Option (List NetworkText) → ℕ → ℕ → ℕ → Exporter → Option (List Ended) → Option (List Ended) → Type 0
+ShowsPage networks moment accepted last exporter old new =
+    AllHome exporter → AreTimely moment exporter → IfSome old (λ before.
+    (ended : List Ended) × (new ≡ Some (before ++ ended)) × (length ended ≡ accepted) × All (IsShown networks moment exporter) (take (accepted - last) ended))

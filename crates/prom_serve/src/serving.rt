@@ -1,14 +1,14 @@
 //! Serving the page.
 
-ghost use Rattle.std.specs.Prelude.{◌≡◌, ◌+◌, ◌≤◌, ◌↔◌, ℕ, length, option_copied, IsTrue, IsSome, IfOk, IfErr, OnErr, OnOk, Err, true, false, if◌then◌else◌};
+ghost use Rattle.std.specs.Prelude.{◌≡◌, ◌+◌, ◌≤◌, ◌↔◌, ◌⊎◌, ℕ, List, length, option_copied, IsTrue, IsSome, IfOk, IfErr, OnErr, OnOk, Err, true, false, if◌then◌else◌};
 ghost use Rattle.metrics_core.specs.Outside.{Rose};
 ghost use Rattle.net_addresses.specs.Addresses.{Holds};
-ghost use Rattle.prom_exporter.specs.Exporter.{AllHome, shown_body};
+ghost use Rattle.prom_exporter.specs.Exporter.{AllHome};
 ghost use Rattle.std.specs.List.{Any};
 ghost use Rattle.prom_serve.specs.Asked.{asked_text};
 ghost use Rattle.prom_serve.specs.Connections.{CountedOn};
 ghost use Rattle.prom_serve.specs.Refusals.{excepted};
-ghost use Rattle.prom_serve.specs.Serving.{IsAllowed, IsRendered, MayRender, StaysHome, IsAnsweredFirst, Accepts, AcceptsOne};
+ghost use Rattle.prom_serve.specs.Serving.{IsAllowed, IsRendered, IsPageAt, MayRender, StaysHome, ShowsPage, IsAnsweredFirst, Accepts, AcceptsOne};
 ghost use Rattle.prom_serve.specs.declared.serving.GivenUp.TheVariants as given_up;
 
 use crate::answers::{Asked, answer_of, asked_by};
@@ -79,7 +79,7 @@ fn page_at<R: Wait>(
     moment: u64,
 ) -> Result<MemorySink, Memory>
     ensures rendered { IsRendered moment state.old state.new }
-    ensures page { IfOk result (λ sink. sink.written ≡ shown_body moment state.new) }
+    ensures page { IfOk result (λ sink. IsPageAt moment state.old state.new sink.written) }
 {
     let mut sink = MemorySink::new(alloc, usize::MAX, Vec::new(alloc));
     match state.render_to_write(rt, alloc, moment, &mut sink) {
@@ -89,7 +89,7 @@ fn page_at<R: Wait>(
     }
 }
 
-/// The answer to what is asked. Only where that is the page is it written.
+/// The answer to what is asked. Only where that is the page is it rendered.
 fn answer_to<R: Wait>(
     rt: &R,
     alloc: Global,
@@ -98,7 +98,8 @@ fn answer_to<R: Wait>(
     moment: u64,
 ) -> Result<Vec<u8>, Memory>
     ensures renders { MayRender moment state.old state.new }
-    ensures answer { IfOk result (λ answer. answer.items ≡ asked_text asked.now (shown_body moment state.new)) }
+    ensures answer { IfOk result (λ answer. ((page : List ℕ) × IsPageAt moment state.old state.new page × (answer.items ≡ asked_text asked.now page))
+        ⊎ ((page : List ℕ) → answer.items ≡ asked_text asked.now page)) }
 {
     match asked {
         Asked::Page { .. } => {
@@ -119,7 +120,7 @@ fn answer_peer<R: Wait, C: Conn>(
     conn: &mut C,
     room: &mut HeadRoom,
 ) -> Result<(), GivenUp>
-    ensures answered { OnOk result (IsAnsweredFirst (option_copied allowed.entry) (shown_body moment state.new) (C.who conn.old) (C.told conn.old) (C.told conn.new)) }
+    ensures answered { OnOk result (IsAnsweredFirst (option_copied allowed.entry) moment state.old state.new (C.who conn.old) (C.told conn.old) (C.told conn.new)) }
     ensures renders { MayRender moment state.old state.new }
     ensures tells { IsSome (C.told conn.old) → IsSome (C.told conn.new) }
     ensures who { C.who conn.new ≡ C.who conn.old }
@@ -187,6 +188,7 @@ pub fn serve<R: Net<Listener = TcpListener, Stream = TcpStream> + Wait, N: Liste
     ensures cause { result ≡ Err ServeError.FailedToCreateHTTPListener → Rose (N.faults listener.old) (N.faults listener.new) }
     ensures never_falls { N.faults listener.old ≤ N.faults listener.new }
     ensures home { AllHome state.old → StaysHome moment state.old state.new }
+    ensures pages { OnOk result (ShowsPage (option_copied allowed.entry) moment count 0 state.old (N.finished listener.old) (N.finished listener.new)) }
 {
     let mut room = HeadRoom::new(alloc)?;
     let mut failed = 0;

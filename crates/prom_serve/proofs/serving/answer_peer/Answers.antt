@@ -1,12 +1,10 @@
 use Rattle.std.specs.Prelude.{option_copied}
-use Rattle.prom_exporter.specs.Exporter.{shown_body}
-use Rattle.prom_serve.proofs.Answered.{answered_first}
+use Rattle.prom_serve.proofs.Answered.{answered_first, asked_either}
 use Rattle.prom_serve.proofs.serving.answer_peer.Goals as goal
 
 pub returns-clause-answered : goal.returns-clause-answered
 returns-clause-answered g c =
-    let page = shown_body c.args.moment c.answer_to.new.state in
-    answered_first (option_copied c.args.allowed) page (g.C.Conn.who c.args.conn.now) (g.C.Conn.told c.read.new.conn) (g.C.Conn.told c.write_whole.new.conn) c.is_allowed.result c.head.result.now c.as_slice.result.now
+    answered_first (option_copied c.args.allowed) c.args.moment c.args.state.now c.answer_to.new.state (g.C.Conn.who c.args.conn.now) (g.C.Conn.told c.read.new.conn) (g.C.Conn.told c.write_whole.new.conn) c.is_allowed.result c.head.result.now c.as_slice.result.now
     (g.C.Conn.told c.args.conn.now) (rw (c.peer.ensures, c.in_ok-end.ensures.who) at c.is_allowed.ensures)
-    (rw (c.as_slice.ensures.value, c.in_ok-answer.ensures.answer) (c.asked_by-asked.ensures page))
+    (rw c.as_slice.ensures.value (asked_either c.args.moment c.args.state.now c.answer_to.new.state c.asked_by-asked.result c.is_allowed.result c.head.result.now _ c.asked_by-asked.ensures c.in_ok-answer.ensures.answer))
     (rw c.head.ensures c.in_ok-end.ensures.read) c.in_ok-write_whole.ensures.wrote

@@ -1,8 +1,9 @@
-use Rattle.std.proofs.Common.{◌≡◌, ◌≤◌, Bool, true, false, Result, Ok, Err, ap, refl, arith}
-use Rattle.std.specs.Prelude.{IfErr, if◌then◌else◌}
+use Rattle.std.proofs.Common.{◌≡◌, ◌≤◌, Bool, true, false, Result, Ok, Err, ap, subst, refl, arith}
+use Rattle.std.specs.Prelude.{IfErr, option_copied, if◌then◌else◌}
 use Rattle.std.specs.Result.{IsErrAnd}
 use Rattle.std.specs.Int.{from_bool}
-use Rattle.prom_serve.proofs.Accepted.{none_accepted, served_next, refused_by, renders_home, counted_more}
+use Rattle.prom_serve.specs.Serving.{ShowsPage}
+use Rattle.prom_serve.proofs.Accepted.{none_accepted, served_next, refused_by, renders_home, shows_page, counted_more}
 use Rattle.prom_serve.proofs.serving.serve.Goals as goal
 
 on_err : {A E : Type 0} (P : E → Type 0) (r : Result A E) → ((e : E) → P e) → IfErr r P
@@ -52,3 +53,10 @@ returns-in_err-has_failed-clause-home g c home =
 
 pub returns-clause-home : goal.returns-clause-home
 returns-clause-home g c home = renders_home c.args.moment _ c.args.state.now c.loop-accepted.state home c.loop-accepted.invariant.served.renders
+
+pub returns-clause-pages : goal.returns-clause-pages
+returns-clause-pages g c =
+    let all : c.loop-accepted._accepted ≡ c.args.count = omega (arith, c.loop-accepted.auto._accepted-end, c.loop-accepted-test.false) in
+    let finished = g.N.Listener.finished in
+    subst (λ n. ShowsPage (option_copied c.args.allowed) c.args.moment n 0 c.args.state.now (finished c.args.listener.now) (finished c.loop-accepted.listener)) all
+    (shows_page (option_copied c.args.allowed) c.args.moment c.loop-accepted._accepted 0 c.args.state.now c.loop-accepted.state _ _ c.loop-accepted.invariant.served)
