@@ -1,1 +1,17 @@
+pub mod Counters
+pub mod Draining
+pub mod Flushed
+pub mod FoundAll
+pub mod FoundHome
+pub mod Gauges
+pub mod Handed
+pub mod Histograms
+pub mod LeftOut
+pub mod Marks
+pub mod Offering
+pub mod PutBack
+pub mod Registered
 pub mod Schemes
+pub mod Sent
+pub mod SentSamples
+pub mod Taken

@@ -1,7 +1,13 @@
+pub mod Builders
+pub mod Exporter
 pub mod Faults
+pub mod Flushing
+pub mod Lending
 pub mod Limits
+pub mod Links
 pub mod Remotes
 pub mod Samples
+pub mod Sending
 pub mod State
 pub mod Updates
 pub mod Vectors

@@ -1,5 +1,5 @@
 -- What cells hold after their calls, as definitions that compute it.
-use Rattle.std.specs.Prelude.{ℕ, List, [], ◌∷◌, ◌++◌, fold, flat_map, replicate}
+use Rattle.std.specs.Prelude.{List, [], ◌∷◌, ◌++◌, flat_map, replicate}
 use Rattle.metrics_core.specs.declared.numbers.Fixed.{Fixed as FixedOf}
 use Rattle.flushed_cells.specs.declared.counter_state.CounterState.{CounterState}
 use Rattle.flushed_cells.specs.declared.counter_calls.CounterCall.{CounterCall}

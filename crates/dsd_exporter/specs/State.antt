@@ -1,11 +1,11 @@
 -- The state of the DogStatsD exporter, and the steps of registering, calling and flushing (this project's rules).
-use Rattle.std.specs.Prelude.{ℕ, ◌+◌, ◌-◌, ◌*◌, ◌/◌, ◌^◌, Bool, true, false, ◌&&◌, ◌==◌, List, [], ◌∷◌, ◌++◌, map, length, take, drop, Option, Some, None, is_some, option_map, unwrap_or, flat_map, codes, unsigned_abs, decimal, if◌then◌else◌}
+use Rattle.std.specs.Prelude.{ℕ, zero, suc, ◌+◌, ◌-◌, ◌/◌, ◌^◌, Bool, false, ◌&&◌, ◌==◌, List, [], ◌∷◌, ◌++◌, map, length, drop, Option, Some, None, is_some, option_map, unwrap_or, flat_map, codes, decimal, if◌then◌else◌}
 use Rattle.std.specs.Prelude.{nat_eq}
 use Rattle.std.specs.List.{starts_with}
 use Rattle.metrics_core.specs.declared.kinds.MetricKind.{MetricKind}
 use Rattle.metrics_core.specs.declared.kinds.MetricKind.TheVariants as kinds
 use Rattle.metrics_core.specs.declared.numbers.Fixed.{Fixed as FixedOf}
-use Rattle.metrics_core.specs.Numbers.{one, in_64_bits, dogstatsd_number}
+use Rattle.metrics_core.specs.Numbers.{one, dogstatsd_number}
 use Rattle.metrics_core.specs.Keys.{KeyText, LabelText}
 use Rattle.metrics_registry.specs.Live.{LiveSeries, RegistryText, id_of_key, with_counter, with_gauge, with_histogram}
 use Rattle.metrics_registry.specs.Reservoirs.{reservoir, draws, sample_rate}
@@ -13,7 +13,7 @@ use Rattle.flushed_cells.specs.declared.counter_state.CounterState.{CounterState
 use Rattle.flushed_cells.specs.declared.gauge_state.GaugeState.{GaugeState}
 use Rattle.flushed_cells.specs.Counters as counters
 use Rattle.flushed_cells.specs.Gauges as gauges
-use Rattle.dsd_writer.specs.Lines.{ItemText, lines_of, left_out_values, kept_values, spelled_values}
+use Rattle.dsd_writer.specs.Lines.{ItemText, lines_of, left_out_values, spelled_values}
 use Rattle.dsd_writer.specs.Writers.{item_of, timed, sampled}
 
 -- the series of each kind, in order of registration, none of which is ever removed; a histogram holds the samples since the last flush
@@ -85,7 +85,8 @@ pub record FlushItem : Type 0 where
 -- whether a counter is idle
 abbrev pub idle_at : List Bool → ℕ → Bool
 idle_at [] n = false
-idle_at (mark ∷ marks) n = if n == 0 then mark else idle_at marks (n - 1)
+idle_at (mark ∷ marks) zero = mark
+idle_at (mark ∷ marks) (suc n) = idle_at marks n
 
 -- a counter without updates
 abbrev pub is_quiet : CounterState → Bool

@@ -1,12 +1,12 @@
 -- What flushes and sends add up to for the exporter's own counters (this project's rules). Each sum is modulo 2 ^ 64.
-use Rattle.std.specs.Prelude.{◌≡◌, ℕ, ◌+◌, ◌*◌, ◌/◌, ◌<◌, ◌⊎◌, List, [], ◌∷◌, length, ℤ, Option, Some, None, fold, unsigned_abs, nat_lt, if◌then◌else◌}
+use Rattle.std.specs.Prelude.{ℕ, ◌+◌, ◌*◌, ◌/◌, ◌<◌, ◌⊎◌, List, length, ℤ, Option, Some, None, fold, unsigned_abs, nat_lt, if◌then◌else◌}
 use Rattle.metrics_core.specs.declared.kinds.MetricKind.{MetricKind}
 use Rattle.metrics_core.specs.declared.kinds.MetricKind.TheVariants as kinds
 use Rattle.metrics_core.specs.Numbers.{one, in_64_bits}
 use Rattle.dsd_writer.specs.Lines.{kept_values}
 use Rattle.dsd_exporter.specs.State.{FlushItem, left_out_of}
 
--- contexts are series that were sent, points are updates that lines tell of; packets and bytes are payloads handed to the link; serializations fail where points are left out
+-- contexts are series that were sent, points are updates that lines tell of; packets and bytes are payloads handed to the link; serializations fail where points are left out, and these points are counted too
 pub record UpdateText : Type 0 where
   pub counter_contexts : ℕ
   pub gauge_contexts : ℕ
@@ -19,6 +19,7 @@ pub record UpdateText : Type 0 where
   pub packets_unsent : ℕ
   pub bytes_unsent : ℕ
   pub failed_serializations : ℕ
+  pub points_left_out : ℕ
 
 abbrev pub no_update : UpdateText
 no_update = record {
@@ -33,6 +34,7 @@ no_update = record {
   packets_unsent = 0;
   bytes_unsent = 0;
   failed_serializations = 0;
+  points_left_out = 0;
 }
 
 abbrev pub with_contexts : MetricKind → ℕ → UpdateText → UpdateText
@@ -54,6 +56,10 @@ with_unsent bytes u = record u { packets_unsent = in_64_bits (u.packets_unsent +
 
 abbrev pub with_failed : UpdateText → UpdateText
 with_failed u = record u { failed_serializations = in_64_bits (u.failed_serializations + 1) }
+
+-- so many points were left out
+abbrev pub with_left_out : ℕ → UpdateText → UpdateText
+with_left_out n u = record u { points_left_out = in_64_bits (u.points_left_out + n) }
 
 -- whether a flush told of an update
 abbrev pub HadUpdates : UpdateText → Type 0
@@ -79,7 +85,7 @@ abbrev pub with_failure_of : ℕ → FlushItem → UpdateText → UpdateText
 with_failure_of limit i u = if nat_lt 0 (left_out_of limit i) then with_failed u else u
 
 abbrev pub with_item : ℕ → UpdateText → FlushItem → UpdateText
-with_item limit u i = with_failure_of limit i (with_points i.kind (points_of limit i) (with_contexts i.kind 1 u))
+with_item limit u i = with_left_out (left_out_of limit i) (with_failure_of limit i (with_points i.kind (points_of limit i) (with_contexts i.kind 1 u)))
 
 abbrev pub with_items : ℕ → UpdateText → List FlushItem → UpdateText
 with_items limit u items = fold (with_item limit) u items

@@ -1,9 +1,13 @@
 //! What flushes and sends add up to for the exporter's own counters.
 
-ghost use Rattle.std.specs.Prelude.{◌≡◌, ◌↔◌, IsTrue};
+ghost use Rattle.std.specs.Prelude.{◌≡◌, ◌↔◌, ◌*◌, ◌/◌, ◌<◌, IsTrue, nat_lt, if◌then◌else◌};
 ghost use Rattle.metrics_core.specs.declared.kinds.MetricKind.TheVariants.{Counter, Gauge, Histogram};
-ghost use Rattle.dsd_exporter.specs.Updates.{HadUpdates, no_update, with_contexts, with_failed, with_points, with_sent, with_unsent};
+ghost use Rattle.metrics_core.specs.Numbers.{one, in_64_bits};
+ghost use Rattle.dsd_exporter.specs.Flushing.{with_series, rate_of};
+ghost use Rattle.dsd_exporter.specs.Updates.{rate_in, HadUpdates, no_update, with_contexts, with_failed, with_left_out, with_points, with_sent, with_unsent};
 
+use dsd_writer::WriteResult;
+use metrics_core::{BILLIONTHS, Fixed, MetricKind};
 use std::marker::Model;
 
 /// What flushes and sends add up to: each sum is modulo 2^64. It takes no memory.
@@ -20,6 +24,7 @@ pub struct TelemetryUpdate {
     packets_unsent: u64,
     bytes_unsent: u64,
     failed_serializations: u64,
+    points_left_out: u64,
 }
 
 impl Model for TelemetryUpdate {
@@ -39,6 +44,7 @@ impl Model for TelemetryUpdate {
       packets_unsent = u.packets_unsent;
       bytes_unsent = u.bytes_unsent;
       failed_serializations = u.failed_serializations;
+      points_left_out = u.points_left_out;
     } };
 
     ghost inverse = { λ u. record {
@@ -53,6 +59,7 @@ impl Model for TelemetryUpdate {
       packets_unsent = u.packets_unsent;
       bytes_unsent = u.bytes_unsent;
       failed_serializations = u.failed_serializations;
+      points_left_out = u.points_left_out;
     } };
 }
 
@@ -80,6 +87,7 @@ impl TelemetryUpdate {
             packets_unsent: 0,
             bytes_unsent: 0,
             failed_serializations: 0,
+            points_left_out: 0,
         }
     }
 
@@ -154,4 +162,71 @@ impl TelemetryUpdate {
     {
         self.failed_serializations = self.failed_serializations.wrapping_add(1);
     }
+
+    /// Counts a series that was sent with one number, which tells of so many updates.
+    pub(crate) fn count_number(&mut self, kind: MetricKind, updates: u64, written: &WriteResult)
+        ensures { self.new ≡ with_series kind (if nat_lt 0 written.now.left_out then 0 else updates) written.now.left_out self.old }
+    {
+        let points = if written.any_failures() { 0 } else { updates };
+        self.count_series(kind, points, written.points_dropped());
+    }
+
+    /// The points that were left out, modulo 2^64. It is none of the exporter's own counters.
+    pub(crate) fn points_left_out(&self) -> u64
+        ensures { result ≡ self.now.points_left_out }
+    {
+        self.points_left_out
+    }
+
+    /// Adds points that were left out.
+    fn count_left_out(&mut self, points: u64)
+        ensures { self.new ≡ with_left_out points self.old }
+    {
+        self.points_left_out = self.points_left_out.wrapping_add(points);
+    }
+
+    /// Counts a series that was sent, which tells of so many points, and of which so many were left out.
+    pub(crate) fn count_series(&mut self, kind: MetricKind, points: u64, left_out: u64)
+        ensures { self.new ≡ with_series kind points left_out self.old }
+    {
+        match kind {
+            MetricKind::Counter => {
+                self.increment_counter_contexts(1);
+                self.increment_counter_points(points);
+            }
+            MetricKind::Gauge => {
+                self.increment_gauge_contexts(1);
+                self.increment_gauge_points(points);
+            }
+            MetricKind::Histogram => {
+                self.increment_histogram_contexts(1);
+                self.increment_histogram_points(points);
+            }
+        }
+        if left_out > 0 {
+            self.track_packet_serializer_failed();
+        }
+        self.count_left_out(left_out);
+    }
+
+    /// Counts a histogram that was sent: so many of its values stand on lines with this rate, and so many were left out.
+    pub(crate) fn count_samples(&mut self, kept: u64, rate: Option<Fixed>, left_out: u64)
+        requires { 0 < rate_in (rate_of rate) }
+        ensures { self.new ≡ with_series Histogram (kept * one / rate_in (rate_of rate)) left_out self.old }
+    {
+        self.count_series(MetricKind::Histogram, points_at(kept, rate), left_out);
+    }
+}
+
+/// How many samples so many values tell of where they have this rate, rounded down and modulo 2^64.
+fn points_at(kept: u64, rate: Option<Fixed>) -> u64
+    requires { 0 < rate_in (rate_of rate) }
+    ensures { result ≡ in_64_bits (kept * one / rate_in (rate_of rate)) }
+{
+    let rate = match rate {
+        Some(rate) => rate.0.unsigned_abs(),
+        None => u64::from(BILLIONTHS),
+    };
+    let points = u128::from(kept) * u128::from(BILLIONTHS) / u128::from(rate);
+    (points % (1 << 64)) as u64
 }

@@ -1,0 +1,270 @@
+//! A flush: what waits in each series is taken, written and counted, series by series.
+
+ghost use Rattle.std.specs.Prelude.{◌≡◌, ◌&&◌, ◌<◌, ℕ, ℤ, ◌^◌, List, ◌∷◌, [], length, decimal, vec_len, vec_capacity, OnOk, OnErr, FitsSigned};
+ghost use Rattle.std.specs.Int.{w64};
+ghost use Rattle.metrics_core.specs.Keys.{KeyText};
+ghost use Rattle.metrics_core.specs.Numbers.{dogstatsd_number};
+ghost use Rattle.dsd_writer.specs.Lines.{lines_of};
+ghost use Rattle.dsd_writer.specs.Writers.{HasRoomFor, SameSettings};
+ghost use Rattle.flushed_cells.specs.declared.counter_state.CounterState.{CounterState};
+ghost use Rattle.flushed_cells.specs.declared.gauge_state.GaugeState.{GaugeState};
+ghost use Rattle.dsd_exporter.specs.Exporter.{AllHome};
+ghost use Rattle.dsd_exporter.specs.Flushing.{Found, Flushes, FlushesAll, IsWhole, HasKeyAt, ChangesAt, TakesCounter, TakesGauge, WritesOne, Sends, FlushesCounter, FlushesGauge, CountersFlushed, GaugesFlushed, counter_line, gauge_line};
+
+use crate::flush_state::{FlushState, replace_mark, reserve_mark};
+use crate::state::State;
+use crate::update::TelemetryUpdate;
+use dsd_writer::{PayloadWriter, WriteResult};
+use metrics_core::{Fixed, Memory, MetricKind, Words};
+use std::alloc::Global;
+use std::sync::Wait;
+
+/// Whether a counter is not sent.
+fn is_skipped(is_quiet: bool, was_idle: bool) -> bool
+    ensures { result ≡ (is_quiet && was_idle) }
+{
+    is_quiet && was_idle
+}
+
+impl State {
+    /// Makes room for the line of the counter at a place, whatever its value.
+    fn reserve_counter(
+        &self,
+        place: usize,
+        moment: u64,
+        writer: &mut PayloadWriter,
+    ) -> Result<(), Memory>
+        ensures settings { SameSettings writer.old writer.new }
+        ensures lines { writer.new.lines ≡ writer.old.lines }
+        ensures room { OnOk result ((key : KeyText) → HasKeyAt place key self.now.series.counters → (value : ℕ) → value < 2 ^ 64
+            → HasRoomFor writer.new (lines_of writer.old.limit (counter_line self.now.settings writer.old.global_tags moment key) (decimal value ∷ []))) }
+    {
+        let Some(key) = self.series.counters().key(place) else {
+            return Ok(());
+        };
+        let timestamp = self.configuration.timestamp_at(moment);
+        writer.reserve_counter(key, timestamp, self.configuration.prefix_for(key))
+    }
+
+    /// Takes what waits in the counter at a place: its delta, and its number of updates.
+    fn take_counter<R: Wait>(&mut self, rt: &R, place: usize) -> (u64, u64)
+        requires { place < length self.old.series.counters }
+        ensures taken { (found : CounterState) × (result ≡ (found.delta, found.updates))
+            × ChangesAt place (λ c d. TakesCounter c found d) self.old.series.counters self.new.series.counters }
+        ensures others { self.new ≡ record self.old { series = record self.old.series { counters = self.new.series.counters } } }
+    {
+        self.series.counter_at(place).read(rt)
+    }
+
+    /// Writes the line of the counter at a place, for which there is room.
+    fn write_counter(
+        &self,
+        place: usize,
+        delta: u64,
+        moment: u64,
+        writer: &mut PayloadWriter,
+    ) -> WriteResult
+        requires here { place < length self.now.series.counters }
+        requires room { (key : KeyText) → HasKeyAt place key self.now.series.counters → (value : ℕ) → value < 2 ^ 64
+            → HasRoomFor writer.old (lines_of writer.old.limit (counter_line self.now.settings writer.old.global_tags moment key) (decimal value ∷ [])) }
+        ensures { (key : KeyText) × HasKeyAt place key self.now.series.counters
+            × WritesOne (counter_line self.now.settings writer.old.global_tags moment key) (decimal delta) result writer.old writer.new }
+    {
+        let Some(key) = self.series.counters().key(place) else {
+            unreachable!()
+        };
+        let timestamp = self.configuration.timestamp_at(moment);
+        let prefix = self.configuration.prefix_for(key);
+        let Ok(written) = writer.write_counter(key, delta, timestamp, prefix) else {
+            unreachable!()
+        };
+        written
+    }
+
+    /// Flushes the counter at a place. Where memory is refused nothing changes.
+    fn flush_counter<R: Wait>(
+        &mut self,
+        rt: &R,
+        place: usize,
+        marks: &mut Vec<bool>,
+        writer: &mut PayloadWriter,
+        telemetry: &mut TelemetryUpdate,
+        moment: u64,
+    ) -> Result<(), Memory>
+        requires { place < length self.old.series.counters }
+        ensures flushed { OnOk result (FlushesCounter self.old.settings moment place self.old.series.counters self.new.series.counters
+            marks.old.items marks.new.items writer.old writer.new telemetry.old telemetry.new) }
+        ensures others { self.new ≡ record self.old { series = record self.old.series { counters = self.new.series.counters } } }
+        ensures refused { OnErr result ((self.new.series.counters ≡ self.old.series.counters) × (marks.new.items ≡ marks.old.items)
+            × Sends [] writer.old writer.new telemetry.old telemetry.new) }
+    {
+        reserve_mark(marks)?;
+        self.reserve_counter(place, moment, writer)?;
+        let (delta, updates) = self.take_counter(rt, place);
+        let is_quiet = updates == 0;
+        let was_idle = replace_mark(marks, place, is_quiet);
+        if is_skipped(is_quiet, was_idle) {
+            return Ok(());
+        }
+        let written = self.write_counter(place, delta, moment, writer);
+        telemetry.count_number(MetricKind::Counter, updates, &written);
+        Ok(())
+    }
+
+    /// Flushes all counters, in order. Where memory is refused those before the refused one were flushed.
+    fn flush_counters<R: Wait>(
+        &mut self,
+        rt: &R,
+        marks: &mut Vec<bool>,
+        writer: &mut PayloadWriter,
+        telemetry: &mut TelemetryUpdate,
+        moment: u64,
+    ) -> Result<(), Memory>
+        ensures { (found : List CounterState)
+            × CountersFlushed self.old.settings moment found self.old self.new marks.old.items marks.new.items writer.old writer.new telemetry.old telemetry.new
+            × OnOk result (length found ≡ length self.old.series.counters) }
+    {
+        for place in 0..self.series.counter_count() {
+            self.flush_counter(rt, place, marks, writer, telemetry, moment)?;
+        }
+        Ok(())
+    }
+
+    /// Makes room for the line of the gauge at a place, whatever its value.
+    fn reserve_gauge(
+        &self,
+        place: usize,
+        moment: u64,
+        writer: &mut PayloadWriter,
+    ) -> Result<(), Memory>
+        ensures settings { SameSettings writer.old writer.new }
+        ensures lines { writer.new.lines ≡ writer.old.lines }
+        ensures room { OnOk result ((key : KeyText) → HasKeyAt place key self.now.series.gauges → (value : ℤ) → FitsSigned w64 value
+            → HasRoomFor writer.new (lines_of writer.old.limit (gauge_line self.now.settings writer.old.global_tags moment key) (dogstatsd_number value ∷ []))) }
+    {
+        let Some(key) = self.series.gauges().key(place) else {
+            return Ok(());
+        };
+        let timestamp = self.configuration.timestamp_at(moment);
+        writer.reserve_gauge(key, timestamp, self.configuration.prefix_for(key))
+    }
+
+    /// Takes what waits in the gauge at a place: its value, which it keeps, and its number of updates.
+    fn take_gauge<R: Wait>(&mut self, rt: &R, place: usize) -> (Fixed, u64)
+        requires { place < length self.old.series.gauges }
+        ensures taken { (found : GaugeState) × (result ≡ (found.value, found.updates))
+            × ChangesAt place (λ c d. TakesGauge c found d) self.old.series.gauges self.new.series.gauges }
+        ensures others { self.new ≡ record self.old { series = record self.old.series { gauges = self.new.series.gauges } } }
+    {
+        self.series.gauge_at(place).read(rt)
+    }
+
+    /// Writes the line of the gauge at a place, for which there is room.
+    fn write_gauge(
+        &self,
+        place: usize,
+        value: Fixed,
+        moment: u64,
+        writer: &mut PayloadWriter,
+    ) -> WriteResult
+        requires here { place < length self.now.series.gauges }
+        requires room { (key : KeyText) → HasKeyAt place key self.now.series.gauges → (value : ℤ) → FitsSigned w64 value
+            → HasRoomFor writer.old (lines_of writer.old.limit (gauge_line self.now.settings writer.old.global_tags moment key) (dogstatsd_number value ∷ [])) }
+        ensures { (key : KeyText) × HasKeyAt place key self.now.series.gauges
+            × WritesOne (gauge_line self.now.settings writer.old.global_tags moment key) (dogstatsd_number value.0) result writer.old writer.new }
+    {
+        let Some(key) = self.series.gauges().key(place) else {
+            unreachable!()
+        };
+        let timestamp = self.configuration.timestamp_at(moment);
+        let prefix = self.configuration.prefix_for(key);
+        let Ok(written) = writer.write_gauge(key, value, timestamp, prefix) else {
+            unreachable!()
+        };
+        written
+    }
+
+    /// Flushes the gauge at a place. Where memory is refused nothing changes.
+    fn flush_gauge<R: Wait>(
+        &mut self,
+        rt: &R,
+        place: usize,
+        writer: &mut PayloadWriter,
+        telemetry: &mut TelemetryUpdate,
+        moment: u64,
+    ) -> Result<(), Memory>
+        requires { place < length self.old.series.gauges }
+        ensures flushed { OnOk result (FlushesGauge self.old.settings moment place self.old.series.gauges self.new.series.gauges
+            writer.old writer.new telemetry.old telemetry.new) }
+        ensures others { self.new ≡ record self.old { series = record self.old.series { gauges = self.new.series.gauges } } }
+        ensures refused { OnErr result ((self.new.series.gauges ≡ self.old.series.gauges) × Sends [] writer.old writer.new telemetry.old telemetry.new) }
+    {
+        self.reserve_gauge(place, moment, writer)?;
+        let (value, updates) = self.take_gauge(rt, place);
+        let written = self.write_gauge(place, value, moment, writer);
+        telemetry.count_number(MetricKind::Gauge, updates, &written);
+        Ok(())
+    }
+
+    /// Flushes all gauges, in order. Where memory is refused those before the refused one were flushed.
+    fn flush_gauges<R: Wait>(
+        &mut self,
+        rt: &R,
+        writer: &mut PayloadWriter,
+        telemetry: &mut TelemetryUpdate,
+        moment: u64,
+    ) -> Result<(), Memory>
+        ensures { (found : List GaugeState)
+            × GaugesFlushed self.old.settings moment found self.old self.new writer.old writer.new telemetry.old telemetry.new
+            × OnOk result (length found ≡ length self.old.series.gauges) }
+    {
+        for place in 0..self.series.gauge_count() {
+            self.flush_gauge(rt, place, writer, telemetry, moment)?;
+        }
+        Ok(())
+    }
+
+    /// Flushes all series: counters, gauges, and histograms, each kind in order of registration. Of each it takes what waits,
+    /// writes its lines and counts it. A counter without updates is sent once, and is idle then: it is not sent again until it
+    /// has updates. The moment is in nanoseconds; words are drawn where histograms are sampled. Each series is taken at one
+    /// point of its history, also beside others that make calls. Where memory is refused, the series before the refused one
+    /// were flushed, and from that one on they are untouched: what waits is sent by the next flush.
+    pub fn flush<R: Wait, W: Words>(
+        &mut self,
+        rt: &R,
+        alloc: Global,
+        flush_state: &mut FlushState,
+        writer: &mut PayloadWriter,
+        telemetry: &mut TelemetryUpdate,
+        moment: u64,
+        words: &mut W,
+    ) -> Result<(), Memory>
+        ensures flushed { (found : Found)
+            × Flushes moment found self.old self.new flush_state.old flush_state.new writer.old writer.new telemetry.old telemetry.new (W.to_come words.old) (W.to_come words.new)
+            × OnOk result (IsWhole found self.old) }
+        ensures home { OnOk result (AllHome self.old → FlushesAll moment self.old self.new flush_state.old flush_state.new
+            writer.old writer.new telemetry.old telemetry.new (W.to_come words.old) (W.to_come words.new)) }
+    {
+        self.flush_each(rt, alloc, flush_state, writer, telemetry, moment, words)
+    }
+
+    /// Flushes all series, as `flush` does.
+    fn flush_each<R: Wait, W: Words>(
+        &mut self,
+        rt: &R,
+        alloc: Global,
+        flush_state: &mut FlushState,
+        writer: &mut PayloadWriter,
+        telemetry: &mut TelemetryUpdate,
+        moment: u64,
+        words: &mut W,
+    ) -> Result<(), Memory>
+        ensures { (found : Found)
+            × Flushes moment found self.old self.new flush_state.old flush_state.new writer.old writer.new telemetry.old telemetry.new (W.to_come words.old) (W.to_come words.new)
+            × OnOk result (IsWhole found self.old) }
+    {
+        self.flush_counters(rt, &mut flush_state.idle, writer, telemetry, moment)?;
+        self.flush_gauges(rt, writer, telemetry, moment)?;
+        self.flush_histograms(rt, alloc, writer, telemetry, words)
+    }
+}

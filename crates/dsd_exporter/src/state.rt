@@ -1,0 +1,275 @@
+//! The state of the exporter: its series of each kind, in order of registration. None is ever removed.
+
+ghost use Rattle.std.specs.Prelude.{◌≡◌, ◌⊎◌, IfOk, OnErr, OnOk};
+ghost use Rattle.metrics_core.specs.declared.kinds.MetricKind.TheVariants.{Counter, Gauge, Histogram};
+ghost use Rattle.flushed_cells.specs.Passes as flushed;
+ghost use Rattle.sample_queue.specs.Passes as queued;
+ghost use Rattle.dsd_exporter.specs.State.{register, number_given};
+ghost use Rattle.dsd_exporter.specs.Exporter.{Exporter, AllHome, AddsCounter, AddsGauge, AddsHistogram, no_cells, series_seen, settings_of};
+ghost use Rattle.dsd_exporter.specs.Lending.{LendsCounter, LendsGauge, LendsHistogram, LentCounter, LentGauge, LentHistogram, HasNoCounter, HasNoGauge, HasNoHistogram, ChangesCounter, ChangesGauge, ChangesHistogram, with_one_back, queue_back};
+
+use crate::configuration::StateConfiguration;
+use crate::lent::Lent;
+use crate::queued::QueuedSamples;
+use cell_lanes::OwnedCell;
+use flushed_cells::{CounterPass, DsdCounter, DsdGauge, GaugePass};
+use metrics_core::{Fixed, Key, Memory, MetricKind, SeriesId};
+use metrics_registry::Registry;
+use sample_queue::{DsdHistogram, SamplePass};
+use std::alloc::Global;
+use std::marker::Model;
+use std::sync::Arc;
+
+/// The exporter: what it was built with, and its series. Each has a cell that threads share, of which the exporter has the root
+/// pass; it lends passes of it and takes them back.
+#[derive(Drop)]
+pub struct State {
+    pub(crate) configuration: StateConfiguration,
+    pub(crate) series: Registry<OwnedCell<DsdCounter>, OwnedCell<DsdGauge>, QueuedSamples>,
+}
+
+impl Model for State {
+    ghost use Rattle.dsd_exporter.specs.Exporter.{Exporter, settings_of};
+
+    ghost Value = { Exporter };
+
+    ghost view = { λ s. record { settings = settings_of s.configuration; series = s.series } };
+}
+
+impl State {
+    /// An exporter without series. It takes no memory.
+    pub fn new(alloc: Global, config: StateConfiguration) -> Result<State, Memory>
+        ensures { IfOk result (λ made. made ≡ record { settings = settings_of config; series = no_cells }) }
+    {
+        Ok(State {
+            configuration: config,
+            series: Registry::new(alloc)?,
+        })
+    }
+
+    /// Whether the exporter counts its own work.
+    pub fn telemetry_enabled(&self) -> bool
+        ensures { result ≡ self.now.settings.telemetry }
+    {
+        self.configuration.telemetry
+    }
+
+    /// Registers a counter. Where there is one with an equal key its id is given, and nothing changes; otherwise a new one at 0
+    /// goes last. Past 2^64 - 1 series none is made, and the id names none.
+    pub fn register_counter(&mut self, alloc: Global, key: &Key) -> Result<SeriesId, Memory>
+        ensures registered { OnOk result (series_seen self.new.series ≡ register Counter key.now (series_seen self.old.series)) }
+        ensures cells { OnOk result ((self.new ≡ self.old) ⊎ AddsCounter key.now self.old self.new) }
+        ensures home { AllHome self.old → AllHome self.new }
+        ensures id { IfOk result (λ id. id ≡ record { kind = Counter; number = number_given Counter key.now self.old.series }) }
+        ensures refused { OnErr result (self.new ≡ self.old) }
+    {
+        // The clause on ids needs how many were made.
+        let _made = self.series.made();
+        if let Some(id) = self.series.find_counter(key) {
+            return Ok(id);
+        }
+        self.register_owned_counter(alloc, key.clone(alloc)?)
+    }
+
+    /// Registers a counter as `register_counter` does, under a key that the exporter then keeps: it is not copied.
+    pub fn register_owned_counter(&mut self, alloc: Global, key: Key) -> Result<SeriesId, Memory>
+        ensures registered { OnOk result (series_seen self.new.series ≡ register Counter key (series_seen self.old.series)) }
+        ensures cells { OnOk result ((self.new ≡ self.old) ⊎ AddsCounter key self.old self.new) }
+        ensures home { AllHome self.old → AllHome self.new }
+        ensures id { IfOk result (λ id. id ≡ record { kind = Counter; number = number_given Counter key self.old.series }) }
+        ensures refused { OnErr result (self.new ≡ self.old) }
+    {
+        let number = self.series.made();
+        if let Some(id) = self.series.find_counter(&key) {
+            return Ok(id);
+        }
+        if number == u64::MAX {
+            return Ok(SeriesId {
+                kind: MetricKind::Counter,
+                number,
+            });
+        }
+        let cell = DsdCounter::owned(alloc)?;
+        let Ok(id) = self.series.add_counter(key, cell) else {
+            return Err(Memory);
+        };
+        Ok(id)
+    }
+
+    /// Registers a gauge, as `register_counter` does a counter.
+    pub fn register_gauge(&mut self, alloc: Global, key: &Key) -> Result<SeriesId, Memory>
+        ensures registered { OnOk result (series_seen self.new.series ≡ register Gauge key.now (series_seen self.old.series)) }
+        ensures cells { OnOk result ((self.new ≡ self.old) ⊎ AddsGauge key.now self.old self.new) }
+        ensures home { AllHome self.old → AllHome self.new }
+        ensures id { IfOk result (λ id. id ≡ record { kind = Gauge; number = number_given Gauge key.now self.old.series }) }
+        ensures refused { OnErr result (self.new ≡ self.old) }
+    {
+        // The clause on ids needs how many were made.
+        let _made = self.series.made();
+        if let Some(id) = self.series.find_gauge(key) {
+            return Ok(id);
+        }
+        self.register_owned_gauge(alloc, key.clone(alloc)?)
+    }
+
+    /// Registers a gauge as `register_gauge` does, under a key that the exporter then keeps: it is not copied.
+    pub fn register_owned_gauge(&mut self, alloc: Global, key: Key) -> Result<SeriesId, Memory>
+        ensures registered { OnOk result (series_seen self.new.series ≡ register Gauge key (series_seen self.old.series)) }
+        ensures cells { OnOk result ((self.new ≡ self.old) ⊎ AddsGauge key self.old self.new) }
+        ensures home { AllHome self.old → AllHome self.new }
+        ensures id { IfOk result (λ id. id ≡ record { kind = Gauge; number = number_given Gauge key self.old.series }) }
+        ensures refused { OnErr result (self.new ≡ self.old) }
+    {
+        let number = self.series.made();
+        if let Some(id) = self.series.find_gauge(&key) {
+            return Ok(id);
+        }
+        if number == u64::MAX {
+            return Ok(SeriesId {
+                kind: MetricKind::Gauge,
+                number,
+            });
+        }
+        let cell = DsdGauge::owned(alloc)?;
+        let Ok(id) = self.series.add_gauge(key, cell) else {
+            return Err(Memory);
+        };
+        Ok(id)
+    }
+
+    /// Registers a histogram, as `register_counter` does a counter.
+    pub fn register_histogram(&mut self, alloc: Global, key: &Key) -> Result<SeriesId, Memory>
+        ensures registered { OnOk result (series_seen self.new.series ≡ register Histogram key.now (series_seen self.old.series)) }
+        ensures cells { OnOk result ((self.new ≡ self.old) ⊎ AddsHistogram key.now self.old self.new) }
+        ensures home { AllHome self.old → AllHome self.new }
+        ensures id { IfOk result (λ id. id ≡ record { kind = Histogram; number = number_given Histogram key.now self.old.series }) }
+        ensures refused { OnErr result (self.new ≡ self.old) }
+    {
+        // The clause on ids needs how many were made.
+        let _made = self.series.made();
+        if let Some(id) = self.series.find_histogram(key) {
+            return Ok(id);
+        }
+        self.register_owned_histogram(alloc, key.clone(alloc)?)
+    }
+
+    /// Registers a histogram as `register_histogram` does, under a key that the exporter then keeps: it is not copied.
+    pub fn register_owned_histogram(&mut self, alloc: Global, key: Key) -> Result<SeriesId, Memory>
+        ensures registered { OnOk result (series_seen self.new.series ≡ register Histogram key (series_seen self.old.series)) }
+        ensures cells { OnOk result ((self.new ≡ self.old) ⊎ AddsHistogram key self.old self.new) }
+        ensures home { AllHome self.old → AllHome self.new }
+        ensures id { IfOk result (λ id. id ≡ record { kind = Histogram; number = number_given Histogram key self.old.series }) }
+        ensures refused { OnErr result (self.new ≡ self.old) }
+    {
+        let number = self.series.made();
+        if let Some(id) = self.series.find_histogram(&key) {
+            return Ok(id);
+        }
+        if number == u64::MAX {
+            return Ok(SeriesId {
+                kind: MetricKind::Histogram,
+                number,
+            });
+        }
+        let cell = QueuedSamples::new(alloc)?;
+        let Ok(id) = self.series.add_histogram(key, cell) else {
+            return Err(Memory);
+        };
+        Ok(id)
+    }
+
+    /// Lends a counter: its cell, and a new pass that has seen what the exporter has seen and has made no call. Answers `None`
+    /// exactly where no counter has the id.
+    pub fn lend_counter(
+        &mut self,
+        alloc: Global,
+        id: SeriesId,
+    ) -> Result<Option<Lent<Arc<DsdCounter>, CounterPass>>, Memory>
+        ensures lent { IfOk result (λ lent. LendsCounter id lent self.old self.new) }
+        ensures refused { OnErr result (self.new ≡ self.old) }
+    {
+        let Some(counter) = self.series.get_counter_mut(id) else {
+            return Ok(None);
+        };
+        let (handle, pass) = counter.lend_pass(alloc)?;
+        Ok(Some(Lent { handle, pass, id }))
+    }
+
+    /// Takes back a counter that this exporter lent: the exporter has then seen all that the pass had seen. Where no counter has
+    /// the id the pass is dropped.
+    pub fn give_back_counter(&mut self, lent: Lent<Arc<DsdCounter>, CounterPass>)
+        requires lent { LentCounter self.old lent }
+        ensures taken { (HasNoCounter lent.id self.old × (self.new ≡ self.old)) ⊎ ChangesCounter lent.id (λ s t. t ≡ with_one_back (flushed.view_of lent.pass) s) self.old self.new }
+    {
+        let Lent {
+            handle: _,
+            pass,
+            id,
+        } = lent;
+        if let Some(counter) = self.series.get_counter_mut(id) {
+            counter.take_pass(pass);
+        }
+    }
+
+    /// Lends a gauge, as `lend_counter` does a counter.
+    pub fn lend_gauge(
+        &mut self,
+        alloc: Global,
+        id: SeriesId,
+    ) -> Result<Option<Lent<Arc<DsdGauge>, GaugePass>>, Memory>
+        ensures lent { IfOk result (λ lent. LendsGauge id lent self.old self.new) }
+        ensures refused { OnErr result (self.new ≡ self.old) }
+    {
+        let Some(gauge) = self.series.get_gauge_mut(id) else {
+            return Ok(None);
+        };
+        let (handle, pass) = gauge.lend_pass(alloc)?;
+        Ok(Some(Lent { handle, pass, id }))
+    }
+
+    /// Takes back a gauge that this exporter lent, as `give_back_counter` does a counter.
+    pub fn give_back_gauge(&mut self, lent: Lent<Arc<DsdGauge>, GaugePass>)
+        requires lent { LentGauge self.old lent }
+        ensures taken { (HasNoGauge lent.id self.old × (self.new ≡ self.old)) ⊎ ChangesGauge lent.id (λ s t. t ≡ with_one_back (flushed.view_of lent.pass) s) self.old self.new }
+    {
+        let Lent {
+            handle: _,
+            pass,
+            id,
+        } = lent;
+        if let Some(gauge) = self.series.get_gauge_mut(id) {
+            gauge.take_pass(pass);
+        }
+    }
+
+    /// Lends a histogram, as `lend_counter` does a counter.
+    pub fn lend_histogram(
+        &mut self,
+        alloc: Global,
+        id: SeriesId,
+    ) -> Result<Option<Lent<Arc<DsdHistogram>, SamplePass<Fixed>>>, Memory>
+        ensures lent { IfOk result (λ lent. LendsHistogram id lent self.old self.new) }
+        ensures refused { OnErr result (self.new ≡ self.old) }
+    {
+        let Some(histogram) = self.series.get_histogram_mut(id) else {
+            return Ok(None);
+        };
+        let (handle, pass) = histogram.lend(alloc)?;
+        Ok(Some(Lent { handle, pass, id }))
+    }
+
+    /// Takes back a histogram that this exporter lent, as `give_back_counter` does a counter.
+    pub fn give_back_histogram(&mut self, lent: Lent<Arc<DsdHistogram>, SamplePass<Fixed>>)
+        requires lent { LentHistogram self.old lent }
+        ensures taken { (HasNoHistogram lent.id self.old × (self.new ≡ self.old)) ⊎ ChangesHistogram lent.id (λ s t. t ≡ queue_back (queued.view_of lent.pass) s) self.old self.new }
+    {
+        let Lent {
+            handle: _,
+            pass,
+            id,
+        } = lent;
+        if let Some(histogram) = self.series.get_histogram_mut(id) {
+            histogram.take_back(pass);
+        }
+    }
+}
