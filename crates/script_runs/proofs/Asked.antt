@@ -1,11 +1,11 @@
 -- What an exporter is told of a script's settings is what the script asks for.
-use Rattle.std.proofs.Common.{◌≡◌, ℕ, List, [], ◌∷◌, ◌++◌, map, fold, append-nil, refl, sym, ap, ◌∙◌}
-use Rattle.std.specs.Prelude.{ℤ, Option, Some, None, false, option_map, unwrap_or}
+use Rattle.std.proofs.Common.{◌≡◌, ℕ, List, [], ◌∷◌, ◌++◌, map, fold, append-nil, refl, sym, ap}
+use Rattle.std.specs.Prelude.{ℤ, Option, Some, None, option_map, unwrap_or}
 use Rattle.std.specs.Int.NonZero.{non_zero_u32_get}
 use Rattle.std.specs.declared.num.NonZeroU32.{NonZeroU32}
 use Rattle.std.specs.declared.vec.Vec.{Vec}
 use Rattle.std.specs.declared.alloc.Global.{Global}
-use Rattle.metrics_core.specs.Keys.{LabelText, put_label}
+use Rattle.metrics_core.specs.Keys.{put_label}
 use Rattle.metrics_core.specs.declared.numbers.Fixed.{Fixed}
 use Rattle.prom_format.specs.LabelSets.{labels_of}
 use Rattle.prom_format.specs.Matchers.{MatcherText, sanitized_matcher}

@@ -206,19 +206,30 @@ front_or_behind [] ys i a e = inr (i, omega arith, e)
 front_or_behind (x ∷ xs) ys zero a e = inl e
 front_or_behind (x ∷ xs) ys (suc i) a e = ⊎_elim (λ (front : get_elem? xs i ≡ some a). inl front) (λ (back : (k : ℕ) × (i ≡ length xs + k) × (get_elem? ys k ≡ some a)). inr (back.0, (let h = back.1 in omega (arith, h)), back.2)) (front_or_behind xs ys i a e)
 
+-- no id stands at two indices
+abbrev StandOnce : List SeriesId → Type 0
+StandOnce ids = (i j : ℕ) (a : SeriesId) → get_elem? ids i ≡ some a → get_elem? ids j ≡ some a → i ≡ j
+
+once_behind : (xs ys : List SeriesId) → StandOnce xs → StandOnce ys → ((k l : ℕ) (a : SeriesId) → get_elem? xs k ≡ some a → get_elem? ys l ≡ some a → ⊥) → StandOnce (xs ++ ys)
+once_behind xs ys once once' not_both i j a e f =
+    ⊎_elim (λ (p : get_elem? xs i ≡ some a). ⊎_elim (λ (q : get_elem? xs j ≡ some a). once i j a p q) (λ (q : (k : ℕ) × (j ≡ length xs + k) × (get_elem? ys k ≡ some a)). absurd (not_both i q.0 a p q.2)) (front_or_behind xs ys j a f))
+    (λ (p : (k : ℕ) × (i ≡ length xs + k) × (get_elem? ys k ≡ some a)). ⊎_elim (λ (q : get_elem? xs j ≡ some a). absurd (not_both j p.0 a q p.2))
+    (λ (q : (k : ℕ) × (j ≡ length xs + k) × (get_elem? ys k ≡ some a)). p.1 ∙ ap (λ n. length xs + n) (once' p.0 q.0 a p.2 q.2) ∙ sym q.1) (front_or_behind xs ys j a f))
+    (front_or_behind xs ys i a e)
+
 -- each id stands at one index
-pub ids_apart : (exporter : Exporter) → IsNumbered exporter.series → (i j : ℕ) (a : SeriesId) → get_elem? (ids_of exporter) i ≡ some a → get_elem? (ids_of exporter) j ≡ some a → i ≡ j
-ids_apart exporter numbered i j a e f =
+pub ids_apart : (exporter : Exporter) → IsNumbered exporter.series → StandOnce (ids_of exporter)
+ids_apart exporter numbered =
     let counters = map its_id exporter.series.counters in
     let gauges = map its_id exporter.series.gauges in
-    let not_both : (k l : ℕ) → get_elem? counters k ≡ some a → get_elem? gauges l ≡ some a → ⊥ =
-    λ k l p q. counter≢gauge (sym (kind_at kinds.Counter _ exporter.series.counters numbered.counters.1 k a p) ∙ kind_at kinds.Gauge _ exporter.series.gauges numbered.gauges.1 l a q) in
-    ⊎_elim (λ (p : get_elem? counters i ≡ some a). ⊎_elim (λ (q : get_elem? counters j ≡ some a). rise_apart exporter.series.counters numbered.counters.0 i j a p q)
-    (λ (q : (k : ℕ) × (j ≡ length counters + k) × (get_elem? gauges k ≡ some a)). absurd (not_both i q.0 p q.2)) (front_or_behind counters gauges j a f))
-    (λ (p : (k : ℕ) × (i ≡ length counters + k) × (get_elem? gauges k ≡ some a)). ⊎_elim (λ (q : get_elem? counters j ≡ some a). absurd (not_both j p.0 q p.2))
-    (λ (q : (k : ℕ) × (j ≡ length counters + k) × (get_elem? gauges k ≡ some a)).
-    let same = rise_apart exporter.series.gauges numbered.gauges.0 p.0 q.0 a p.2 q.2 in p.1 ∙ ap (λ n. length counters + n) same ∙ sym q.1) (front_or_behind counters gauges j a f))
-    (front_or_behind counters gauges i a e)
+    let histograms = map its_id exporter.series.histograms in
+    let of_counter = λ (k : ℕ) (a : SeriesId) (p : get_elem? counters k ≡ some a). kind_at kinds.Counter _ exporter.series.counters numbered.counters.1 k a p in
+    let of_gauge = λ (k : ℕ) (a : SeriesId) (p : get_elem? gauges k ≡ some a). kind_at kinds.Gauge _ exporter.series.gauges numbered.gauges.1 k a p in
+    let of_histogram = λ (k : ℕ) (a : SeriesId) (p : get_elem? histograms k ≡ some a). kind_at kinds.Histogram _ exporter.series.histograms numbered.histograms.1 k a p in
+    once_behind counters (gauges ++ histograms) (rise_apart exporter.series.counters numbered.counters.0)
+    (once_behind gauges histograms (rise_apart exporter.series.gauges numbered.gauges.0) (rise_apart exporter.series.histograms numbered.histograms.0) (λ k l a p q. gauge≢histogram (sym (of_gauge k a p) ∙ of_histogram l a q)))
+    (λ k l a p q. ⊎_elim (λ (g : get_elem? gauges l ≡ some a). counter≢gauge (sym (of_counter k a p) ∙ of_gauge l a g))
+    (λ (h : (n : ℕ) × (l ≡ length gauges + n) × (get_elem? histograms n ≡ some a)). counter≢histogram (sym (of_counter k a p) ∙ of_histogram h.0 a h.2)) (front_or_behind gauges histograms l a q))
 
 -- ---- whether an index is that of an id
 
@@ -227,7 +238,7 @@ get_of [] i a e = absurd (some-ne-none a (sym e))
 get_of (x ∷ xs) zero a e = ap Some (some-injective x a e)
 get_of (x ∷ xs) (suc i) a e = get_of xs i a e
 
-id_at_true : (ids : List SeriesId) (j : ℕ) (id : SeriesId) → id_at ids j id ≡ true → get_elem? ids j ≡ some id
+pub id_at_true : (ids : List SeriesId) (j : ℕ) (id : SeriesId) → id_at ids j id ≡ true → get_elem? ids j ≡ some id
 id_at_true [] j id e = absurd (true≢false (sym e))
 id_at_true (x ∷ ids) zero id e = ap some (id_eq-same x id e)
 id_at_true (x ∷ ids) (suc j) id e = id_at_true ids j id e
@@ -253,42 +264,40 @@ pub place_is : (exporter : Exporter) (id : SeriesId) (found : Option ℕ) → Is
 place_is exporter id None numbered none j = id_at_none (ids_of exporter) j id none
 place_is exporter id (Some index) numbered at j = id_at_index (ids_of exporter) index j id (λ i k. ids_apart exporter numbered i k id) at
 
-pub place_asks : (exporter : Exporter) (id : SeriesId) (call : SeriesCall) (found : Option ℕ) → id.kind ≡ kind_asked call → IsIndex id exporter found → IfSome found (λ index. AsksKind (ids_of exporter) index call)
-place_asks exporter id call None kind none = tt
-place_asks exporter id call (Some index) kind at = (id, at, kind)
-
-pub kind_of_asked : (act : Act) → kind_of (act_of act) ≡ kind_asked (asked act)
-kind_of_asked (acts.Inc n) = refl
-kind_of_asked (acts.Abs n) = refl
-kind_of_asked (acts.Add v) = refl
-kind_of_asked (acts.Sub v) = refl
-kind_of_asked (acts.Set v) = refl
+pub kind_of_asked : (moment : ℕ) (act : Act) → kind_of (act_of act) ≡ kind_asked (asked moment act)
+kind_of_asked moment (acts.Inc n) = refl
+kind_of_asked moment (acts.Abs n) = refl
+kind_of_asked moment (acts.Add v) = refl
+kind_of_asked moment (acts.Sub v) = refl
+kind_of_asked moment (acts.Set v) = refl
+kind_of_asked moment (acts.Rec v) = refl
+kind_of_asked moment (acts.RecN v n) = refl
 
 -- ---- the calls of a lane, call line by call line
 
-module _ (ids handles : List SeriesId) (l j : ℕ) where
-  abbrev mine : CallLine → Bool
-  mine line = HasLane l line && is_at ids handles j line
+module _ (moment : ℕ) where
+  abbrev call_made : CallLine → SeriesCall
+  call_made line = asked moment line.act
 
-  one_of : (x : CallLine) (b : Bool) → map (λ (line : CallLine). asked line.act) (cond b (x ∷ []) []) ≡ keep b (asked x.act) []
+  one_of : (x : CallLine) (b : Bool) → map call_made (cond b (x ∷ []) []) ≡ keep b (call_made x) []
   one_of x true = refl
   one_of x false = refl
 
-  pub calls_at-last : (xs : List CallLine) (x : CallLine) → calls_at ids handles l j (xs ++ x ∷ []) ≡ calls_at ids handles l j xs ++ keep (mine x) (asked x.act) []
-  calls_at-last xs x =
-      ap (map (λ (line : CallLine). asked line.act)) (filter-append mine xs (x ∷ []))
-      ∙ map-append (λ (line : CallLine). asked line.act) (filter mine xs) (cond (mine x) (x ∷ []) [])
-      ∙ ap (λ cs. calls_at ids handles l j xs ++ cs) (one_of x (mine x))
+  module _ (ids handles : List SeriesId) (l j : ℕ) where
+    abbrev mine : CallLine → Bool
+    mine line = HasLane l line && is_at ids handles j line
 
-pub lane_asks-last : (l : ℕ) (xs : List CallLine) (x : CallLine) → lane_asks l (xs ++ x ∷ []) ≡ lane_asks l xs ++ keep (HasLane l x) (asked x.act) []
-lane_asks-last l xs x =
-    ap (map (λ (line : CallLine). asked line.act)) (filter-append (HasLane l) xs (x ∷ []))
-    ∙ map-append (λ (line : CallLine). asked line.act) (filter (HasLane l) xs) (cond (HasLane l x) (x ∷ []) [])
-    ∙ ap (λ cs. lane_asks l xs ++ cs) (one (HasLane l x))
-  where
-    one : (b : Bool) → map (λ (line : CallLine). asked line.act) (cond b (x ∷ []) []) ≡ keep b (asked x.act) []
-    one true = refl
-    one false = refl
+    pub calls_at-last : (xs : List CallLine) (x : CallLine) → calls_at moment ids handles l j (xs ++ x ∷ []) ≡ calls_at moment ids handles l j xs ++ keep (mine x) (call_made x) []
+    calls_at-last xs x =
+        ap (map call_made) (filter-append mine xs (x ∷ []))
+        ∙ map-append call_made (filter mine xs) (cond (mine x) (x ∷ []) [])
+        ∙ ap (λ cs. calls_at moment ids handles l j xs ++ cs) (one_of x (mine x))
+
+  pub lane_asks-last : (l : ℕ) (xs : List CallLine) (x : CallLine) → lane_asks moment l (xs ++ x ∷ []) ≡ lane_asks moment l xs ++ keep (HasLane l x) (call_made x) []
+  lane_asks-last l xs x =
+      ap (map call_made) (filter-append (HasLane l) xs (x ∷ []))
+      ∙ map-append call_made (filter (HasLane l) xs) (cond (HasLane l x) (x ∷ []) [])
+      ∙ ap (λ cs. lane_asks moment l xs ++ cs) (one_of x (HasLane l x))
 
 -- ---- the calls of all lanes that are gathered
 

@@ -1,7 +1,6 @@
 pub mod ReadingSteps
 pub mod Returned
 pub mod RoundSteps
-pub mod BuiltRounds
 pub mod Asked
 pub mod RunPages
 pub mod DriveSteps
@@ -12,5 +11,9 @@ pub mod Fits
 pub mod LaneSteps
 pub mod LaneOrders
 pub mod Numbers
+pub mod TimelyRounds
+pub mod RecordedRounds
 pub mod AfterLanes
 pub mod RestingSteps
+pub mod Unmapped
+pub mod Rendered

@@ -141,3 +141,9 @@ module _ (j : ℕ) where
         order_under (number_at lanes) (length lanes) differ order (λ i. all_calls_on j lanes i) (numbered_at j lanes) under is,
         taken_under (number_at lanes) (length lanes) differ order (λ i. all_calls_on j lanes i) (numbered_at j lanes) under is,
       )
+
+  -- what is so of the calls of each number is so of those of each lane
+  pub at_each_lane : (P : List SeriesCall → Type 0) → P [] → (lanes : List (Lane SeriesCall)) → Distinct (map lane_number lanes) → ((l : ℕ) → P (numbered_at j lanes l)) → (i : ℕ) → P (all_calls_on j lanes i)
+  at_each_lane P none lanes apart each i = dite (dec_le (suc i) (length lanes))
+      (λ (less : suc i ≤ length lanes). subst P (sym (own_calls lanes apart i less)) (each (number_at lanes i)))
+      (λ (past : ¬ (suc i ≤ length lanes)). subst P (sym (no_lane lanes i (omega (arith, lt_of_not-le past)))) none)

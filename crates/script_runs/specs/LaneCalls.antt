@@ -16,13 +16,15 @@ use Rattle.drive_script.specs.declared.script.Act.TheVariants as acts
 use Rattle.drive_script.specs.declared.script.CallLine.{CallLine}
 use Rattle.script_runs.specs.declared.lanes.LaneCalls.{LaneCalls}
 
--- the call on a series that an act makes, and the kind of series that it is on
-abbrev pub asked : Act → SeriesCall
-asked (acts.Inc count) = calls.Increment count
-asked (acts.Abs total) = calls.Absolute total
-asked (acts.Add value) = calls.Add value
-asked (acts.Sub value) = calls.Subtract value
-asked (acts.Set value) = calls.Set value
+-- the call on a series that an act makes in a round at a moment, and the kind of series that it is on
+abbrev pub asked : ℕ → Act → SeriesCall
+asked moment (acts.Inc count) = calls.Increment count
+asked moment (acts.Abs total) = calls.Absolute total
+asked moment (acts.Add value) = calls.Add value
+asked moment (acts.Sub value) = calls.Subtract value
+asked moment (acts.Set value) = calls.Set value
+asked moment (acts.Rec value) = calls.Record value moment 1
+asked moment (acts.RecN value count) = calls.Record value moment count
 
 abbrev pub kind_asked : SeriesCall → MetricKind
 kind_asked (calls.Increment _) = kinds.Counter
@@ -52,12 +54,16 @@ HasLane l line = line.lane == l
 abbrev pub lines_at : List SeriesId → List SeriesId → ℕ → ℕ → List CallLine → List CallLine
 lines_at ids handles l j lines = filter (λ line. HasLane l line && is_at ids handles j line) lines
 
-abbrev pub calls_at : List SeriesId → List SeriesId → ℕ → ℕ → List CallLine → List SeriesCall
-calls_at ids handles l j lines = map (λ line. asked line.act) (lines_at ids handles l j lines)
+abbrev pub calls_at : ℕ → List SeriesId → List SeriesId → ℕ → ℕ → List CallLine → List SeriesCall
+calls_at moment ids handles l j lines = map (λ line. asked moment line.act) (lines_at ids handles l j lines)
+
+-- the series at an index is of this kind
+abbrev pub IsOfKind : List SeriesId → ℕ → MetricKind → Type 0
+IsOfKind ids j kind = (id : SeriesId) × (get_elem? ids j ≡ some id) × (id.kind ≡ kind)
 
 -- a call is one on the kind of the series at an index
 abbrev pub AsksKind : List SeriesId → ℕ → SeriesCall → Type 0
-AsksKind ids j call = (id : SeriesId) × (get_elem? ids j ≡ some id) × (id.kind ≡ kind_asked call)
+AsksKind ids j call = IsOfKind ids j (kind_asked call)
 
 -- the cells of a lane are indices of series, and the call of each line that is on a series is of the kind of the series
 abbrev pub AllAsked : List SeriesId → List ℕ → List (Line SeriesCall) → Type 0
@@ -66,8 +72,8 @@ AllAsked ids cells lines =
     × ((k : ℕ) (x : Line SeriesCall) → get_elem? lines k ≡ some x → IfSome x.slot (λ slot. (j : ℕ) → get_elem? cells slot ≡ some j → AsksKind ids j x.call))
 
 -- what lane l asks for in the script's order, on whatever series or on none
-abbrev pub lane_asks : ℕ → List CallLine → List SeriesCall
-lane_asks l lines = map (λ line. asked line.act) (filter (HasLane l) lines)
+abbrev pub lane_asks : ℕ → ℕ → List CallLine → List SeriesCall
+lane_asks moment l lines = map (λ line. asked moment line.act) (filter (HasLane l) lines)
 
 abbrev pub call_asked : Line SeriesCall → SeriesCall
 call_asked line = line.call

@@ -8,7 +8,8 @@ pub mod Player
 pub mod Orders
 pub mod Told
 pub mod Resting
-pub mod Built
+pub mod Timely
+pub mod Recorded
 pub mod Fitting
 pub mod LaneCalls
 pub mod Vectors

@@ -9,9 +9,10 @@ ghost use lib.ListN.{get_elem?};
 ghost use Rattle.cell_lanes.specs.Lanes.{AllFit, LineFit, cell_calls};
 ghost use Rattle.legal_history.specs.History.{Distinct, keep};
 ghost use Rattle.prom_exporter.specs.LanePasses.{ids_of};
-ghost use Rattle.drive_script.specs.Texts.{call_line_of};
+ghost use Rattle.drive_script.specs.Script.{kind_of};
+ghost use Rattle.drive_script.specs.Texts.{act_of, call_line_of};
 ghost use Rattle.script_runs.specs.Fitting.{FitsHandle};
-ghost use Rattle.script_runs.specs.LaneCalls.{AllAsked, AreInPlace, AreReady, AsksKind, HasLane, asked, call_asked, calls_at, gathered_asked, gathered_at, gathered_parts, has_lines, is_at, is_place, lane_asks, lane_cells, lane_lines, lane_number, numbered_asked, numbered_at, parts_of};
+ghost use Rattle.script_runs.specs.LaneCalls.{AllAsked, AreInPlace, AreReady, AsksKind, HasLane, IsOfKind, asked, call_asked, calls_at, gathered_asked, gathered_at, gathered_parts, has_lines, is_at, is_place, lane_asks, lane_cells, lane_lines, lane_number, numbered_asked, numbered_at, parts_of};
 
 use cell_lanes::{Lane, Line};
 use drive_script::{Act, CallLine};
@@ -20,13 +21,14 @@ use metrics_core::{Memory, SeriesCall, SeriesId};
 use prom_exporter::PrometheusState;
 use std::alloc::Global;
 
-/// The lanes of a round that have calls, each with its number. A call whose handle names no live series is a line of its lane,
+/// The lanes of a round at a moment that have calls, each with its number. A call whose handle names no live series is a line of its lane,
 /// on no series.
 pub(crate) fn lanes_of(
     alloc: Global,
     exporter: &PrometheusState,
     handles: &[SeriesId],
     guesses: &mut [u32],
+    moment: u64,
     calls: &[CallLine],
 ) -> Result<Vec<Lane<SeriesCall>>, Memory>
     requires fit { All (λ line. FitsHandle handles.now (call_line_of line)) calls.now }
@@ -36,15 +38,23 @@ pub(crate) fn lanes_of(
         → AllAsked (ids_of exporter.now) lane.cells.items lane.lines.items) }
     ensures numbers { IfOk result (λ lanes. Distinct (map lane_number lanes.items)) }
     ensures calls { IfOk result (λ lanes. (j l : ℕ) → numbered_at j lanes.items l
-        ≡ calls_at (ids_of exporter.now) handles.now l j calls.now) }
+        ≡ calls_at moment (ids_of exporter.now) handles.now l j calls.now) }
     ensures lines { IfOk result (λ lanes. (l : ℕ) → numbered_asked lanes.items l
-        ≡ lane_asks l calls.now) }
+        ≡ lane_asks moment l calls.now) }
     ensures busy { IfOk result (λ lanes. (i : ℕ) (lane : Lane SeriesCall)
         → get_elem? lanes.items i ≡ some lane → 0 < length lane.lines.items) }
 {
     let mut gathered = Vec::new(alloc);
     for line in calls {
-        gather(alloc, exporter, handles, guesses, &mut gathered, line)?;
+        gather(
+            alloc,
+            exporter,
+            handles,
+            guesses,
+            &mut gathered,
+            moment,
+            line,
+        )?;
     }
     into_lanes(alloc, gathered)
 }
@@ -56,6 +66,7 @@ fn gather(
     handles: &[SeriesId],
     guesses: &mut [u32],
     gathered: &mut Vec<LaneCalls>,
+    moment: u64,
     line: &CallLine,
 ) -> Result<(), Memory>
     requires fit { FitsHandle handles.now (call_line_of line.now) }
@@ -66,15 +77,15 @@ fn gather(
     ensures calls { OnOk result ((j l : ℕ) → gathered_at j gathered.new.items l
         ≡ gathered_at j gathered.old.items l
         ++ keep (HasLane l line.now && is_at (ids_of exporter.now) handles.now j line.now)
-        (asked line.now.act) []) }
+        (asked moment line.now.act) []) }
     ensures lines { OnOk result ((l : ℕ) → gathered_asked gathered.new.items l
         ≡ gathered_asked gathered.old.items l
-        ++ keep (HasLane l line.now) (asked line.now.act) []) }
+        ++ keep (HasLane l line.now) (asked moment line.now.act) []) }
 {
     let place = place_of(exporter, handles, guesses, line);
     let lane = usize::from(line.lane);
     make_room(alloc, gathered, lane)?;
-    gathered[lane].push(place, call_of(line.act))
+    gathered[lane].push(place, call_of(moment, line.act))
 }
 
 /// The index of the series that a call line's handle names, if it is live. A guess for each handle says where to look first.
@@ -88,7 +99,7 @@ fn place_of(
     ensures place { (j : ℕ)
         → is_at (ids_of exporter.now) handles.now j line.now ≡ is_place j result }
     ensures asks { IfSome result (λ index.
-        AsksKind (ids_of exporter.now) index (asked line.now.act)) }
+        IsOfKind (ids_of exporter.now) index (kind_of (act_of line.now.act))) }
 {
     let id = id_of(handles, line)?;
     match guesses.get_mut(line.handle as usize) {
@@ -202,9 +213,9 @@ fn id_of(handles: &[SeriesId], line: &CallLine) -> Option<SeriesId>
     handles.get(line.handle as usize).copied()
 }
 
-/// The call on a series that a call line makes.
-fn call_of(act: Act) -> SeriesCall
-    ensures { result ≡ asked act }
+/// The call on a series that a call line makes in a round at a moment.
+fn call_of(moment: u64, act: Act) -> SeriesCall
+    ensures { result ≡ asked moment act }
 {
     match act {
         Act::Inc(count) => SeriesCall::Increment(count),
@@ -212,5 +223,15 @@ fn call_of(act: Act) -> SeriesCall
         Act::Add(value) => SeriesCall::Add(value),
         Act::Sub(value) => SeriesCall::Subtract(value),
         Act::Set(value) => SeriesCall::Set(value),
+        Act::Rec(value) => SeriesCall::Record {
+            value,
+            moment,
+            count: 1,
+        },
+        Act::RecN(value, count) => SeriesCall::Record {
+            value,
+            moment,
+            count,
+        },
     }
 }

@@ -20,7 +20,7 @@ mod say;
 mod settings;
 
 pub use driving::drive;
-pub use examples::{basic_example, empty_example};
+pub use examples::{basic_example, empty_example, sampled_example};
 pub use gates::{Free, Gate};
 pub use relaying::relay;
 pub use report::Report;

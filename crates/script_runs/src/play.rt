@@ -1,13 +1,14 @@
 //! The play of a script: what each round does to the exporter, and the page that it writes.
 
-ghost use Rattle.std.specs.Prelude.{◌≡◌, ◌≤◌, [], fold, map, length, IfOk, IfErr, OnOk, OnErr, vec_len};
+ghost use Rattle.std.specs.Prelude.{◌≡◌, ◌≤◌, [], All, fold, map, length, IfOk, IfErr, OnOk, OnErr, vec_len};
 ghost use Rattle.metrics_core.specs.Outside.{Rose, GrewBy, GrewByPrefix};
 ghost use Rattle.drive_script.specs.Texts.{script_of, settings_of, round_of};
 ghost use Rattle.script_runs.specs.Answers.{IsAllowed, IsPlayFault, report_of};
-ghost use Rattle.script_runs.specs.Built.{AreBuiltRounds};
 ghost use Rattle.script_runs.specs.Fitting.{CallsFit};
 ghost use Rattle.script_runs.specs.Orders.{ForSomeRun};
 ghost use Rattle.script_runs.specs.Play.{exporter_settings};
+ghost use Rattle.script_runs.specs.Recorded.{AllRecordSome};
+ghost use Rattle.script_runs.specs.Timely.{RiseFrom};
 
 use crate::gates::GateHook;
 use crate::lanes::lanes_of;
@@ -32,8 +33,9 @@ pub fn play<R: Threads + Wait + Sync, G: Gate + Sync, K: Sink>(
     out: &mut K,
 ) -> Result<Report, DriveFault>
     requires allowed { IsAllowed (script_of script) }
-    requires built { AreBuiltRounds script.rounds.items }
     requires fit { CallsFit [] (map round_of script.rounds.items) }
+    requires some { All AllRecordSome (map round_of script.rounds.items) }
+    requires moments { RiseFrom 0 (map round_of script.rounds.items) }
     ensures pages { OnOk result (ForSomeRun (script_of script) (GrewBy (K.written out.old) (K.written out.new))) }
     ensures counted { IfOk result (λ report. report ≡ report_of (length script.rounds.items)) }
     ensures prefix { OnErr result (ForSomeRun (script_of script) (GrewByPrefix (K.written out.old) (K.written out.new))) }
@@ -77,8 +79,9 @@ impl Player {
     ghost use Rattle.script_runs.specs.Play.{after_round, play_start, setup_step, exporter_settings};
     ghost use Rattle.script_runs.specs.Player.{state_of};
     ghost use Rattle.script_runs.specs.Resting.{AllRest};
-    ghost use Rattle.script_runs.specs.Built.{AreBuiltSetups, IsBuiltSetup};
     ghost use Rattle.script_runs.specs.Fitting.{CallsFit, FitsHandle};
+    ghost use Rattle.script_runs.specs.Recorded.{AllRecordSome, RecordsSome};
+    ghost use Rattle.script_runs.specs.Timely.{IsTimelyState};
 
     /// A player before its first round, over an exporter with these settings.
     fn new(alloc: Global, settings: Settings) -> Result<Player, Memory>
@@ -107,8 +110,9 @@ impl Player {
         round: Round,
         out: &mut K,
     ) -> Result<(), DriveFault>
-        requires built { AreBuiltSetups round.setup.items }
         requires fit { CallsFit self.old.handles.items (round_of round ∷ []) }
+        requires some { AllRecordSome (round_of round) }
+        requires timely { IsTimelyState round.moment (prometheus_of self.old.exporter) }
         requires rest { AllRest self.old.exporter }
         ensures rest { OnOk result (AllRest self.new.exporter) }
         ensures settings { self.new.exporter.settings ≡ self.old.exporter.settings }
@@ -128,14 +132,13 @@ impl Player {
             calls,
         } = round;
         self.set_up(alloc, setup)?;
-        self.make_calls(rt, alloc, gate, calls)?;
+        self.make_calls(rt, alloc, gate, moment, calls)?;
         self.write_page(rt, alloc, moment, out)
     }
 
     /// Does the setup lines in order. They are taken from the end of a list that is turned round, so that the room of those
     /// which are done is given back on the way.
     fn set_up(&mut self, alloc: Global, mut setup: Vec<Setup>) -> Result<(), Memory>
-        requires { AreBuiltSetups setup.items }
         ensures settings { self.new.exporter.settings ≡ self.old.exporter.settings }
         ensures rest { AllRest self.old.exporter → AllRest self.new.exporter }
         ensures stepped { OnOk result (state_of self.new ≡ fold setup_step (state_of self.old) (map setup_of setup.items)) }
@@ -158,7 +161,8 @@ impl Player {
             return Ok(());
         }
         let counters = setup.iter().filter(|line| is_counter(line)).count();
-        self.exporter.reserve(counters, setup.len() - counters)?;
+        let gauges = setup.iter().filter(|line| is_gauge(line)).count();
+        self.exporter.reserve(counters, gauges)?;
         self.handles.reserve(setup.len())?;
         self.guesses.reserve(setup.len())?;
         Ok(())
@@ -166,7 +170,6 @@ impl Player {
 
     /// Does one setup line.
     fn set_up_line(&mut self, alloc: Global, line: Setup) -> Result<(), Memory>
-        requires { IsBuiltSetup (setup_of line) }
         ensures settings { self.new.exporter.settings ≡ self.old.exporter.settings }
         ensures rest { AllRest self.old.exporter → AllRest self.new.exporter }
         ensures stepped { OnOk result (state_of self.new ≡ setup_step (state_of self.old) (setup_of line)) }
@@ -175,7 +178,7 @@ impl Player {
         let id = match kind {
             MetricKind::Counter => self.exporter.register_owned_counter(alloc, key)?,
             MetricKind::Gauge => self.exporter.register_owned_gauge(alloc, key)?,
-            MetricKind::Histogram => unreachable!(),
+            MetricKind::Histogram => self.exporter.register_owned_histogram(alloc, key)?,
         };
         self.handles.push(id)?;
         self.guesses.push(0)?;
@@ -189,19 +192,22 @@ impl Player {
         rt: &R,
         alloc: Global,
         gate: &G,
+        moment: u64,
         calls: Vec<CallLine>,
     ) -> Result<(), Memory>
         requires fit { All (λ line. FitsHandle self.old.handles.items (call_line_of line)) calls.items }
+        requires some { All (λ call. RecordsSome call.act) (map call_line_of calls.items) }
         requires rest { AllRest self.old.exporter }
         ensures rest { AllRest self.new.exporter }
         ensures settings { self.new.exporter.settings ≡ self.old.exporter.settings }
-        ensures called { OnOk result ((round : RoundText) → round.calls ≡ map call_line_of calls.items → IsCalled (state_of self.old) round (state_of self.new)) }
+        ensures called { OnOk result ((round : RoundText) → round.moment ≡ moment → round.calls ≡ map call_line_of calls.items → IsCalled (state_of self.old) round (state_of self.new)) }
     {
         let lanes = lanes_of(
             alloc,
             &self.exporter,
             &self.handles,
             &mut self.guesses,
+            moment,
             &calls,
         )?;
         drop(calls);
@@ -217,6 +223,7 @@ impl Player {
         out: &mut K,
     ) -> Result<(), DriveFault>
         requires rest { AllRest self.old.exporter }
+        requires timely { IsTimelyState moment (prometheus_of self.old.exporter) }
         ensures rest { AllRest self.new.exporter }
         ensures settings { self.new.exporter.settings ≡ self.old.exporter.settings }
         ensures stepped { OnOk result (state_of self.new ≡ record (state_of self.old) { prometheus = page_step self.old.exporter.settings.idle moment (prometheus_of self.old.exporter) }) }
@@ -241,6 +248,12 @@ impl Player {
 fn is_counter(line: &Setup) -> bool {
     let Setup::Register { kind, key: _ } = line;
     *kind == MetricKind::Counter
+}
+
+/// Whether a setup line registers a gauge.
+fn is_gauge(line: &Setup) -> bool {
+    let Setup::Register { kind, key: _ } = line;
+    *kind == MetricKind::Gauge
 }
 
 /// Gives the room of lines that were taken away back, where it is at least half of all.

@@ -4,17 +4,21 @@ use Rattle.std.proofs.lemmas.Result.{on_ok_weaker}
 use Rattle.metrics_core.specs.Outside.{Rose}
 use Rattle.drive_script.specs.Texts.{script_of}
 use Rattle.script_runs.specs.Answers.{IsPlayFault, LeavesPrefix, end_status}
-use Rattle.script_runs.proofs.BuiltRounds.{script_built}
 use Rattle.script_runs.proofs.DriveSteps.{complete_handed_on, err_with, good_answers, play_ends, played_prefix, played_whole, refused_answers, unread_answers}
+use Rattle.script_runs.proofs.RecordedRounds.{script_records}
+use Rattle.script_runs.proofs.TimelyRounds.{rise_from_start}
 use Rattle.script_runs.proofs.driving.drive.Goals as goal
-
-pub play-requires-clause-built : goal.play-requires-clause-built
-play-requires-clause-built g c κs within =
-    let read = c.in_ok-script.ensures.read in
-    script_built read.bytes c.in_ok-script.script read.good.1
 
 pub play-requires-clause-fit : goal.play-requires-clause-fit
 play-requires-clause-fit g c κs within = ([], refl, c.in_ok-script.ensures.read.good.1.1.handles)
+
+pub play-requires-clause-some : goal.play-requires-clause-some
+play-requires-clause-some g c κs within =
+    let read = c.in_ok-script.ensures.read in
+    script_records _ (script_of c.in_ok-script.script) read.good.1.0
+
+pub play-requires-clause-moments : goal.play-requires-clause-moments
+play-requires-clause-moments g c κs within = rise_from_start (script_of c.in_ok-script.script).rounds c.in_ok-script.ensures.read.good.1.1.moments
 
 pub returns-in_err-script-clause-complete : goal.returns-in_err-script-clause-complete
 returns-in_err-script-clause-complete g c =

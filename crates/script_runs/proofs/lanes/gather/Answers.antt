@@ -6,8 +6,8 @@ use Rattle.cell_lanes.specs.Lanes.{LineFit, cell_calls}
 use Rattle.legal_history.specs.History.{keep}
 use Rattle.metrics_core.specs.declared.kinds.SeriesId.{SeriesId}
 use Rattle.prom_exporter.specs.LanePasses.{ids_of}
-use Rattle.script_runs.specs.LaneCalls.{AllAsked, AsksKind, call_asked, gathered_asked, is_place, lane_cells, lane_lines}
-use Rattle.script_runs.proofs.LaneSteps.{both_true, in_place_set, on_ok_both, on_ok_known, set_ready, told_step}
+use Rattle.script_runs.specs.LaneCalls.{AllAsked, AsksKind, IsOfKind, call_asked, gathered_asked, is_place, lane_cells, lane_lines}
+use Rattle.script_runs.proofs.LaneSteps.{both_true, in_place_set, kind_of_asked, on_ok_both, on_ok_known, set_ready, told_step}
 use Rattle.script_runs.proofs.lanes.gather.Goals as goal
 
 pub push-requires : goal.push-requires
@@ -23,7 +23,8 @@ returns-clause-ready c =
     let y = c.push.new.self in
     let at = at_index c.make_room.new.gathered.items c.from-lane.result x c.in_ok-make_room.ensures.room c.index_mut.ensures.value in
     let ready = c.in_ok-make_room.ensures.ready ids c.requires.ready in
-    let asks = subst (λ call. IfSome c.place_of-place.result (λ index. AsksKind ids index call)) (sym c.call_of.ensures) c.place_of-place.ensures.asks in
+    let asks = subst (λ call. IfSome c.place_of-place.result (λ index. AsksKind ids index call)) (sym c.call_of.ensures)
+    (subst (λ kind. IfSome c.place_of-place.result (λ index. IsOfKind ids index kind)) (kind_of_asked c.args.moment c.args.line.now.act) c.place_of-place.ensures.asks) in
     on_ok_weaker c.push.result
     (λ (both : LineFit (length (lane_cells y)) (lane_lines y) × ((ids : List SeriesId) → IfSome c.place_of-place.result (λ index. AsksKind ids index c.call_of.result) → AllAsked ids (lane_cells x) (lane_lines x) → AllAsked ids (lane_cells y) (lane_lines y))).
     set_ready ids c.make_room.new.gathered.items c.from-lane.result y (both.0, both.1 ids asks (ready c.from-lane.result x at).1) ready)

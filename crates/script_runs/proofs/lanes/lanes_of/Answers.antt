@@ -27,15 +27,16 @@ loop-line-preserved c =
     let e = c.in_ok-gather.ensures in
     let ids = ids_of c.args.exporter.now in
     let handles = c.args.handles.now in
+    let moment = c.args.moment in
     let line : CallLine = slice_index_or c.args.calls.now i default in
     let more = take_more c.args.calls.now i default c.loop-line-test.true in
     record {
       ready = e.ready;
       places = e.places;
-      calls = λ j n. e.calls j n ∙ ap (λ l. l ++ keep (HasLane n line && is_at ids handles j line) (asked line.act) []) (inv.calls j n)
-          ∙ sym (ap (calls_at ids handles n j) more ∙ calls_at-last ids handles n j (take i c.args.calls.now) line);
-      lines = λ n. e.lines n ∙ ap (λ l. l ++ keep (HasLane n line) (asked line.act) []) (inv.lines n)
-          ∙ sym (ap (lane_asks n) more ∙ lane_asks-last n (take i c.args.calls.now) line);
+      calls = λ j n. e.calls j n ∙ ap (λ l. l ++ keep (HasLane n line && is_at ids handles j line) (asked moment line.act) []) (inv.calls j n)
+          ∙ sym (ap (calls_at moment ids handles n j) more ∙ calls_at-last moment ids handles n j (take i c.args.calls.now) line);
+      lines = λ n. e.lines n ∙ ap (λ l. l ++ keep (HasLane n line) (asked moment line.act) []) (inv.lines n)
+          ∙ sym (ap (lane_asks moment n) more ∙ lane_asks-last moment n (take i c.args.calls.now) line);
     }
 
 pub returns-clause-fit : goal.returns-clause-fit
@@ -59,14 +60,14 @@ returns-clause-calls c =
     let ids = ids_of c.args.exporter.now in
     let handles = c.args.handles.now in
     let all : take c.loop-line.line-index c.args.calls.now ≡ c.args.calls.now = take_whole c.args.calls.now c.loop-line.line-index c.loop-line-test.false in
-    IfOk-weaker c.into_lanes.result _ (λ lanes. (j l : ℕ) → numbered_at j lanes.items l ≡ calls_at ids handles l j c.args.calls.now)
-    (λ lanes is j l. built_at lanes.items c.loop-line.gathered.items is c.loop-line.invariant.places j l ∙ c.loop-line.invariant.calls j l ∙ ap (calls_at ids handles l j) all) c.into_lanes.ensures.parts
+    IfOk-weaker c.into_lanes.result _ (λ lanes. (j l : ℕ) → numbered_at j lanes.items l ≡ calls_at c.args.moment ids handles l j c.args.calls.now)
+    (λ lanes is j l. built_at lanes.items c.loop-line.gathered.items is c.loop-line.invariant.places j l ∙ c.loop-line.invariant.calls j l ∙ ap (calls_at c.args.moment ids handles l j) all) c.into_lanes.ensures.parts
 
 pub returns-clause-lines : goal.returns-clause-lines
 returns-clause-lines c =
     let all : take c.loop-line.line-index c.args.calls.now ≡ c.args.calls.now = take_whole c.args.calls.now c.loop-line.line-index c.loop-line-test.false in
-    IfOk-weaker c.into_lanes.result _ (λ lanes. (l : ℕ) → numbered_asked lanes.items l ≡ lane_asks l c.args.calls.now)
-    (λ lanes is l. built_asked lanes.items c.loop-line.gathered.items is c.loop-line.invariant.places l ∙ c.loop-line.invariant.lines l ∙ ap (lane_asks l) all) c.into_lanes.ensures.parts
+    IfOk-weaker c.into_lanes.result _ (λ lanes. (l : ℕ) → numbered_asked lanes.items l ≡ lane_asks c.args.moment l c.args.calls.now)
+    (λ lanes is l. built_asked lanes.items c.loop-line.gathered.items is c.loop-line.invariant.places l ∙ c.loop-line.invariant.lines l ∙ ap (lane_asks c.args.moment l) all) c.into_lanes.ensures.parts
 
 pub returns-clause-numbers : goal.returns-clause-numbers
 returns-clause-numbers c =

@@ -7,6 +7,6 @@ abbrev pub invariant-loop-line : goal.invariant-loop-line
 invariant-loop-line l = record {
   ready : AreReady (ids_of l.exporter) l.gathered.items;
   places : AreInPlace 0 l.gathered.items;
-  calls : (j n : ℕ) → gathered_at j l.gathered.items n ≡ calls_at (ids_of l.exporter) l.handles n j (take l.line-index l.calls);
-  lines : (n : ℕ) → gathered_asked l.gathered.items n ≡ lane_asks n (take l.line-index l.calls);
+  calls : (j n : ℕ) → gathered_at j l.gathered.items n ≡ calls_at l.moment (ids_of l.exporter) l.handles n j (take l.line-index l.calls);
+  lines : (n : ℕ) → gathered_asked l.gathered.items n ≡ lane_asks l.moment n (take l.line-index l.calls);
 }

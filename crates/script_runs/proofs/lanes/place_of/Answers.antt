@@ -1,4 +1,4 @@
-use Rattle.std.proofs.Common.{sym, ap, ◌∙◌, false, Some}
+use Rattle.std.proofs.Common.{sym, ap, ◌∙◌, false}
 use Rattle.std.specs.Prelude.{option_map, unwrap_or}
 use Rattle.prom_exporter.specs.LanePasses.{ids_of}
 use Rattle.script_runs.specs.LaneCalls.{id_at}

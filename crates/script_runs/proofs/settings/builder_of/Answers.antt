@@ -1,10 +1,9 @@
-use Rattle.std.proofs.Common.{◌≡◌, ◌++◌, [], List, map, fold, sym, ap, ◌∙◌, subst}
+use Rattle.std.proofs.Common.{◌≡◌, ◌++◌, map, fold, ap, ◌∙◌}
 use Rattle.std.specs.Prelude.{option_map, unwrap_or}
 use Rattle.std.proofs.lemmas.Result.{IfOk-weaker}
 use Rattle.metrics_core.specs.Keys.{put_label}
 use Rattle.prom_format.specs.LabelSets.{labels_of}
 use Rattle.prom_exporter.specs.Families.{ExporterSettings}
-use Rattle.prom_exporter.specs.Exporter.{default_settings}
 use Rattle.std.specs.Int.NonZero.{non_zero_u32_get}
 use Rattle.drive_script.specs.Texts.{settings_of, values_of}
 use Rattle.script_runs.specs.Told.{rule_told}

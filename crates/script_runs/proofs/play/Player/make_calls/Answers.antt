@@ -5,7 +5,7 @@ use Rattle.cell_lanes.specs.Lanes.{AllDone, AllFit, AllTaken, Each, Grew}
 use Rattle.metrics_core.specs.declared.calls.SeriesCall.{SeriesCall}
 use Rattle.metrics_core.specs.declared.kinds.SeriesId.{SeriesId}
 use Rattle.drive_script.specs.declared.script.CallLine.{CallLine}
-use Rattle.prom_exporter.specs.LanePasses.{StandsAsItself, TakesCall, ids_of, things_of}
+use Rattle.prom_exporter.specs.LanePasses.{StandsAsEntries, TakesCall, ids_of, things_of}
 use Rattle.script_runs.specs.LaneCalls.{calls_at, numbered_at}
 use Rattle.script_runs.proofs.AfterLanes.{round_made}
 use Rattle.script_runs.proofs.RestingSteps.{all_taken, many_things, rest_after, rest_roots, rest_settled, when_ok}
@@ -34,8 +34,9 @@ returns-clause-called g c =
     let f = c.run_lanes.new.shared in
     let lanes = c.in_ok-lanes.lanes.items in
     let grew = c.run_lanes.ensures.grew in
-    let each = subst (λ (ls : List (Lane SeriesCall)). Each (Grew root_of StandsAsItself ls grew.0) (things_of e) (things_of f)) c.deref-3.ensures.value grew.2 in
-    let Same : List SeriesId → List CallLine → Type 0 = λ hs calls. (j l : ℕ) → numbered_at j lanes l ≡ calls_at (ids_of e) hs l j calls in
+    let each = subst (λ (ls : List (Lane SeriesCall)). Each (Grew root_of StandsAsEntries ls grew.0) (things_of e) (things_of f)) c.deref-3.ensures.value grew.2 in
+    let Same : List SeriesId → List CallLine → Type 0 = λ hs calls. (j l : ℕ) → numbered_at j lanes l ≡ calls_at c.args.moment (ids_of e) hs l j calls in
     let same = subst (Same c.args.self.now.handles.items) c.deref-2.ensures.value (subst (λ hs. Same hs c.deref-2.result.now) c.deref.ensures.value c.in_ok-lanes.ensures.calls) in
     when_ok c.run_lanes.result grew.1
-    (λ done. round_made e f c.args.self.now.handles.items c.args.calls.items lanes grew.0 c.requires.rest c.run_lanes.ensures.frame (subst (λ (ls : List (Lane SeriesCall)). AllDone ls grew.0) c.deref-3.ensures.value done) each c.in_ok-lanes.ensures.numbers same)
+    (λ done. round_made c.args.moment e f c.args.self.now.handles.items c.args.calls.items lanes grew.0 c.requires.rest c.run_lanes.ensures.frame (subst (λ (ls : List (Lane SeriesCall)). AllDone ls grew.0) c.deref-3.ensures.value done) each
+    c.in_ok-lanes.ensures.numbers same c.requires.fit c.requires.some)

@@ -1,9 +1,7 @@
-use Rattle.std.proofs.Common.{◌≡◌, ◌∷◌, [], ◌++◌, List, ap, subst, sym, ◌∙◌, fold, map, reverse}
+use Rattle.std.proofs.Common.{◌≡◌, ◌∷◌, [], ◌++◌, List, ap, sym, ◌∙◌, fold, map, reverse}
 use Rattle.std.proofs.lemmas.List.{reverse-append}
-use Rattle.std.proofs.lemmas.List.Elements.{All-tail}
 use Rattle.drive_script.specs.Texts.{setup_of}
 use Rattle.drive_script.specs.declared.script.Setup.{Setup}
-use Rattle.script_runs.specs.Built.{AreBuiltSetups, IsBuiltSetup}
 use Rattle.script_runs.specs.Play.{setup_step}
 use Rattle.script_runs.specs.Player.{state_of}
 use Rattle.script_runs.proofs.play.Player.set_up.Goals as goal
@@ -19,7 +17,6 @@ loop-line-preserved c =
     let steps : reverse c.loop-line.setup.items ≡ c.in-Some.line ∷ left =
     turned c.loop-line.setup.items c.pop.new.self.items c.in-Some.line c.in-Some.ensures.items ∙ ap (λ l. c.in-Some.line ∷ reverse l) (sym c.give_room_back.ensures.same) in
     record {
-      built = All-tail (λ (line : Setup). IsBuiltSetup (setup_of line)) c.in-Some.line left (subst AreBuiltSetups steps inv.built);
       settings = c.in_ok-set_up_line.ensures.settings ∙ inv.settings;
       rest = λ rests. c.in_ok-set_up_line.ensures.rest (inv.rest rests);
       stepped = ap (λ p. fold setup_step p (map setup_of left)) c.in_ok-set_up_line.ensures.stepped

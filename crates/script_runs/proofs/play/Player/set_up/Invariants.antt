@@ -1,6 +1,5 @@
 use Rattle.std.proofs.Common.{◌≡◌, fold, map, reverse, vec_len}
 use Rattle.drive_script.specs.Texts.{setup_of}
-use Rattle.script_runs.specs.Built.{AreBuiltSetups}
 use Rattle.script_runs.specs.Play.{setup_step}
 use Rattle.script_runs.specs.Player.{state_of}
 use Rattle.script_runs.specs.Resting.{AllRest}
@@ -8,7 +7,6 @@ use Rattle.script_runs.proofs.play.Player.set_up.Given as goal
 
 abbrev pub invariant-loop-line : goal.invariant-loop-line
 invariant-loop-line l = record {
-  built : AreBuiltSetups (reverse l.setup.items);
   settings : l.self.exporter.settings ≡ l.initial.self.exporter.settings;
   rest : AllRest l.initial.self.exporter → AllRest l.self.exporter;
   stepped : fold setup_step (state_of l.self) (map setup_of (reverse l.setup.items)) ≡ fold setup_step (state_of l.initial.self) (map setup_of l.fn.setup.items);

@@ -1,5 +1,5 @@
-use Rattle.script_runs.proofs.RestingSteps.{counter_rests, gauge_rests}
-use Rattle.script_runs.proofs.play.Player.set_up_line.Goals.{in-Counter+in_ok-id-in-Counter, in-Gauge+in_ok-id-in-Gauge}
+use Rattle.script_runs.proofs.RestingSteps.{counter_rests, gauge_rests, histogram_rests}
+use Rattle.script_runs.proofs.play.Player.set_up_line.Goals.{in-Counter+in_ok-id-in-Counter, in-Gauge+in_ok-id-in-Gauge, in-Histogram+in_ok-id-in-Histogram}
 use Rattle.script_runs.proofs.play.Player.set_up_line.Goals as goal
 
 pub returns-in_err-push-clause-rest : goal.returns-in_err-push-clause-rest
@@ -7,6 +7,7 @@ returns-in_err-push-clause-rest c =
     elim c.match-kind.branch [
       | in-Counter+in_ok-id-in-Counter w ↦ rw w.self-is (counter_rests _ _ _ w.in_ok-id-in-Counter.ensures.cells)
       | in-Gauge+in_ok-id-in-Gauge w ↦ rw w.self-is (gauge_rests _ _ _ w.in_ok-id-in-Gauge.ensures.cells)
+      | in-Histogram+in_ok-id-in-Histogram w ↦ rw w.self-is (histogram_rests _ _ _ w.in_ok-id-in-Histogram.ensures.cells)
     ]
 
 pub returns-clause-rest : goal.returns-clause-rest
@@ -14,6 +15,7 @@ returns-clause-rest c =
     elim c.match-kind.branch [
       | in-Counter+in_ok-id-in-Counter w ↦ rw w.self-is (counter_rests _ _ _ w.in_ok-id-in-Counter.ensures.cells)
       | in-Gauge+in_ok-id-in-Gauge w ↦ rw w.self-is (gauge_rests _ _ _ w.in_ok-id-in-Gauge.ensures.cells)
+      | in-Histogram+in_ok-id-in-Histogram w ↦ rw w.self-is (histogram_rests _ _ _ w.in_ok-id-in-Histogram.ensures.cells)
     ]
 
 pub returns-in_err-push-2-clause-rest : goal.returns-in_err-push-2-clause-rest
@@ -21,4 +23,5 @@ returns-in_err-push-2-clause-rest c =
     elim c.match-kind.branch [
       | in-Counter+in_ok-id-in-Counter w ↦ rw w.self-is (counter_rests _ _ _ w.in_ok-id-in-Counter.ensures.cells)
       | in-Gauge+in_ok-id-in-Gauge w ↦ rw w.self-is (gauge_rests _ _ _ w.in_ok-id-in-Gauge.ensures.cells)
+      | in-Histogram+in_ok-id-in-Histogram w ↦ rw w.self-is (histogram_rests _ _ _ w.in_ok-id-in-Histogram.ensures.cells)
     ]
