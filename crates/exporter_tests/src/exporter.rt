@@ -5,6 +5,7 @@ ghost use Rattle.prom_exporter.specs.Exporter.{no_cells};
 
 use metrics_core::{Fixed, Key, KeyName, Label, MemorySink};
 use metrics_registry::MetricKindMask;
+use page_texts::Render;
 use prom_exporter::{BuildError, PrometheusBuilder, PrometheusState};
 use std::alloc::Global;
 use std::sync::Wait;
@@ -23,9 +24,10 @@ fn shows_at<R: Wait>(
     moment: u64,
     body: &[u8],
 ) -> bool {
-    let mut sink = MemorySink::new(alloc, 1000, Vec::new(alloc));
-    let rendered = exporter.render_to_write(rt, alloc, moment, &mut sink);
-    rendered.is_ok() && sink.written() == body
+    match exporter.render(rt, alloc, moment) {
+        Ok(page) => page.as_bytes() == body,
+        Err(_) => false,
+    }
 }
 
 /// A key of a name and one label.

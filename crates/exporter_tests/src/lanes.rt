@@ -8,9 +8,9 @@ use std::sync::atomic::{AtomicBool, Ordering};
 use std::test::Fail;
 use std::thread::{Threads, yield_now};
 
-/// Two lanes on a counter and a gauge.
+/// Two lanes on a counter, a gauge and a histogram.
 const TWO_LANES: &[u8] =
-    b"round 0\nregister counter \"c\"\nregister gauge \"g\"\n0 inc 0 1\n0 set 1 1\n1 abs 0 10\n1 set 1 2\n";
+    b"quantiles 0 1\nround 0\nregister counter \"c\"\nregister gauge \"g\"\nregister histogram \"h\"\n0 inc 0 1\n0 set 1 1\n0 rec 2 1\n1 abs 0 10\n1 set 1 2\n1 rec 2 2\n";
 
 /// How often a gate looks at a flag at most.
 const TURNS: u32 = 10_000_000;
@@ -53,7 +53,7 @@ impl Gate for Meeting {
     fn after<R: Wait>(&self, _rt: &R, _lane: u8, _call: u32) {}
 }
 
-/// A gate that holds one lane back until the other has made its second call.
+/// A gate that holds one lane back until the other has made its third call.
 #[derive(Drop)]
 struct Turns {
     held: u8,
@@ -69,7 +69,7 @@ impl Gate for Turns {
     }
 
     fn after<R: Wait>(&self, _rt: &R, lane: u8, call: u32) {
-        if lane != self.held && call == 1 {
+        if lane != self.held && call == 2 {
             self.open.store(true, Ordering::SeqCst);
         }
     }
@@ -124,8 +124,10 @@ fn lanes_meet_at_the_gate(rt: HostRuntime) -> Result<(), Fail> {
 
 #[test]
 fn the_gate_orders_the_lanes(rt: HostRuntime) -> Result<(), Fail> {
-    let first = b"# TYPE c counter\nc 10\n\n# TYPE g gauge\ng 2\n\n# EOF\n".as_slice();
-    let second = b"# TYPE c counter\nc 11\n\n# TYPE g gauge\ng 1\n\n# EOF\n".as_slice();
+    let first =
+        b"# TYPE c counter\nc 10\n\n# TYPE g gauge\ng 2\n\n# TYPE h summary\nh{quantile=\"0\"} 1\nh{quantile=\"1\"} 2\nh_sum 3\nh_count 2\n\n# EOF\n".as_slice();
+    let second =
+        b"# TYPE c counter\nc 11\n\n# TYPE g gauge\ng 1\n\n# TYPE h summary\nh{quantile=\"0\"} 1\nh{quantile=\"1\"} 2\nh_sum 3\nh_count 2\n\n# EOF\n".as_slice();
     assert!(rt; shows(&rt, rt.alloc(), 1, first)?);
     assert!(rt; shows(&rt, rt.alloc(), 0, second)?);
     Ok(())
