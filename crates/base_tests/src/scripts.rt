@@ -92,7 +92,7 @@ fn first_bad_lines(rt: HostRuntime) {
         ("round 5\nround 4\n", 2),
         ("round 0\nglobal \"a\" \"b\"\n", 2),
         ("global \"a\"\n", 1),
-        ("round 0\nregister histogram \"h\"\n", 2),
+        ("round 0\nregister timer \"h\"\n", 2),
         ("round 0\nregister counter \"a\\t\"\n", 2),
         ("round 0\nregister counter \"a\" \"b\"\n", 2),
         ("round 0\n0 inc 0 1\n", 2),
