@@ -7,7 +7,7 @@ use Rattle.std.proofs.lemmas.List.Elements.{filter-append}
 use Rattle.std.proofs.lemmas.List.Filters.{length-filter_both}
 use Rattle.std.proofs.lemmas.List.Sums.{fold-append}
 use Rattle.metrics_core.specs.Outside.{GrewBy}
-use Rattle.dsd_exporter.specs.Remotes.{RemoteText}
+use Rattle.dsd_addresses.specs.Remotes.{RemoteText}
 use Rattle.dsd_exporter.specs.Links.{SentText}
 use Rattle.dsd_exporter.specs.Updates.{UpdateText}
 use Rattle.dsd_exporter.specs.Sending.{Outcome, handed, sent_of, unsent_of, with_outcome, RoseBy, addressed, HandsOut}

@@ -11,7 +11,6 @@ pub mod Marks
 pub mod Offering
 pub mod PutBack
 pub mod Registered
-pub mod Schemes
 pub mod Sent
 pub mod SentSamples
 pub mod Taken

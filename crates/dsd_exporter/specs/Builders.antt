@@ -3,7 +3,7 @@ use Rattle.std.specs.Prelude.{◌≡◌, ℕ, codes, Bool, true, false, List, []
 use Rattle.metrics_core.specs.Keys.{LabelText}
 use Rattle.dsd_exporter.specs.declared.configuration.AggregationMode.TheVariants.{Conservative}
 use Rattle.dsd_exporter.specs.declared.configuration.StateConfiguration.{StateConfiguration}
-use Rattle.dsd_exporter.specs.Remotes.{RemoteText, IsRemote, default_limit}
+use Rattle.dsd_addresses.specs.Remotes.{RemoteText, IsRemote, default_limit}
 use Rattle.dsd_exporter.specs.Exporter.{is_aggressive}
 
 -- the address, the payload limit where it is set, how long a write may take and where it is set how long to wait between flushes, in nanoseconds, whether sends are on the caller's thread, the labels of every line, and what the state is built with

@@ -1,13 +1,9 @@
 pub mod Builders
 pub mod Exporter
-pub mod Faults
 pub mod Flushing
 pub mod Lending
-pub mod Limits
 pub mod Links
-pub mod Remotes
 pub mod Samples
 pub mod Sending
 pub mod State
 pub mod Updates
-pub mod Vectors

@@ -1,7 +1,7 @@
 -- What a link tells of itself.
 use Rattle.std.specs.Prelude.{ℕ, List, Option}
 use Rattle.metrics_core.specs.Devices.{CallsText}
-use Rattle.dsd_exporter.specs.Remotes.{RemoteText}
+use Rattle.dsd_addresses.specs.Remotes.{RemoteText}
 
 -- a payload that was sent, and the address that the link was aimed at then, if it had been aimed
 pub record SentText : Type 0 where

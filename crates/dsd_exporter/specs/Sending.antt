@@ -6,7 +6,7 @@ use Rattle.metrics_core.specs.Outside.{GrewBy}
 use Rattle.dsd_writer.specs.Lines.{payloads_of}
 use Rattle.dsd_writer.specs.Packing.{framed_payloads}
 use Rattle.dsd_writer.specs.Writers.{WriterText, IsEmptied}
-use Rattle.dsd_exporter.specs.Remotes.{RemoteText}
+use Rattle.dsd_addresses.specs.Remotes.{RemoteText}
 use Rattle.dsd_exporter.specs.Links.{SentText}
 use Rattle.dsd_exporter.specs.State.{FlushItem, left_out_of_items}
 use Rattle.dsd_exporter.specs.Updates.{UpdateText, with_sent, with_unsent}

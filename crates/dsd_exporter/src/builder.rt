@@ -1,15 +1,13 @@
 //! What an exporter of DogStatsD lines is to be built with.
 
 ghost use Rattle.std.specs.Prelude.{◌≡◌, IfOk, IfErr, Some, None, true};
-ghost use Rattle.dsd_exporter.specs.declared.faults.BuildError.TheVariants as causes;
-ghost use Rattle.dsd_exporter.specs.Remotes.{IsRemote, IsRefusal};
-ghost use Rattle.dsd_exporter.specs.Limits.{fault_of_limit};
+ghost use Rattle.dsd_addresses.specs.declared.faults.BuildError.TheVariants as causes;
+ghost use Rattle.dsd_addresses.specs.Remotes.{IsRemote, IsRefusal};
+ghost use Rattle.dsd_addresses.specs.Limits.{fault_of_limit};
 ghost use Rattle.dsd_exporter.specs.Builders.{IsDefault, limit_of, interval_of};
 
 use crate::configuration::{AggregationMode, StateConfiguration};
-use crate::faults::BuildError;
-use crate::limits::limit_fault;
-use crate::remote_addr::RemoteAddr;
+use dsd_addresses::{BuildError, RemoteAddr, limit_fault};
 use metrics_core::{Label, Memory};
 use std::alloc::Global;
 use std::marker::Model;
@@ -27,7 +25,7 @@ pub struct DogStatsDBuilder {
 }
 
 impl Model for DogStatsDBuilder {
-    ghost use Rattle.dsd_exporter.specs.Remotes.{remote_text};
+    ghost use Rattle.dsd_addresses.specs.Remotes.{remote_text};
     ghost use Rattle.dsd_exporter.specs.Builders.{BuilderText};
 
     ghost Value = { BuilderText };

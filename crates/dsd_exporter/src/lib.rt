@@ -1,5 +1,5 @@
-//! The DogStatsD exporter: its state, which registers series, lends passes of their cells and flushes them; where its lines are
-//! sent, and what settings it refuses.
+//! The DogStatsD exporter: its state, which registers series, lends passes of their cells and flushes them; the links that its
+//! payloads are handed to; and what settings it refuses.
 //!
 //! A state, a series, a flush, and where payloads go:
 //!
@@ -12,27 +12,24 @@
 mod builder;
 mod configuration;
 mod failing_calls;
-mod faults;
 mod flush_state;
 mod flushing;
 mod histogram_flushing;
 mod lent;
-mod limits;
 mod link;
 mod queued;
-mod remote_addr;
 mod sending;
 mod state;
 mod update;
 
 pub use builder::DogStatsDBuilder;
 pub use configuration::{AggregationMode, StateConfiguration};
-pub use faults::{BuildError, LimitFault};
+pub use dsd_addresses::{
+    BuildError, LimitFault, RemoteAddr, limit_fault, remote_texts_have_one_reading,
+};
 pub use flush_state::FlushState;
 pub use lent::Lent;
-pub use limits::limit_fault;
 pub use link::{DiscardLink, Link, MemoryLink, SentPayload};
-pub use remote_addr::{RemoteAddr, remote_texts_have_one_reading};
 pub use sending::{FlushReport, send_flush};
 pub use state::State;
 pub use update::TelemetryUpdate;

@@ -3,11 +3,11 @@
 ghost use Rattle.std.specs.Prelude.{◌≡◌, ℕ, ◌≤◌, List, [], ◌∷◌, ◌++◌, Option, option_map, Some, None, OnErr, OnOk, IsOk, IfOk, false};
 ghost use Rattle.metrics_core.specs.Outside.{Rose, GrewBy};
 ghost use Rattle.metrics_core.specs.Devices.{one_more, is_listed};
-ghost use Rattle.dsd_exporter.specs.Remotes.{RemoteText, remote_text};
+ghost use Rattle.dsd_addresses.specs.Remotes.{RemoteText, remote_text};
 ghost use Rattle.dsd_exporter.specs.Links.{SentText};
 
-use crate::RemoteAddr;
 use crate::failing_calls::FailingCalls;
+use dsd_addresses::RemoteAddr;
 use metrics_core::{Failed, Memory};
 use std::alloc::Global;
 use std::marker::Model;
@@ -48,7 +48,7 @@ pub struct SentPayload {
 
 impl Model for SentPayload {
     ghost use Rattle.std.specs.Prelude.{option_map};
-    ghost use Rattle.dsd_exporter.specs.Remotes.{remote_text};
+    ghost use Rattle.dsd_addresses.specs.Remotes.{remote_text};
     ghost use Rattle.dsd_exporter.specs.Links.{SentText};
 
     ghost Value = { SentText };
@@ -76,7 +76,7 @@ pub struct MemoryLink {
 
 impl Model for MemoryLink {
     ghost use Rattle.std.specs.Prelude.{option_map};
-    ghost use Rattle.dsd_exporter.specs.Remotes.{remote_text};
+    ghost use Rattle.dsd_addresses.specs.Remotes.{remote_text};
     ghost use Rattle.dsd_exporter.specs.Links.{LinkText};
 
     ghost Value = { LinkText };
@@ -182,7 +182,7 @@ pub struct DiscardLink {
 
 impl Model for DiscardLink {
     ghost use Rattle.std.specs.Prelude.{Option, option_map};
-    ghost use Rattle.dsd_exporter.specs.Remotes.{RemoteText, remote_text};
+    ghost use Rattle.dsd_addresses.specs.Remotes.{RemoteText, remote_text};
 
     ghost Value = { Option RemoteText };
 

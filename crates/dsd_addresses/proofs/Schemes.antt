@@ -9,9 +9,9 @@ use Rattle.net_addresses.specs.Readings.{Lacks}
 use Rattle.net_addresses.specs.Addresses.{IsSocket}
 use Rattle.net_addresses.proofs.Splits.{Lacks-split}
 use Rattle.net_addresses.proofs.Texts.{socket_unique, Lacks-socket}
-use Rattle.dsd_exporter.specs.declared.faults.BuildError.{BuildError}
-use Rattle.dsd_exporter.specs.declared.faults.BuildError.TheVariants as causes
-use Rattle.dsd_exporter.specs.Remotes.{RemoteText, Udp, Unix, Unixgram, IsSchemeSplit, HasNoScheme, IsRemote, IsBehind, IsReasonBehind, IsRefusalBehind, IsRefusal, RefusedAs, no_socket_text, no_scheme_text}
+use Rattle.dsd_addresses.specs.declared.faults.BuildError.{BuildError}
+use Rattle.dsd_addresses.specs.declared.faults.BuildError.TheVariants as causes
+use Rattle.dsd_addresses.specs.Remotes.{RemoteText, Udp, Unix, Unixgram, IsSchemeSplit, HasNoScheme, IsRemote, IsBehind, IsReasonBehind, IsRefusalBehind, IsRefusal, RefusedAs, no_socket_text, no_scheme_text}
 
 abbrev mark : List ℕ
 mark = 58 ∷ 47 ∷ 47 ∷ []

@@ -4,7 +4,7 @@ ghost use Rattle.std.specs.Prelude.{◌≡◌, ◌↔◌, IsTrue, string_bytes, 
 ghost use Rattle.std.specs.declared.net.socket_addr.SocketAddr.{SocketAddr};
 ghost use Rattle.net_addresses.specs.Addresses.{IsSocket};
 ghost use Rattle.net_addresses.specs.Readings.{HasOneReading};
-ghost use Rattle.dsd_exporter.specs.Remotes.{RemoteText, remote_text, remote_output, transport_of, default_limit, IsSchemeSplit, HasNoScheme, IsBehind, IsRefusalBehind, IsRemote, IsRefusal, RefusedAs, no_socket_text};
+ghost use Rattle.dsd_addresses.specs.Remotes.{RemoteText, remote_text, remote_output, transport_of, default_limit, IsSchemeSplit, HasNoScheme, IsBehind, IsRefusalBehind, IsRemote, IsRefusal, RefusedAs, no_socket_text};
 
 use crate::BuildError;
 use metrics_core::{Memory, read_socket};

@@ -1,6 +1,6 @@
-use Rattle.dsd_exporter.proofs.Schemes.{refusal_at_split, refusal_without}
+use Rattle.dsd_addresses.proofs.Schemes.{refusal_at_split, refusal_without}
 use Rattle.std.proofs.lemmas.Result.{IfErr-weaker}
-use Rattle.dsd_exporter.proofs.remote_addr.RemoteAddr.from_text.Goals as goal
+use Rattle.dsd_addresses.proofs.remote_addr.RemoteAddr.from_text.Goals as goal
 
 pub returns-in-Some-clause-refused : goal.returns-in-Some-clause-refused
 returns-in-Some-clause-refused c =

@@ -1,9 +1,9 @@
 -- How faults are shown.
 use Rattle.std.specs.Prelude.{ℕ, List, ◌++◌, codes, decimal, string_bytes}
-use Rattle.dsd_exporter.specs.declared.faults.LimitFault.{LimitFault}
-use Rattle.dsd_exporter.specs.declared.faults.LimitFault.TheVariants as limits
-use Rattle.dsd_exporter.specs.declared.faults.BuildError.{BuildError}
-use Rattle.dsd_exporter.specs.declared.faults.BuildError.TheVariants as causes
+use Rattle.dsd_addresses.specs.declared.faults.LimitFault.{LimitFault}
+use Rattle.dsd_addresses.specs.declared.faults.LimitFault.TheVariants as limits
+use Rattle.dsd_addresses.specs.declared.faults.BuildError.{BuildError}
+use Rattle.dsd_addresses.specs.declared.faults.BuildError.TheVariants as causes
 
 -- the limit, and what is said behind its number
 abbrev pub limit_text : ℕ → List ℕ → List ℕ

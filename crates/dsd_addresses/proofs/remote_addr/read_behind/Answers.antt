@@ -1,8 +1,8 @@
 use Rattle.std.proofs.Common.{false, rules}
 use Rattle.std.specs.Prelude.{IsTrue}
-use Rattle.dsd_exporter.specs.Remotes.{no_scheme_text}
-use Rattle.dsd_exporter.proofs.Schemes.{refusal_behind}
-use Rattle.dsd_exporter.proofs.remote_addr.read_behind.Goals as goal
+use Rattle.dsd_addresses.specs.Remotes.{no_scheme_text}
+use Rattle.dsd_addresses.proofs.Schemes.{refusal_behind}
+use Rattle.dsd_addresses.proofs.remote_addr.read_behind.Goals as goal
 
 pub returns-clause-refused : goal.returns-clause-refused
 returns-clause-refused c =

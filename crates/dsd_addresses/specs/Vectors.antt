@@ -1,10 +1,10 @@
 -- Worked rows of the definitions.
 use Rattle.std.specs.Prelude.{◌≡◌, Some, None, codes, refl}
 use Rattle.std.specs.Fmt.{digits}
-use Rattle.dsd_exporter.specs.declared.faults.LimitFault.TheVariants as limits
-use Rattle.dsd_exporter.specs.Faults.{limit_fault_text}
-use Rattle.dsd_exporter.specs.Limits.{fault_of_limit}
-use Rattle.dsd_exporter.specs.Remotes.{Unix, IsRemote, no_scheme_text, remote_output}
+use Rattle.dsd_addresses.specs.declared.faults.LimitFault.TheVariants as limits
+use Rattle.dsd_addresses.specs.Faults.{limit_fault_text}
+use Rattle.dsd_addresses.specs.Limits.{fault_of_limit}
+use Rattle.dsd_addresses.specs.Remotes.{Unix, IsRemote, no_scheme_text, remote_output}
 
 pub path : IsRemote (codes "unix:///tmp/s") (Unix (codes "/tmp/s"))
 path = refl

@@ -18,7 +18,7 @@ pub enum LimitFault {
 }
 
 impl fmt::Display for LimitFault {
-    ghost use Rattle.dsd_exporter.specs.Faults.{limit_fault_text};
+    ghost use Rattle.dsd_addresses.specs.Faults.{limit_fault_text};
 
     ghost output = { λ fault. Some (limit_fault_text fault) };
 
@@ -63,7 +63,7 @@ pub enum BuildError {
 
 impl From<AllocError> for BuildError {
     ghost use Rattle.std.specs.Prelude.{◌≡◌};
-    ghost use Rattle.dsd_exporter.specs.declared.faults.BuildError.TheVariants as causes;
+    ghost use Rattle.dsd_addresses.specs.declared.faults.BuildError.TheVariants as causes;
 
     ghost from_gives = { λ _ fault. fault ≡ causes.Memory };
 
@@ -73,7 +73,7 @@ impl From<AllocError> for BuildError {
 }
 
 impl fmt::Display for BuildError {
-    ghost use Rattle.dsd_exporter.specs.Faults.{build_error_text};
+    ghost use Rattle.dsd_addresses.specs.Faults.{build_error_text};
 
     ghost output = { λ fault. Some (build_error_text fault) };
 

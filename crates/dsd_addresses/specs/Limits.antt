@@ -2,10 +2,10 @@
 -- 65527, what a datagram of 65535 bytes holds behind its header of 8 (RFC 768); and one over 2 ^ 32 - 1, what the four bytes
 -- before a payload of a Unix stream tell.
 use Rattle.std.specs.Prelude.{ℕ, Bool, ◌&&◌, true, false, nat_lt, Option, Some, None, if◌then◌else◌}
-use Rattle.dsd_exporter.specs.declared.faults.LimitFault.{LimitFault}
-use Rattle.dsd_exporter.specs.declared.faults.LimitFault.TheVariants.{Low, Udp, Bound}
-use Rattle.dsd_exporter.specs.Remotes.{RemoteText}
-use Rattle.dsd_exporter.specs.Remotes as to
+use Rattle.dsd_addresses.specs.declared.faults.LimitFault.{LimitFault}
+use Rattle.dsd_addresses.specs.declared.faults.LimitFault.TheVariants.{Low, Udp, Bound}
+use Rattle.dsd_addresses.specs.Remotes.{RemoteText}
+use Rattle.dsd_addresses.specs.Remotes as to
 
 abbrev pub is_udp : RemoteText → Bool
 is_udp (to.Udp _) = true

@@ -3,10 +3,10 @@ use Rattle.std.specs.Prelude.{◌≡◌, ◌≢◌, ⊤, ℕ, ◌≤◌, ◌⊎�
 use Rattle.std.specs.declared.net.socket_addr.SocketAddr.{SocketAddr}
 use Rattle.std.specs.Net.Text.{socket_text}
 use Rattle.net_addresses.specs.Addresses.{IsSocket}
-use Rattle.dsd_exporter.specs.declared.remote_addr.RemoteAddr.{RemoteAddr}
-use Rattle.dsd_exporter.specs.declared.remote_addr.RemoteAddr.TheVariants as held
-use Rattle.dsd_exporter.specs.declared.faults.BuildError.{BuildError}
-use Rattle.dsd_exporter.specs.declared.faults.BuildError.TheVariants as causes
+use Rattle.dsd_addresses.specs.declared.remote_addr.RemoteAddr.{RemoteAddr}
+use Rattle.dsd_addresses.specs.declared.remote_addr.RemoteAddr.TheVariants as held
+use Rattle.dsd_addresses.specs.declared.faults.BuildError.{BuildError}
+use Rattle.dsd_addresses.specs.declared.faults.BuildError.TheVariants as causes
 
 -- an address to send to: a UDP socket, or the path of a Unix socket
 pub data RemoteText : Type 0 where

@@ -1,8 +1,8 @@
 //! Which payload limits are allowed.
 
 ghost use Rattle.std.specs.Prelude.{◌≡◌};
-ghost use Rattle.dsd_exporter.specs.Limits.{fault_of_limit};
-ghost use Rattle.dsd_exporter.specs.Remotes.{remote_text};
+ghost use Rattle.dsd_addresses.specs.Limits.{fault_of_limit};
+ghost use Rattle.dsd_addresses.specs.Remotes.{remote_text};
 
 use crate::{LimitFault, RemoteAddr};
 

@@ -1,0 +1,4 @@
+pub mod Faults
+pub mod Limits
+pub mod Remotes
+pub mod Vectors

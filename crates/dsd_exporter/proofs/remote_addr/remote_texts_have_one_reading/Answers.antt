@@ -1,5 +1,0 @@
-use Rattle.dsd_exporter.proofs.Schemes.{remote_unique}
-use Rattle.dsd_exporter.proofs.remote_addr.remote_texts_have_one_reading.Goals as goal
-
-pub returns : goal.returns
-returns c = remote_unique

@@ -1,5 +1,0 @@
-use Rattle.dsd_exporter.proofs.Schemes.{scheme_split}
-use Rattle.dsd_exporter.proofs.remote_addr.scheme_of.Goals as goal
-
-pub returns : goal.returns
-returns c = scheme_split c.args.text.now c.split_once.result c.split_once.ensures.cases
