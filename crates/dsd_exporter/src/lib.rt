@@ -11,7 +11,6 @@
 
 mod builder;
 mod configuration;
-mod failing_calls;
 mod flush_state;
 mod flushing;
 mod histogram_flushing;

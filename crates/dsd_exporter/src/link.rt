@@ -6,8 +6,8 @@ ghost use Rattle.metrics_core.specs.Devices.{one_more, is_listed};
 ghost use Rattle.dsd_addresses.specs.Remotes.{RemoteText, remote_text};
 ghost use Rattle.dsd_exporter.specs.Links.{SentText};
 
-use crate::failing_calls::FailingCalls;
 use dsd_addresses::RemoteAddr;
+use failing_calls::FailingCalls;
 use metrics_core::{Failed, Memory};
 use std::alloc::Global;
 use std::marker::Model;

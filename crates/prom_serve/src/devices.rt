@@ -6,8 +6,8 @@ ghost use Rattle.metrics_core.specs.Devices.{one_more, is_listed};
 ghost use Rattle.prom_serve.specs.Connections.{Told, Took, Wrote, with_written, CountedOn, losses};
 ghost use Rattle.prom_serve.specs.Devices.{conn_faults, ended, IsUnused};
 
-use crate::failing_calls::FailingCalls;
 use crate::{Conn, Listener};
+use failing_calls::FailingCalls;
 use metrics_core::{Failed, Memory, MemorySink, Sink};
 use std::alloc::Global;
 use std::collections::VecDeque;

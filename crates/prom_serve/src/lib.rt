@@ -9,7 +9,6 @@ mod answers;
 mod conns;
 mod devices;
 mod errors;
-mod failing_calls;
 mod heads;
 mod listeners;
 mod paths;

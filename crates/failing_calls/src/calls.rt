@@ -1,13 +1,13 @@
-//! The calls of a link that fails where it is told to.
+//! The calls of a device that fails where it is told to.
 
 ghost use Rattle.std.specs.Prelude.{◌≡◌, ◌≤◌};
 ghost use Rattle.metrics_core.specs.Devices.{one_more, is_listed};
 
 use std::marker::Model;
 
-/// The calls of a link: which of them are to fail, how many there were, and how many failed.
+/// The calls of a device: which of them are to fail, how many there were, and how many failed.
 #[derive(Drop)]
-pub(crate) struct FailingCalls {
+pub struct FailingCalls {
     failing: Vec<u64>,
     number: u64,
     faults: u64,
@@ -23,7 +23,7 @@ impl Model for FailingCalls {
 
 impl FailingCalls {
     /// No call yet; those with the numbers in `failing`, counted from 0, are to fail.
-    pub(crate) fn new(failing: Vec<u64>) -> FailingCalls
+    pub fn new(failing: Vec<u64>) -> FailingCalls
         ensures { result ≡ record { failing = failing.items; number = 0; faults = 0 } }
     {
         FailingCalls {
@@ -34,14 +34,14 @@ impl FailingCalls {
     }
 
     /// How many calls failed.
-    pub(crate) fn faults(&self) -> u64
+    pub fn faults(&self) -> u64
         ensures { result ≡ self.now.faults }
     {
         self.faults
     }
 
     /// Counts a fault.
-    pub(crate) fn fault(&mut self)
+    pub fn fault(&mut self)
         ensures after { self.new ≡ record self.old { faults = one_more self.old.faults } }
         ensures never_falls { self.old.faults ≤ self.new.faults }
     {
@@ -49,7 +49,7 @@ impl FailingCalls {
     }
 
     /// Counts a call, and answers whether it is to fail.
-    pub(crate) fn next_fails(&mut self) -> bool
+    pub fn next_fails(&mut self) -> bool
         ensures fails { result ≡ is_listed self.old.failing self.old.number }
         ensures after { self.new ≡ record self.old { number = one_more self.old.number } }
     {
