@@ -1,3 +1,4 @@
+pub mod CallKinds
 pub mod Counters
 pub mod Draining
 pub mod Flushed
@@ -6,11 +7,16 @@ pub mod FoundHome
 pub mod Gauges
 pub mod Handed
 pub mod Histograms
+pub mod LaneIndices
+pub mod LaneRounds
+pub mod LaneThings
 pub mod LeftOut
 pub mod Marks
 pub mod Offering
 pub mod PutBack
 pub mod Registered
+pub mod Resting
 pub mod Sent
 pub mod SentSamples
 pub mod Taken
+pub mod Unmapped

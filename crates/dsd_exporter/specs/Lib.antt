@@ -1,8 +1,13 @@
 pub mod Builders
+pub mod CallSteps
 pub mod Exporter
 pub mod Flushing
+pub mod LaneIndices
+pub mod LanePasses
+pub mod LaneRounds
 pub mod Lending
 pub mod Links
+pub mod Resting
 pub mod Samples
 pub mod Sending
 pub mod State

@@ -3,14 +3,15 @@
 ghost use Rattle.std.specs.Prelude.{◌≡◌, ◌<◌, ◌++◌, [], length, replicate, false, IfOk, OnOk, OnErr};
 ghost use Rattle.std.specs.Bool.{OnTrue, OnFalse};
 ghost use Rattle.std.specs.Arc.{arc_value};
-ghost use Rattle.legal_history.specs.History.{child};
+ghost use Rattle.legal_history.specs.History.{Settled, child};
 ghost use Rattle.sample_queue.specs.Passes.{IsSamplePass, view_of};
-ghost use Rattle.dsd_exporter.specs.Exporter.{empty_queue};
+ghost use Rattle.dsd_exporter.specs.Exporter.{IsHome, empty_queue};
 ghost use Rattle.dsd_exporter.specs.Flushing.{Drains, FoundEmpty, IsSample, Offers};
 ghost use Rattle.dsd_exporter.specs.Samples.{samples_in};
 ghost use Rattle.dsd_exporter.specs.Lending.{queue_out, queue_back};
 
-use cell_lanes::OwnedCell;
+use crate::lane_cells::{lend_cell, settle_cell, take_cell};
+use cell_lanes::{LentCell, OwnedCell};
 use metrics_core::{Fixed, Memory, Words};
 use metrics_registry::Reservoir;
 use sample_queue::{DsdHistogram, SampleEntry, SamplePass, SampleQueue};
@@ -63,6 +64,32 @@ impl QueuedSamples {
         ensures { self.new ≡ queue_back (view_of pass) self.old }
     {
         self.queue.take_pass(pass);
+    }
+
+    /// Lends a new pass of the queue to a lane.
+    pub(crate) fn lend_to_lane(&mut self, alloc: Global) -> Result<LentCell<DsdHistogram>, Memory>
+        ensures lent { IfOk result (λ lent. (lent.cell ≡ self.old.cell) × (lent.knows ≡ child self.old.root)) }
+        ensures out { OnOk result (self.new ≡ queue_out self.old) }
+        ensures refused { OnErr result (self.new ≡ self.old) }
+    {
+        lend_cell(alloc, &mut self.queue)
+    }
+
+    /// Takes a lane's pass of the queue back.
+    pub(crate) fn take_from_lane(&mut self, lent: LentCell<DsdHistogram>)
+        requires { lent.cell ≡ self.old.cell }
+        ensures { self.new ≡ queue_back lent.knows self.old }
+    {
+        take_cell(&mut self.queue, lent);
+    }
+
+    /// With no pass out, makes sure that the exporter knows whose each call on the queue is. It changes nothing.
+    pub(crate) fn settle<R: Wait>(&mut self, rt: &R)
+        requires { IsHome self.old.root }
+        ensures same { self.new ≡ self.old }
+        ensures settled { Settled self.old.root }
+    {
+        settle_cell(rt, &mut self.queue);
     }
 
     /// Takes entries out of the queue, in order, until it was empty at a moment of the call. Where memory is refused those that

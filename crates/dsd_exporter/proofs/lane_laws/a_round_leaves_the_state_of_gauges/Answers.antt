@@ -1,0 +1,5 @@
+use Rattle.dsd_exporter.proofs.LaneRounds.{leaves_gauges}
+use Rattle.dsd_exporter.proofs.lane_laws.a_round_leaves_the_state_of_gauges.Goals as goal
+
+pub returns : goal.returns
+returns c = λ lanes old new round. leaves_gauges lanes old new round

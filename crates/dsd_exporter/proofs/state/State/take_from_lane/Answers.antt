@@ -1,0 +1,104 @@
+use Rattle.std.proofs.Common.{◌-◌, ◌+◌, ◌<◌, length, refl, sym, subst}
+use Rattle.dsd_exporter.specs.declared.lanes.LanePass.TheVariants as passes
+use Rattle.dsd_exporter.specs.LanePasses.{of_counter, of_gauge, of_histogram, things_of}
+use Rattle.dsd_exporter.specs.contracts.state.State.{the_view}
+use Rattle.dsd_exporter.proofs.LaneThings.{IsPassHere, counter_here, gauge_here, histogram_here, counter_place, gauge_place, histogram_place, gauge_counted, histogram_counted, counter_takes_back, gauge_takes_back, histogram_takes_back}
+use Rattle.dsd_exporter.proofs.state.State.take_from_lane.Goals as goal
+
+pub counter_at-requires : goal.counter_at-requires
+counter_at-requires c =
+    let below = subst (λ e. c.args.index < length (things_of e)) (sym c.self.view_is) c.requires.here in
+    let owned : IsPassHere (the_view c.self.inside) (passes.Counter c.in-Counter.counter) c.args.index = subst (λ p. IsPassHere (the_view c.self.inside) p c.args.index) c.in-Counter.is (subst (λ e. IsPassHere e c.args.lent c.args.index) (sym c.self.view_is) c.requires.lent) in
+    let at = counter_place (the_view c.self.inside) c.args.index c.in-Counter.counter below owned in
+    at
+
+pub take_cell-requires-clause-lent : goal.take_cell-requires-clause-lent
+take_cell-requires-clause-lent c κs =
+    let below = subst (λ e. c.args.index < length (things_of e)) (sym c.self.view_is) c.requires.here in
+    let owned : IsPassHere (the_view c.self.inside) (passes.Counter c.in-Counter.counter) c.args.index = subst (λ p. IsPassHere (the_view c.self.inside) p c.args.index) c.in-Counter.is (subst (λ e. IsPassHere e c.args.lent c.args.index) (sym c.self.view_is) c.requires.lent) in
+    let at = counter_place (the_view c.self.inside) c.args.index c.in-Counter.counter below owned in
+    owned (of_counter c.counter_at.result.now) (counter_here (the_view c.self.inside) c.args.index c.args.index c.counter_at.result.now refl c.counter_at.ensures.value)
+
+pub returns-in-Counter-clause-taken : goal.returns-in-Counter-clause-taken
+returns-in-Counter-clause-taken c =
+    let below = subst (λ e. c.args.index < length (things_of e)) (sym c.self.view_is) c.requires.here in
+    let owned : IsPassHere (the_view c.self.inside) (passes.Counter c.in-Counter.counter) c.args.index = subst (λ p. IsPassHere (the_view c.self.inside) p c.args.index) c.in-Counter.is (subst (λ e. IsPassHere e c.args.lent c.args.index) (sym c.self.view_is) c.requires.lent) in
+    let at = counter_place (the_view c.self.inside) c.args.index c.in-Counter.counter below owned in
+    rw (← c.self.view_is, c.in-Counter.is) (counter_takes_back (the_view c.self.inside) c.args.index c.args.index c.counter_at.result.now c.take_cell.new.cell c.in-Counter.counter (refl, at) c.counter_at.ensures.value c.take_cell.ensures).0
+
+pub returns-in-Counter-clause-frame : goal.returns-in-Counter-clause-frame
+returns-in-Counter-clause-frame c =
+    let below = subst (λ e. c.args.index < length (things_of e)) (sym c.self.view_is) c.requires.here in
+    let owned : IsPassHere (the_view c.self.inside) (passes.Counter c.in-Counter.counter) c.args.index = subst (λ p. IsPassHere (the_view c.self.inside) p c.args.index) c.in-Counter.is (subst (λ e. IsPassHere e c.args.lent c.args.index) (sym c.self.view_is) c.requires.lent) in
+    let at = counter_place (the_view c.self.inside) c.args.index c.in-Counter.counter below owned in
+    rw (← c.self.view_is) (counter_takes_back (the_view c.self.inside) c.args.index c.args.index c.counter_at.result.now c.take_cell.new.cell c.in-Counter.counter (refl, at) c.counter_at.ensures.value c.take_cell.ensures).1
+
+pub overflow_sub-index : goal.overflow_sub-index
+overflow_sub-index c =
+    let below = subst (λ e. c.args.index < length (things_of e)) (sym c.self.view_is) c.requires.here in
+    let owned : IsPassHere (the_view c.self.inside) (passes.Gauge c.in-Gauge.gauge) c.args.index = subst (λ p. IsPassHere (the_view c.self.inside) p c.args.index) c.in-Gauge.is (subst (λ e. IsPassHere e c.args.lent c.args.index) (sym c.self.view_is) c.requires.lent) in
+    let at = gauge_counted (the_view c.self.inside) c.args.index c.counter_count-counters.result c.counter_count-counters.ensures.count (gauge_place (the_view c.self.inside) c.args.index c.in-Gauge.gauge below owned) in
+    at.0
+
+pub gauge_at-requires : goal.gauge_at-requires
+gauge_at-requires c =
+    let below = subst (λ e. c.args.index < length (things_of e)) (sym c.self.view_is) c.requires.here in
+    let owned : IsPassHere (the_view c.self.inside) (passes.Gauge c.in-Gauge.gauge) c.args.index = subst (λ p. IsPassHere (the_view c.self.inside) p c.args.index) c.in-Gauge.is (subst (λ e. IsPassHere e c.args.lent c.args.index) (sym c.self.view_is) c.requires.lent) in
+    let at = gauge_counted (the_view c.self.inside) c.args.index c.counter_count-counters.result c.counter_count-counters.ensures.count (gauge_place (the_view c.self.inside) c.args.index c.in-Gauge.gauge below owned) in
+    at.2
+
+pub take_cell-requires-in-Gauge-clause-lent : goal.take_cell-requires-in-Gauge-clause-lent
+take_cell-requires-in-Gauge-clause-lent c κs =
+    let below = subst (λ e. c.args.index < length (things_of e)) (sym c.self.view_is) c.requires.here in
+    let owned : IsPassHere (the_view c.self.inside) (passes.Gauge c.in-Gauge.gauge) c.args.index = subst (λ p. IsPassHere (the_view c.self.inside) p c.args.index) c.in-Gauge.is (subst (λ e. IsPassHere e c.args.lent c.args.index) (sym c.self.view_is) c.requires.lent) in
+    let at = gauge_counted (the_view c.self.inside) c.args.index c.counter_count-counters.result c.counter_count-counters.ensures.count (gauge_place (the_view c.self.inside) c.args.index c.in-Gauge.gauge below owned) in
+    owned (of_gauge c.gauge_at.result.now) (gauge_here (the_view c.self.inside) c.args.index (c.args.index - c.counter_count-counters.result) c.gauge_at.result.now at.1 c.gauge_at.ensures.value)
+
+pub returns-in-Gauge-clause-taken : goal.returns-in-Gauge-clause-taken
+returns-in-Gauge-clause-taken c =
+    let below = subst (λ e. c.args.index < length (things_of e)) (sym c.self.view_is) c.requires.here in
+    let owned : IsPassHere (the_view c.self.inside) (passes.Gauge c.in-Gauge.gauge) c.args.index = subst (λ p. IsPassHere (the_view c.self.inside) p c.args.index) c.in-Gauge.is (subst (λ e. IsPassHere e c.args.lent c.args.index) (sym c.self.view_is) c.requires.lent) in
+    let at = gauge_counted (the_view c.self.inside) c.args.index c.counter_count-counters.result c.counter_count-counters.ensures.count (gauge_place (the_view c.self.inside) c.args.index c.in-Gauge.gauge below owned) in
+    rw (← c.self.view_is, c.in-Gauge.is) (gauge_takes_back (the_view c.self.inside) c.args.index (c.args.index - c.counter_count-counters.result) c.gauge_at.result.now c.take_cell-in-Gauge.new.cell c.in-Gauge.gauge (at.1, at.2) c.gauge_at.ensures.value c.take_cell-in-Gauge.ensures).0
+
+pub returns-in-Gauge-clause-frame : goal.returns-in-Gauge-clause-frame
+returns-in-Gauge-clause-frame c =
+    let below = subst (λ e. c.args.index < length (things_of e)) (sym c.self.view_is) c.requires.here in
+    let owned : IsPassHere (the_view c.self.inside) (passes.Gauge c.in-Gauge.gauge) c.args.index = subst (λ p. IsPassHere (the_view c.self.inside) p c.args.index) c.in-Gauge.is (subst (λ e. IsPassHere e c.args.lent c.args.index) (sym c.self.view_is) c.requires.lent) in
+    let at = gauge_counted (the_view c.self.inside) c.args.index c.counter_count-counters.result c.counter_count-counters.ensures.count (gauge_place (the_view c.self.inside) c.args.index c.in-Gauge.gauge below owned) in
+    rw (← c.self.view_is) (gauge_takes_back (the_view c.self.inside) c.args.index (c.args.index - c.counter_count-counters.result) c.gauge_at.result.now c.take_cell-in-Gauge.new.cell c.in-Gauge.gauge (at.1, at.2) c.gauge_at.ensures.value c.take_cell-in-Gauge.ensures).1
+
+pub overflow_sub-index-in-Histogram : goal.overflow_sub-index-in-Histogram
+overflow_sub-index-in-Histogram c =
+    let below = subst (λ e. c.args.index < length (things_of e)) (sym c.self.view_is) c.requires.here in
+    let owned : IsPassHere (the_view c.self.inside) (passes.Histogram c.in-Histogram.histogram) c.args.index = subst (λ p. IsPassHere (the_view c.self.inside) p c.args.index) c.in-Histogram.is (subst (λ e. IsPassHere e c.args.lent c.args.index) (sym c.self.view_is) c.requires.lent) in
+    let at = histogram_counted (the_view c.self.inside) c.args.index c.counter_count.result c.gauge_count.result c.counter_count.ensures.count c.gauge_count.ensures (histogram_place (the_view c.self.inside) c.args.index c.in-Histogram.histogram below owned) in
+    at.0
+
+pub histogram_at-requires : goal.histogram_at-requires
+histogram_at-requires c =
+    let below = subst (λ e. c.args.index < length (things_of e)) (sym c.self.view_is) c.requires.here in
+    let owned : IsPassHere (the_view c.self.inside) (passes.Histogram c.in-Histogram.histogram) c.args.index = subst (λ p. IsPassHere (the_view c.self.inside) p c.args.index) c.in-Histogram.is (subst (λ e. IsPassHere e c.args.lent c.args.index) (sym c.self.view_is) c.requires.lent) in
+    let at = histogram_counted (the_view c.self.inside) c.args.index c.counter_count.result c.gauge_count.result c.counter_count.ensures.count c.gauge_count.ensures (histogram_place (the_view c.self.inside) c.args.index c.in-Histogram.histogram below owned) in
+    at.2
+
+pub take_from_lane-requires : goal.take_from_lane-requires
+take_from_lane-requires c =
+    let below = subst (λ e. c.args.index < length (things_of e)) (sym c.self.view_is) c.requires.here in
+    let owned : IsPassHere (the_view c.self.inside) (passes.Histogram c.in-Histogram.histogram) c.args.index = subst (λ p. IsPassHere (the_view c.self.inside) p c.args.index) c.in-Histogram.is (subst (λ e. IsPassHere e c.args.lent c.args.index) (sym c.self.view_is) c.requires.lent) in
+    let at = histogram_counted (the_view c.self.inside) c.args.index c.counter_count.result c.gauge_count.result c.counter_count.ensures.count c.gauge_count.ensures (histogram_place (the_view c.self.inside) c.args.index c.in-Histogram.histogram below owned) in
+    owned (of_histogram c.histogram_at.result.now) (histogram_here (the_view c.self.inside) c.args.index (c.args.index - (c.counter_count.result + c.gauge_count.result)) c.histogram_at.result.now at.1 c.histogram_at.ensures.value)
+
+pub returns-in-Histogram-clause-taken : goal.returns-in-Histogram-clause-taken
+returns-in-Histogram-clause-taken c =
+    let below = subst (λ e. c.args.index < length (things_of e)) (sym c.self.view_is) c.requires.here in
+    let owned : IsPassHere (the_view c.self.inside) (passes.Histogram c.in-Histogram.histogram) c.args.index = subst (λ p. IsPassHere (the_view c.self.inside) p c.args.index) c.in-Histogram.is (subst (λ e. IsPassHere e c.args.lent c.args.index) (sym c.self.view_is) c.requires.lent) in
+    let at = histogram_counted (the_view c.self.inside) c.args.index c.counter_count.result c.gauge_count.result c.counter_count.ensures.count c.gauge_count.ensures (histogram_place (the_view c.self.inside) c.args.index c.in-Histogram.histogram below owned) in
+    rw (← c.self.view_is, c.in-Histogram.is) (histogram_takes_back (the_view c.self.inside) c.args.index (c.args.index - (c.counter_count.result + c.gauge_count.result)) c.histogram_at.result.now c.take_from_lane.new.self c.in-Histogram.histogram at.1 c.histogram_at.ensures.value c.take_from_lane.ensures).0
+
+pub returns-in-Histogram-clause-frame : goal.returns-in-Histogram-clause-frame
+returns-in-Histogram-clause-frame c =
+    let below = subst (λ e. c.args.index < length (things_of e)) (sym c.self.view_is) c.requires.here in
+    let owned : IsPassHere (the_view c.self.inside) (passes.Histogram c.in-Histogram.histogram) c.args.index = subst (λ p. IsPassHere (the_view c.self.inside) p c.args.index) c.in-Histogram.is (subst (λ e. IsPassHere e c.args.lent c.args.index) (sym c.self.view_is) c.requires.lent) in
+    let at = histogram_counted (the_view c.self.inside) c.args.index c.counter_count.result c.gauge_count.result c.counter_count.ensures.count c.gauge_count.ensures (histogram_place (the_view c.self.inside) c.args.index c.in-Histogram.histogram below owned) in
+    rw (← c.self.view_is) (histogram_takes_back (the_view c.self.inside) c.args.index (c.args.index - (c.counter_count.result + c.gauge_count.result)) c.histogram_at.result.now c.take_from_lane.new.self c.in-Histogram.histogram at.1 c.histogram_at.ensures.value c.take_from_lane.ensures).1
