@@ -13,3 +13,8 @@ pub record LinkText : Type 0 where
   pub aimed : Option RemoteText
   pub sent : List SentText
   pub calls : CallsText
+
+-- a link over sockets: the address last given to it, and how often it failed
+pub record SocketText : Type 0 where
+  pub aimed : Option RemoteText
+  pub faults : ℕ

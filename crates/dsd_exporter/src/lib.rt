@@ -23,6 +23,7 @@ mod link;
 mod queued;
 mod rest_laws;
 mod sending;
+mod socket_link;
 mod state;
 mod update;
 
@@ -45,5 +46,6 @@ pub use rest_laws::{
     lanes_begin_and_end_at_rest,
 };
 pub use sending::{FlushReport, send_flush};
+pub use socket_link::SocketLink;
 pub use state::State;
 pub use update::TelemetryUpdate;
