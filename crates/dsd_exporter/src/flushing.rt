@@ -228,7 +228,8 @@ impl State {
     /// writes its lines and counts it. A counter without updates is sent once, and is idle then: it is not sent again until it
     /// has updates. The moment is in nanoseconds; words are drawn where histograms are sampled. Each series is taken at one
     /// point of its history, also beside others that make calls. Where memory is refused, the series before the refused one
-    /// were flushed, and from that one on they are untouched: what waits is sent by the next flush.
+    /// were flushed, and from that one on they are untouched, but that of a refused histogram entries may have gone from its
+    /// queue to those that were taken out of it, which come first at the next flush. What waits is sent by the next flush.
     pub fn flush<R: Wait, W: Words>(
         &mut self,
         rt: &R,
