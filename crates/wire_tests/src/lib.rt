@@ -1,4 +1,5 @@
-//! Worked examples of what goes over the wire: DogStatsD payloads, the addresses that they go to, and the answers to requests.
+//! Worked examples of what goes over the wire: DogStatsD payloads, the flushes that make them, the
+//! addresses that they go to, and the answers to requests.
 #![tactic(auto)]
 
 #[cfg(test)]
@@ -9,3 +10,5 @@ mod answer_tests;
 mod payload_tests;
 #[cfg(test)]
 mod serving_tests;
+#[cfg(test)]
+mod state_tests;
