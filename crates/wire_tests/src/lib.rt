@@ -7,6 +7,8 @@ mod address_tests;
 #[cfg(test)]
 mod answer_tests;
 #[cfg(test)]
+mod link_tests;
+#[cfg(test)]
 mod payload_tests;
 #[cfg(test)]
 mod serving_tests;
