@@ -1,0 +1,42 @@
+-- What a clause sees of a map of descriptions, which may not be made yet.
+use Rattle.std.specs.Prelude.{◌≡◌, ⊤, ℕ, List, All, Option, Some, None}
+use Rattle.std.specs.Prelude.{string_bytes}
+use Rattle.std.specs.declared.alloc.Global.{Global}
+use Rattle.std.specs.declared.sync.Arc.{Arc}
+use Rattle.std.specs.declared.string.String.{String}
+use Rattle.std.specs.declared.hash.Hash as Hash
+use Rattle.std.specs.declared.hash.BuildHasher as Build
+use Rattle.std.specs.declared.hash.Hasher as Hasher
+use Rattle.std.specs.declared.cmp.PartialEq as PartialEq
+use Rattle.left_right.specs.declared.Absorb as Absorb
+use Rattle.metrics_core.specs.declared.units.Unit.{Unit as UnitOf}
+use Rattle.value_bags.specs.declared.keep.Keep as Keep
+use Rattle.evmap_contents.specs.declared.key.KeyClone as Key
+use Rattle.evmap_contents.specs.declared.write.Write.{Write}
+use Rattle.evmap_core.specs.declared.store.Store.{Store}
+use Rattle.evmap_core.specs.declared.writer.WriteHandle.{WriteHandle}
+use Rattle.evmap_core.specs.Handles.{published, pending, told}
+use Rattle.metric_descriptions.specs.Descriptions.{DescribedText, nothing_described}
+use Rattle.metric_descriptions.specs.Written.{Text, said_by, Describes, IsOfNewName}
+
+module _ {P S H X : Type 0} {key : Key.Ghosts String (List ℕ)} {hash : Hash.Ghosts String} {eq : PartialEq.Ghosts String} {same : PartialEq.Ghosts Text} {hashes : Hash.Ghosts Text} {keep : Keep.Ghosts P Text} {build : Build.Ghosts S H} {hasher : Hasher.Ghosts H} {absorb : Absorb.Ghosts (Store String Text Unit P S (List ℕ) H) (Write String (Arc Text Global) (Arc Unit Global) P) X} where
+  -- what the published writes say, and what those say that wait
+  abbrev pub text_of : WriteHandle String Text Unit P S (List ℕ) H X key hash eq same hashes keep build hasher absorb → DescribedText
+  text_of w = record { published = said_by (published string_bytes w); pending = said_by (pending string_bytes w) }
+
+  -- each write describes a metric, those that wait are of names of which nothing is published, and a reader is told of all that
+  -- is published
+  pub record IsBook (w : WriteHandle String Text Unit P S (List ℕ) H X key hash eq same hashes keep build hasher absorb) : Type 0 where
+    pub shown : All Describes (published string_bytes w)
+    pub waiting : All Describes (pending string_bytes w)
+    pub new_names : All (IsOfNewName (said_by (published string_bytes w))) (pending string_bytes w)
+    pub told_all : told w ≡ published string_bytes w
+
+  -- where no map is made nothing is described
+  abbrev pub text_in : Option (WriteHandle String Text Unit P S (List ℕ) H X key hash eq same hashes keep build hasher absorb) → DescribedText
+  text_in None = nothing_described
+  text_in (Some w) = text_of w
+
+  abbrev pub HasBook : Option (WriteHandle String Text Unit P S (List ℕ) H X key hash eq same hashes keep build hasher absorb) → Type 0
+  HasBook None = ⊤
+  HasBook (Some w) = IsBook w

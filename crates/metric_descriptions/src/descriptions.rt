@@ -1,0 +1,167 @@
+//! The descriptions of metrics, and their readers.
+
+ghost use Rattle.std.specs.Prelude.{◌≡◌, true, is_some, string_bytes, option_map, IfOk, OnOk, OnErr};
+ghost use Rattle.evmap_contents.specs.Fold.{after};
+ghost use Rattle.evmap_core.specs.Known.{known};
+ghost use Rattle.metrics_core.specs.Texts.{cow_text};
+ghost use Rattle.metric_descriptions.specs.Descriptions.{nothing_described, describe, publish, description_of};
+ghost use Rattle.metric_descriptions.specs.Written.{said_of, IsToldOf};
+ghost use Rattle.metric_descriptions.specs.Book.{IsBook, HasBook, text_of, text_in};
+
+use core::mem::replace;
+use evmap_contents::KeyClone;
+use evmap_core::{EvmapFault, Keep, KeepAll, Options, PlainHasher, ReadHandle, WriteHandle};
+use metrics_core::{Memory, SharedString, Unit};
+use std::alloc::Global;
+use std::marker::Model;
+use std::sync::Wait;
+
+/// A text with its unit, as the map of descriptions has it.
+type Text = (SharedString, Option<Unit>);
+
+type Writer = WriteHandle<String, Text, (), KeepAll, PlainHasher>;
+
+/// A reader of the published descriptions, which may move to another thread.
+pub type DescriptionReader = ReadHandle<String, Text, (), KeepAll, PlainHasher>;
+
+/// What is said of a metric name.
+pub struct Described<'a> {
+    pub text: &'a str,
+    pub unit: Option<Unit>,
+}
+
+/// What is said of metrics: a text and a unit for each metric name. A description waits until it is published, and a
+/// published one stays. It can't be let go: end it by `end`.
+pub struct Descriptions {
+    // It is made at the first description, or for the first reader.
+    writer: Option<Writer>,
+}
+
+impl Model for Descriptions {
+    ghost use Rattle.metric_descriptions.specs.Descriptions.{DescribedText};
+    ghost use Rattle.metric_descriptions.specs.Book.{HasBook, text_in};
+
+    ghost Value = { DescribedText };
+
+    ghost view = { λ d. text_in d.writer };
+
+    ghost invariant = { λ d. HasBook d.writer };
+}
+
+// Makes the map where there is none.
+fn make<R: Wait>(writer: &mut Option<Writer>, rt: &R, alloc: Global) -> Result<(), Memory>
+    ensures made { OnOk result (is_some writer.new ≡ true) }
+    ensures same { text_in writer.new ≡ text_in writer.old }
+    ensures kept { HasBook writer.old → HasBook writer.new }
+{
+    if writer.is_some() {
+        return Ok(());
+    }
+    match Options::default().construct(rt, alloc) {
+        Ok((made, _reader)) => {
+            if let Some(former) = replace(writer, Some(made)) {
+                former.end(rt);
+            }
+            Ok(())
+        }
+        Err(_) => Err(Memory),
+    }
+}
+
+// A text waits under a name, where nothing is published under it.
+fn put(writer: &mut Writer, name: String, text: Text) -> Result<(), Memory>
+    requires { IsBook writer.old }
+    ensures described { OnOk result (text_of writer.new ≡ describe (said_of (string_bytes name) text) (text_of writer.old)) }
+    ensures refused { OnErr result (text_of writer.new ≡ text_of writer.old) }
+    ensures kept { IsBook writer.new }
+{
+    if writer.contains_key(&name) {
+        return Ok(());
+    }
+    writer.update(name, text)
+}
+
+impl Descriptions {
+    ghost use Rattle.metric_descriptions.specs.Said.{said};
+
+    /// Nothing is described. It takes no memory.
+    pub fn new() -> Descriptions
+        ensures { result ≡ nothing_described }
+    {
+        Descriptions { writer: None }
+    }
+
+    /// Describes a metric by its name, as pages print it. Nothing changes where the name is published; otherwise the
+    /// description waits for `publish`, and of several that wait under one name the last counts.
+    pub fn describe<R: Wait>(
+        &mut self,
+        rt: &R,
+        alloc: Global,
+        name: String,
+        unit: Option<Unit>,
+        text: SharedString,
+    ) -> Result<(), Memory>
+        ensures described { OnOk result (self.new ≡ describe (record { name = string_bytes name; text = cow_text text; unit = unit }) self.old) }
+        ensures refused { OnErr result (self.new ≡ self.old) }
+    {
+        make(&mut self.writer, rt, alloc)?;
+        match &mut self.writer {
+            Some(writer) => put(writer, name, (text, unit)),
+            None => unreachable!(),
+        }
+    }
+
+    /// Readers see all descriptions so far. It costs what waits, and waits for the readers that still read the copy from
+    /// before the last publish. At `Err` nothing has changed.
+    pub fn publish<R: Wait>(&mut self, rt: &R) -> Result<(), Memory>
+        ensures published { OnOk result (self.new ≡ publish self.old) }
+        ensures refused { OnErr result (self.new ≡ self.old) }
+    {
+        match &mut self.writer {
+            Some(writer) => {
+                if writer.has_pending() {
+                    writer.publish(rt)
+                } else {
+                    Ok(())
+                }
+            }
+            None => Ok(()),
+        }
+    }
+
+    /// What is published of a metric name. It costs one look-up in a hash map.
+    pub fn of(&self, name: &String) -> Option<Described<'_>>
+        ensures { option_map said result ≡ option_map (λ d. (d.text, d.unit)) (description_of self.now.published (string_bytes name.now)) }
+    {
+        let writer = self.writer.as_ref()?;
+        let text = writer.get_one(name)?;
+        Some(Described {
+            text: text.0.as_str(),
+            unit: text.1,
+        })
+    }
+
+    /// A reader that was told of the last publish. `NoPlace` where no place is left for one.
+    pub fn reader<R: Wait>(
+        &mut self,
+        rt: &R,
+        alloc: Global,
+    ) -> Result<DescriptionReader, EvmapFault>
+        ensures same { self.new ≡ self.old }
+        ensures told { IfOk result (λ reader. IsToldOf (after ⟦<String as KeyClone>⟧.same ⟦<Text as PartialEq>⟧.eq ⟦<KeepAll as Keep<Text>>⟧.keeps) self.old.published (known reader)) }
+    {
+        make(&mut self.writer, rt, alloc)?;
+        match &mut self.writer {
+            Some(writer) => writer.told_reader(),
+            None => unreachable!(),
+        }
+    }
+
+    /// Ends the map. It waits for the readers that are reading, which read nothing from then on.
+    pub fn end<R: Wait>(self, rt: &R) {
+        let Self { writer } = self;
+        if let Some(writer) = writer {
+            writer.end(rt);
+        }
+    }
+}
