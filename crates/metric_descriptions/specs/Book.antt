@@ -1,6 +1,6 @@
 -- What a clause sees of a map of descriptions, which may not be made yet.
-use Rattle.std.specs.Prelude.{◌≡◌, ⊤, ℕ, List, All, Option, Some, None}
-use Rattle.std.specs.Prelude.{string_bytes}
+use Rattle.std.specs.Prelude.{◌≡◌, ⊤, ℕ, List, Option, Some, None, string_bytes}
+use Rattle.std.specs.List.{AllByRecursion}
 use Rattle.std.specs.declared.alloc.Global.{Global}
 use Rattle.std.specs.declared.sync.Arc.{Arc}
 use Rattle.std.specs.declared.string.String.{String}
@@ -27,9 +27,9 @@ module _ {P S H X : Type 0} {key : Key.Ghosts String (List ℕ)} {hash : Hash.Gh
   -- each write describes a metric, those that wait are of names of which nothing is published, and a reader is told of all that
   -- is published
   pub record IsBook (w : WriteHandle String Text Unit P S (List ℕ) H X key hash eq same hashes keep build hasher absorb) : Type 0 where
-    pub shown : All Describes (published string_bytes w)
-    pub waiting : All Describes (pending string_bytes w)
-    pub new_names : All (IsOfNewName (said_by (published string_bytes w))) (pending string_bytes w)
+    pub shown : AllByRecursion Describes (published string_bytes w)
+    pub waiting : AllByRecursion Describes (pending string_bytes w)
+    pub new_names : AllByRecursion (IsOfNewName (said_by (published string_bytes w))) (pending string_bytes w)
     pub told_all : told w ≡ published string_bytes w
 
   -- where no map is made nothing is described

@@ -25,6 +25,7 @@ type Writer = WriteHandle<String, Text, (), KeepAll, PlainHasher>;
 pub type DescriptionReader = ReadHandle<String, Text, (), KeepAll, PlainHasher>;
 
 /// What is said of a metric name.
+#[derive(Clone, Copy)]
 pub struct Described<'a> {
     pub text: &'a str,
     pub unit: Option<Unit>,
