@@ -1,11 +1,10 @@
 -- What each step leaves of a map of descriptions.
-use Rattle.std.proofs.Common.{◌≡◌, ℕ, Bool, true, false, cond, List, [], ◌∷◌, ◌++◌, map, fold, is_some, option_map, MatchResult, Result, Ok, Err, Option, Some, None, refl, sym, ap, ◌∙◌, subst, string_bytes, append-nil}
+use Rattle.std.proofs.Common.{◌≡◌, ℕ, Bool, true, false, cond, List, [], ◌∷◌, ◌++◌, map, fold, is_some, option_map, MatchResult, Result, Ok, Err, Option, Some, None, refl, sym, ap, ◌∙◌, subst, append-nil}
 use Rattle.std.specs.Bool.{⊤}
 use Rattle.std.specs.List.{AllByRecursion, AllZip}
-use Rattle.std.specs.Prelude.{OnOk, OnErr, bytes_eq}
+use Rattle.std.specs.Prelude.{String, string_bytes, bytes_eq}
 use Rattle.std.specs.declared.alloc.Global.{Global}
 use Rattle.std.specs.declared.sync.Arc.{Arc}
-use Rattle.std.specs.declared.string.String.{String}
 use Rattle.std.specs.declared.hash.Hash as Hash
 use Rattle.std.specs.declared.hash.BuildHasher as Build
 use Rattle.std.specs.declared.hash.Hasher as Hasher
@@ -27,24 +26,21 @@ use Rattle.evmap_core.specs.Handles.{published, pending, told, shown, front, mad
 use Rattle.metrics_core.specs.Texts.{cow_text}
 use Rattle.metrics_core.specs.declared.units.Unit.{Unit as UnitOf}
 use Rattle.metric_descriptions.specs.Descriptions.{Description, DescribedText, nothing_described, description_of, put_description, describe, publish}
-use Rattle.metric_descriptions.specs.Written.{Text, said_of, said_by, Describes, IsOfNewName, Says, IsToldOf}
+use Rattle.metric_descriptions.specs.Written.{Text, said_of, said_by, Describes, IsOfNewName, Leaves, IsToldOf}
 use Rattle.metric_descriptions.specs.Book.{text_of, text_in, IsBook, HasBook}
 use Rattle.metric_descriptions.proofs.Writing.{leaves, look, same-there, said-behind, said-one-more, all-append}
 use Rattle.metric_descriptions.proofs.Asking.{one-said, silent}
 
-module _ {P S H X : Type 0} {key : Key.Ghosts String (List ℕ)} {hash : Hash.Ghosts String} {eq : PartialEq.Ghosts String} {same : PartialEq.Ghosts Text} {hashes : Hash.Ghosts Text} {keep : Keep.Ghosts P Text} {build : Build.Ghosts S H} {hasher : Hasher.Ghosts H} {absorb : Absorb.Ghosts (Store String Text Unit P S (List ℕ) H) (Write String (Arc Text Global) (Arc Unit Global) P) X} where
-  abbrev W : Type 0
-  W = WriteHandle String Text Unit P S (List ℕ) H X key hash eq same hashes keep build hasher absorb
-
+module _ {P S H X : Type 0} {key : Key.Ghosts (String Global) (List ℕ)} {hash : Hash.Ghosts (String Global)} {eq : PartialEq.Ghosts (String Global)} {same : PartialEq.Ghosts Text} {hashes : Hash.Ghosts Text} {keep : Keep.Ghosts P Text} {build : Build.Ghosts S H} {hasher : Hasher.Ghosts H} {absorb : Absorb.Ghosts (Store (String Global) Text Unit P S (List ℕ) H) (Write (String Global) (Arc Text Global) (Arc Unit Global) P) X} where
   -- ---- a new map
 
-  text-by : (w : W) (shown waiting : List (Write (List ℕ) Text Unit P)) → published string_bytes w ≡ shown → pending string_bytes w ≡ waiting → text_of w ≡ record { published = said_by shown; pending = said_by waiting }
+  text-by : (w : WriteHandle (String Global) Text Unit P S (List ℕ) H X key hash eq same hashes keep build hasher absorb) (shown waiting : List (Write (List ℕ) Text Unit P)) → published string_bytes w ≡ shown → pending string_bytes w ≡ waiting → text_of w ≡ record { published = said_by shown; pending = said_by waiting }
   text-by w shown waiting is waits = λ j. record { published = said_by (is j); pending = said_by (waits j) }
 
-  pub new-text : (w : W) (m : Unit {0}) (n : ℕ) → IsNew string_bytes w m n → text_of w ≡ nothing_described
+  pub new-text : (w : WriteHandle (String Global) Text Unit P S (List ℕ) H X key hash eq same hashes keep build hasher absorb) (m : Unit {0}) (n : ℕ) → IsNew string_bytes w m n → text_of w ≡ nothing_described
   new-text w m n h = text-by w _ _ h.0 h.1
 
-  pub new-book : (w : W) (m : Unit {0}) (n : ℕ) → IsNew string_bytes w m n → IsBook w
+  pub new-book : (w : WriteHandle (String Global) Text Unit P S (List ℕ) H X key hash eq same hashes keep build hasher absorb) (m : Unit {0}) (n : ℕ) → IsNew string_bytes w m n → IsBook w
   new-book w m n h = record {
     shown = subst (AllByRecursion Describes) (sym h.0) tt;
     waiting = subst (AllByRecursion Describes) (sym h.1) (tt, tt);
@@ -52,16 +48,16 @@ module _ {P S H X : Type 0} {key : Key.Ghosts String (List ℕ)} {hash : Hash.Gh
     told_all = h.3 ∙ sym h.0;
   }
 
-  pub no-text : (o : Option W) → is_some o ≡ false → text_in o ≡ nothing_described
+  pub no-text : (o : Option (WriteHandle (String Global) Text Unit P S (List ℕ) H X key hash eq same hashes keep build hasher absorb)) → is_some o ≡ false → text_in o ≡ nothing_described
   no-text None h = refl
   no-text (Some w) h = cc
 
   -- ---- a step that changes nothing
 
-  pub stays-text : (before after : W) → Stays before after → text_of after ≡ text_of before
+  pub stays-text : (before after : WriteHandle (String Global) Text Unit P S (List ℕ) H X key hash eq same hashes keep build hasher absorb) → Stays before after → text_of after ≡ text_of before
   stays-text before after h = text-by after _ _ (ap (writes_of string_bytes) h.0) (ap (map (write_of string_bytes)) h.1)
 
-  book-by : (before after : W) → published string_bytes after ≡ published string_bytes before → pending string_bytes after ≡ pending string_bytes before → told after ≡ told before → IsBook before → IsBook after
+  book-by : (before after : WriteHandle (String Global) Text Unit P S (List ℕ) H X key hash eq same hashes keep build hasher absorb) → published string_bytes after ≡ published string_bytes before → pending string_bytes after ≡ pending string_bytes before → told after ≡ told before → IsBook before → IsBook after
   book-by before after is waits tells book = record {
     shown = subst (AllByRecursion Describes) (sym is) book.shown;
     waiting = subst (AllByRecursion Describes) (sym waits) book.waiting;
@@ -71,39 +67,39 @@ module _ {P S H X : Type 0} {key : Key.Ghosts String (List ℕ)} {hash : Hash.Gh
     told_all = tells ∙ book.told_all ∙ sym is;
   }
 
-  pub stays-book : (before after : W) → Stays before after → IsBook before → IsBook after
+  pub stays-book : (before after : WriteHandle (String Global) Text Unit P S (List ℕ) H X key hash eq same hashes keep build hasher absorb) → Stays before after → IsBook before → IsBook after
   stays-book before after h book = book-by before after (ap (writes_of string_bytes) h.0) (ap (map (write_of string_bytes)) h.1) h.2 book
 
   -- ---- asking
 
-  pub known-name : (step-eq : Text → Text → Bool) (keeps : P → Text → Bool) (w : W) (name : List ℕ) → IsBook w
+  pub known-name : (step-eq : Text → Text → Bool) (keeps : P → Text → Bool) (w : WriteHandle (String Global) Text Unit P S (List ℕ) H X key hash eq same hashes keep build hasher absorb) (name : List ℕ) → IsBook w
       → is_some (bag_under bytes_eq name (front string_bytes (after bytes_eq step-eq keeps) w)) ≡ is_some (description_of (text_of w).published name)
   known-name step-eq keeps w name book = same-there _ _ (look name _ _ (leaves step-eq keeps (made w) (published string_bytes w) book.shown))
 
-  pub answered : (step-eq : Text → Text → Bool) (keeps : P → Text → Bool) (w : W) (name : List ℕ) (answer : Option Text) → IsBook w
+  pub answered : (step-eq : Text → Text → Bool) (keeps : P → Text → Bool) (w : WriteHandle (String Global) Text Unit P S (List ℕ) H X key hash eq same hashes keep build hasher absorb) (name : List ℕ) (answer : Option Text) → IsBook w
       → IsOneOf (bag_under bytes_eq name (front string_bytes (after bytes_eq step-eq keeps) w)) answer
       → option_map {U = List ℕ × Option UnitOf} (λ (t : Text). (cow_text t.0, t.1)) answer ≡ option_map (λ (d : Description). (d.text, d.unit)) (description_of (text_of w).published name)
   answered step-eq keeps w name answer book one = one-said _ _ answer one (look name _ _ (leaves step-eq keeps (made w) (published string_bytes w) book.shown))
 
-  pub told-reader : (step-eq : Text → Text → Bool) (keeps : P → Text → Bool) (w : W) (k : Option (KnownFronts (List ℕ) Text Unit P)) → IsBook w → k ≡ Some (informed newcomer (writer_knows w))
+  pub told-reader : (step-eq : Text → Text → Bool) (keeps : P → Text → Bool) (w : WriteHandle (String Global) Text Unit P S (List ℕ) H X key hash eq same hashes keep build hasher absorb) (k : Option (KnownFronts (List ℕ) Text Unit P)) → IsBook w → k ≡ Some (informed newcomer (writer_knows w))
       → IsToldOf (after bytes_eq step-eq keeps) (text_of w).published k
   told-reader step-eq keeps w k book is =
       subst (IsToldOf (after bytes_eq step-eq keeps) (text_of w).published) (sym is)
-      (refl, subst (λ ws. AllZip Says (fold (after bytes_eq step-eq keeps) _ ws).entries (text_of w).published) (sym book.told_all) (leaves step-eq keeps tt (published string_bytes w) book.shown))
+      (refl, subst (λ ws. Leaves (after bytes_eq step-eq keeps) ws (text_of w).published) (sym book.told_all) (leaves step-eq keeps tt (published string_bytes w) book.shown))
 
   -- ---- describing
 
-  pub said-already : (w : W) (d : Description) → is_some (description_of (text_of w).published d.name) ≡ true → text_of w ≡ describe d (text_of w)
+  pub said-already : (w : WriteHandle (String Global) Text Unit P S (List ℕ) H X key hash eq same hashes keep build hasher absorb) (d : Description) → is_some (description_of (text_of w).published d.name) ≡ true → text_of w ≡ describe d (text_of w)
   said-already w d there = sym (ap (λ b. cond b (text_of w) (record (text_of w) { pending = put_description (text_of w).pending d })) there)
 
-  waits-text : (before after : W) (name : List ℕ) (text : Text) → is_some (description_of (text_of before).published name) ≡ false
+  waits-text : (before after : WriteHandle (String Global) Text Unit P S (List ℕ) H X key hash eq same hashes keep build hasher absorb) (name : List ℕ) (text : Text) → is_some (description_of (text_of before).published name) ≡ false
       → published string_bytes after ≡ published string_bytes before → pending string_bytes after ≡ pending string_bytes before ++ Update name text ∷ [] → text_of after ≡ describe (said_of name text) (text_of before)
   waits-text before after name text new is waits =
       text-by after _ _ is waits
       ∙ (λ j. record { published = said_by (published string_bytes before); pending = said-one-more (pending string_bytes before) (Update name text) j })
       ∙ sym (ap (λ b. cond b (text_of before) (record (text_of before) { pending = put_description (text_of before).pending (said_of name text) })) new)
 
-  waits-book : (before after : W) (name : List ℕ) (text : Text) → is_some (description_of (text_of before).published name) ≡ false
+  waits-book : (before after : WriteHandle (String Global) Text Unit P S (List ℕ) H X key hash eq same hashes keep build hasher absorb) (name : List ℕ) (text : Text) → is_some (description_of (text_of before).published name) ≡ false
       → published string_bytes after ≡ published string_bytes before → pending string_bytes after ≡ pending string_bytes before ++ Update name text ∷ [] → told after ≡ told before → IsBook before → IsBook after
   waits-book before after name text new is waits tells book = record {
     shown = subst (AllByRecursion Describes) (sym is) book.shown;
@@ -115,24 +111,24 @@ module _ {P S H X : Type 0} {key : Key.Ghosts String (List ℕ)} {hash : Hash.Gh
     told_all = tells ∙ book.told_all ∙ sym is;
   }
 
-  pub adds-text : {E : Type 0} (r : Result Unit E) (before after : W) (name : List ℕ) (text : Text) → is_some (description_of (text_of before).published name) ≡ false → Adds string_bytes r before after (Update name text)
+  pub adds-text : {E : Type 0} (r : Result Unit E) (before after : WriteHandle (String Global) Text Unit P S (List ℕ) H X key hash eq same hashes keep build hasher absorb) (name : List ℕ) (text : Text) → is_some (description_of (text_of before).published name) ≡ false → Adds string_bytes r before after (Update name text)
       → MatchResult r (λ _. text_of after ≡ describe (said_of name text) (text_of before)) (λ _. text_of after ≡ text_of before)
   adds-text (Ok _) before after name text new h = waits-text before after name text new (ap (writes_of string_bytes) h.0) h.2
   adds-text (Err _) before after name text new h = text-by after _ _ (ap (writes_of string_bytes) h.0) h.2
 
-  pub adds-book : {E : Type 0} (r : Result Unit E) (before after : W) (name : List ℕ) (text : Text) → is_some (description_of (text_of before).published name) ≡ false → Adds string_bytes r before after (Update name text) → IsBook before
+  pub adds-book : {E : Type 0} (r : Result Unit E) (before after : WriteHandle (String Global) Text Unit P S (List ℕ) H X key hash eq same hashes keep build hasher absorb) (name : List ℕ) (text : Text) → is_some (description_of (text_of before).published name) ≡ false → Adds string_bytes r before after (Update name text) → IsBook before
       → IsBook after
   adds-book (Ok _) before after name text new h book = waits-book before after name text new (ap (writes_of string_bytes) h.0) h.2 h.1 book
   adds-book (Err _) before after name text new h book = book-by before after (ap (writes_of string_bytes) h.0) h.2 h.1 book
 
   -- ---- publishing
 
-  pub publish-text : (before after : W) → IsBook before → Publishes string_bytes before after [] → text_of after ≡ publish (text_of before)
+  pub publish-text : (before after : WriteHandle (String Global) Text Unit P S (List ℕ) H X key hash eq same hashes keep build hasher absorb) → IsBook before → Publishes string_bytes before after [] → text_of after ≡ publish (text_of before)
   publish-text before after book h =
       text-by after _ _ h.0 h.1
       ∙ (λ j. record { published = said-behind (published string_bytes before) (pending string_bytes before) book.new_names j; pending = [] })
 
-  pub publish-book : (before after : W) → IsBook before → Publishes string_bytes before after [] → IsBook after
+  pub publish-book : (before after : WriteHandle (String Global) Text Unit P S (List ℕ) H X key hash eq same hashes keep build hasher absorb) → IsBook before → Publishes string_bytes before after [] → IsBook after
   publish-book before after book h = record {
     shown = subst (AllByRecursion Describes) (sym h.0) (all-append Describes (published string_bytes before) (pending string_bytes before) book.shown book.waiting);
     waiting = subst (AllByRecursion Describes) (sym h.1) tt;
@@ -140,7 +136,7 @@ module _ {P S H X : Type 0} {key : Key.Ghosts String (List ℕ)} {hash : Hash.Gh
     told_all = h.3;
   }
 
-  pub nothing-waits : (w : W) → IsBook w → has_write (pending string_bytes w) ≡ false → text_of w ≡ publish (text_of w)
+  pub nothing-waits : (w : WriteHandle (String Global) Text Unit P S (List ℕ) H X key hash eq same hashes keep build hasher absorb) → IsBook w → has_write (pending string_bytes w) ≡ false → text_of w ≡ publish (text_of w)
   nothing-waits w book none =
       (λ j. record { published = sym (append-nil (said_by (published string_bytes w))) j; pending = said_by (pending string_bytes w) })
       ∙ (λ j. record { published = said_by (published string_bytes w) ++ sym (silent (pending string_bytes w) book.waiting none []) j; pending = silent (pending string_bytes w) book.waiting none [] j })

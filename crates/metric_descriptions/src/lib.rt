@@ -6,6 +6,7 @@
 //!     descriptions.describe(rt, alloc, name, Some(Unit::Bytes), SharedString::const_str("bytes that came in"))?;
 //!     descriptions.publish(rt)?;
 //!     let said = descriptions.of(&name);
+//!     descriptions.end(rt);
 #![tactic(auto)]
 
 mod descriptions;
