@@ -12,7 +12,7 @@ use Rattle.evmap_contents.specs.declared.write.Write.TheVariants.{Insert, Update
 use Rattle.evmap_core.specs.Asked.{IsOneOf}
 use Rattle.evmap_core.specs.Front.{has_write}
 use Rattle.metric_descriptions.specs.Descriptions.{Description}
-use Rattle.metric_descriptions.specs.Written.{Text, with_write, Describes}
+use Rattle.metric_descriptions.specs.Written.{Text, stored, written, with_write, Describes}
 use Rattle.metric_descriptions.proofs.Writing.{SaysThat}
 
 alone : (text v : Text) → Contains (text ∷ []) v → text ≡ v
@@ -20,8 +20,8 @@ alone text v h = ⊎_elim (λ (none : Contains [] v). absurd (omega (arith, none
 
 -- one of the values of a bag that says what a description says
 pub one-said : (o : Option (BagForm Text)) (p : Option Description) (answer : Option Text) → IsOneOf o answer → SaysThat o p
-    → option_map {U = List ℕ × Option UnitOf} (λ (t : Text). (cow_text t.0, t.1)) answer ≡ option_map (λ (d : Description). (d.text, d.unit)) p
-one-said None None answer one h = ap (option_map {U = List ℕ × Option UnitOf} (λ (t : Text). (cow_text t.0, t.1))) one
+    → option_map stored answer ≡ option_map written p
+one-said None None answer one h = ap (option_map stored) one
 one-said (Some bag) (Some d) None one h = absurd (omega (arith, ap bag_len h.1, one))
 one-said (Some bag) (Some d) (Some v) one h =
     let e : h.0 ≡ v = alone h.0 v (subst (λ b. Contains (values_of b) v) h.1 one) in

@@ -2,7 +2,7 @@
 use Rattle.std.proofs.Common.{◌≡◌, ℕ, Bool, true, false, cond, List, [], ◌∷◌, ◌++◌, map, fold, is_some, option_map, MatchResult, Result, Ok, Err, Option, Some, None, refl, sym, ap, ◌∙◌, subst, append-nil}
 use Rattle.std.specs.Bool.{⊤}
 use Rattle.std.specs.List.{AllByRecursion, AllZip}
-use Rattle.std.specs.Prelude.{String, string_bytes, bytes_eq}
+use Rattle.std.specs.Prelude.{String, string_bytes, bytes_eq, IfOk, OnOk}
 use Rattle.std.specs.declared.alloc.Global.{Global}
 use Rattle.std.specs.declared.sync.Arc.{Arc}
 use Rattle.std.specs.declared.hash.Hash as Hash
@@ -26,7 +26,7 @@ use Rattle.evmap_core.specs.Handles.{published, pending, told, shown, front, mad
 use Rattle.metrics_core.specs.Texts.{cow_text}
 use Rattle.metrics_core.specs.declared.units.Unit.{Unit as UnitOf}
 use Rattle.metric_descriptions.specs.Descriptions.{Description, DescribedText, nothing_described, description_of, put_description, describe, publish}
-use Rattle.metric_descriptions.specs.Written.{Text, said_of, said_by, Describes, IsOfNewName, Leaves, IsToldOf}
+use Rattle.metric_descriptions.specs.Written.{Text, stored, written, said_of, said_by, Describes, IsOfNewName, Leaves, IsToldOf}
 use Rattle.metric_descriptions.specs.Book.{text_of, text_in, IsBook, HasBook}
 use Rattle.metric_descriptions.proofs.Writing.{leaves, look, same-there, said-behind, said-one-more, all-append}
 use Rattle.metric_descriptions.proofs.Asking.{one-said, silent}
@@ -72,20 +72,30 @@ module _ {P S H X : Type 0} {key : Key.Ghosts (String Global) (List ℕ)} {hash 
 
   -- ---- asking
 
-  pub known-name : (step-eq : Text → Text → Bool) (keeps : P → Text → Bool) (w : WriteHandle (String Global) Text Unit P S (List ℕ) H X key hash eq same hashes keep build hasher absorb) (name : List ℕ) → IsBook w
+  known-name : (step-eq : Text → Text → Bool) (keeps : P → Text → Bool) (w : WriteHandle (String Global) Text Unit P S (List ℕ) H X key hash eq same hashes keep build hasher absorb) (name : List ℕ) → IsBook w
       → is_some (bag_under bytes_eq name (front string_bytes (after bytes_eq step-eq keeps) w)) ≡ is_some (description_of (text_of w).published name)
   known-name step-eq keeps w name book = same-there _ _ (look name _ _ (leaves step-eq keeps (made w) (published string_bytes w) book.shown))
 
+  -- a test of whether the name is published, by what it says of the map and how it came out
+  pub known-there : (step-eq : Text → Text → Bool) (keeps : P → Text → Bool) (w : WriteHandle (String Global) Text Unit P S (List ℕ) H X key hash eq same hashes keep build hasher absorb) (name : List ℕ) (r b : Bool) → IsBook w
+      → r ≡ is_some (bag_under bytes_eq name (front string_bytes (after bytes_eq step-eq keeps) w)) → r ≡ b → is_some (description_of (text_of w).published name) ≡ b
+  known-there step-eq keeps w name r b book is out = sym (known-name step-eq keeps w name book) ∙ sym is ∙ out
+
   pub answered : (step-eq : Text → Text → Bool) (keeps : P → Text → Bool) (w : WriteHandle (String Global) Text Unit P S (List ℕ) H X key hash eq same hashes keep build hasher absorb) (name : List ℕ) (answer : Option Text) → IsBook w
       → IsOneOf (bag_under bytes_eq name (front string_bytes (after bytes_eq step-eq keeps) w)) answer
-      → option_map {U = List ℕ × Option UnitOf} (λ (t : Text). (cow_text t.0, t.1)) answer ≡ option_map (λ (d : Description). (d.text, d.unit)) (description_of (text_of w).published name)
+      → option_map stored answer ≡ option_map written (description_of (text_of w).published name)
   answered step-eq keeps w name answer book one = one-said _ _ answer one (look name _ _ (leaves step-eq keeps (made w) (published string_bytes w) book.shown))
 
-  pub told-reader : (step-eq : Text → Text → Bool) (keeps : P → Text → Bool) (w : WriteHandle (String Global) Text Unit P S (List ℕ) H X key hash eq same hashes keep build hasher absorb) (k : Option (KnownFronts (List ℕ) Text Unit P)) → IsBook w → k ≡ Some (informed newcomer (writer_knows w))
+  told-reader : (step-eq : Text → Text → Bool) (keeps : P → Text → Bool) (w : WriteHandle (String Global) Text Unit P S (List ℕ) H X key hash eq same hashes keep build hasher absorb) (k : Option (KnownFronts (List ℕ) Text Unit P)) → IsBook w → k ≡ Some (informed newcomer (writer_knows w))
       → IsToldOf (after bytes_eq step-eq keeps) (text_of w).published k
   told-reader step-eq keeps w k book is =
       subst (IsToldOf (after bytes_eq step-eq keeps) (text_of w).published) (sym is)
       (refl, subst (λ ws. Leaves (after bytes_eq step-eq keeps) ws (text_of w).published) (sym book.told_all) (leaves step-eq keeps tt (published string_bytes w) book.shown))
+
+  pub told-result : (step-eq : Text → Text → Bool) (keeps : P → Text → Bool) (w : WriteHandle (String Global) Text Unit P S (List ℕ) H X key hash eq same hashes keep build hasher absorb) {R E : Type 0} (r : Result R E) (k : R → Option (KnownFronts (List ℕ) Text Unit P)) → IsBook w
+      → IfOk r (λ h. k h ≡ Some (informed newcomer (writer_knows w))) → IfOk r (λ h. IsToldOf (after bytes_eq step-eq keeps) (text_of w).published (k h))
+  told-result step-eq keeps w (Ok h) k book is = told-reader step-eq keeps w (k h) book is
+  told-result step-eq keeps w (Err _) k book is = tt
 
   -- ---- describing
 
@@ -112,9 +122,9 @@ module _ {P S H X : Type 0} {key : Key.Ghosts (String Global) (List ℕ)} {hash 
   }
 
   pub adds-text : {E : Type 0} (r : Result Unit E) (before after : WriteHandle (String Global) Text Unit P S (List ℕ) H X key hash eq same hashes keep build hasher absorb) (name : List ℕ) (text : Text) → is_some (description_of (text_of before).published name) ≡ false → Adds string_bytes r before after (Update name text)
-      → MatchResult r (λ _. text_of after ≡ describe (said_of name text) (text_of before)) (λ _. text_of after ≡ text_of before)
+      → OnOk r (text_of after ≡ describe (said_of name text) (text_of before))
   adds-text (Ok _) before after name text new h = waits-text before after name text new (ap (writes_of string_bytes) h.0) h.2
-  adds-text (Err _) before after name text new h = text-by after _ _ (ap (writes_of string_bytes) h.0) h.2
+  adds-text (Err _) before after name text new h = tt
 
   pub adds-book : {E : Type 0} (r : Result Unit E) (before after : WriteHandle (String Global) Text Unit P S (List ℕ) H X key hash eq same hashes keep build hasher absorb) (name : List ℕ) (text : Text) → is_some (description_of (text_of before).published name) ≡ false → Adds string_bytes r before after (Update name text) → IsBook before
       → IsBook after
@@ -123,18 +133,26 @@ module _ {P S H X : Type 0} {key : Key.Ghosts (String Global) (List ℕ)} {hash 
 
   -- ---- publishing
 
-  pub publish-text : (before after : WriteHandle (String Global) Text Unit P S (List ℕ) H X key hash eq same hashes keep build hasher absorb) → IsBook before → Publishes string_bytes before after [] → text_of after ≡ publish (text_of before)
+  publish-text : (before after : WriteHandle (String Global) Text Unit P S (List ℕ) H X key hash eq same hashes keep build hasher absorb) → IsBook before → Publishes string_bytes before after [] → text_of after ≡ publish (text_of before)
   publish-text before after book h =
       text-by after _ _ h.0 h.1
       ∙ (λ j. record { published = said-behind (published string_bytes before) (pending string_bytes before) book.new_names j; pending = [] })
 
-  pub publish-book : (before after : WriteHandle (String Global) Text Unit P S (List ℕ) H X key hash eq same hashes keep build hasher absorb) → IsBook before → Publishes string_bytes before after [] → IsBook after
+  publish-book : (before after : WriteHandle (String Global) Text Unit P S (List ℕ) H X key hash eq same hashes keep build hasher absorb) → IsBook before → Publishes string_bytes before after [] → IsBook after
   publish-book before after book h = record {
     shown = subst (AllByRecursion Describes) (sym h.0) (all-append Describes (published string_bytes before) (pending string_bytes before) book.shown book.waiting);
     waiting = subst (AllByRecursion Describes) (sym h.1) tt;
     new_names = subst (λ ws. AllByRecursion (IsOfNewName (said_by (published string_bytes after))) ws) (sym h.1) tt;
     told_all = h.3;
   }
+
+  pub publishes-text : {E : Type 0} (r : Result Unit E) (before after : WriteHandle (String Global) Text Unit P S (List ℕ) H X key hash eq same hashes keep build hasher absorb) → IsBook before → MatchResult r (λ _. Publishes string_bytes before after []) (λ _. Stays before after) → OnOk r (text_of after ≡ publish (text_of before))
+  publishes-text (Ok _) before after book h = publish-text before after book h
+  publishes-text (Err _) before after book h = tt
+
+  pub publishes-book : {E : Type 0} (r : Result Unit E) (before after : WriteHandle (String Global) Text Unit P S (List ℕ) H X key hash eq same hashes keep build hasher absorb) → IsBook before → MatchResult r (λ _. Publishes string_bytes before after []) (λ _. Stays before after) → IsBook after
+  publishes-book (Ok _) before after book h = publish-book before after book h
+  publishes-book (Err _) before after book h = stays-book before after h book
 
   pub nothing-waits : (w : WriteHandle (String Global) Text Unit P S (List ℕ) H X key hash eq same hashes keep build hasher absorb) → IsBook w → has_write (pending string_bytes w) ≡ false → text_of w ≡ publish (text_of w)
   nothing-waits w book none =

@@ -17,6 +17,14 @@ use Rattle.metric_descriptions.specs.Descriptions.{Description, description_of, 
 abbrev pub Text : Type 0
 Text = CowStr × Option UnitOf
 
+-- the text and the unit of a stored text
+abbrev pub stored : Text → List ℕ × Option UnitOf
+stored text = (cow_text text.0, text.1)
+
+-- the text and the unit of a description
+abbrev pub written : Description → List ℕ × Option UnitOf
+written d = (d.text, d.unit)
+
 -- what a stored text says of a name
 abbrev pub said_of : List ℕ → Text → Description
 said_of name text = record { name = name; text = cow_text text.0; unit = text.1 }

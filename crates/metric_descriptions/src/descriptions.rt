@@ -1,19 +1,21 @@
 //! The descriptions of metrics, and their readers.
 
 ghost use Rattle.std.specs.Prelude.{◌≡◌, true, is_some, string_bytes, option_map, IfOk, OnOk, OnErr};
+ghost use Rattle.std.specs.Option.{option_copied};
 ghost use Rattle.evmap_contents.specs.Fold.{after};
 ghost use Rattle.evmap_core.specs.Known.{known};
 ghost use Rattle.metrics_core.specs.Texts.{cow_text};
 ghost use Rattle.metric_descriptions.specs.Descriptions.{nothing_described, describe, publish, description_of};
-ghost use Rattle.metric_descriptions.specs.Written.{said_of, IsToldOf};
+ghost use Rattle.metric_descriptions.specs.Said.{said};
+ghost use Rattle.metric_descriptions.specs.Written.{said_of, stored, written, IsToldOf};
 ghost use Rattle.metric_descriptions.specs.Book.{IsBook, HasBook, text_of, text_in};
 
-use core::mem::replace;
 use evmap_contents::KeyClone;
 use evmap_core::{EvmapFault, Keep, KeepAll, Options, PlainHasher, ReadHandle, WriteHandle};
 use metrics_core::{Memory, SharedString, Unit};
 use std::alloc::Global;
 use std::marker::Model;
+use std::mem::replace;
 use std::sync::Wait;
 
 /// A text with its unit, as the map of descriptions has it.
@@ -72,7 +74,7 @@ fn make<R: Wait>(writer: &mut Option<Writer>, rt: &R, alloc: Global) -> Result<(
 // A text waits under a name, where nothing is published under it.
 fn put(writer: &mut Writer, name: String, text: Text) -> Result<(), Memory>
     requires { IsBook writer.old }
-    ensures described { OnOk result (text_of writer.new ≡ describe (said_of (string_bytes name) text) (text_of writer.old)) }
+    ensures described { OnOk result (text_of writer.new ≡ describe (said_of (string_bytes name) text.entry) (text_of writer.old)) }
     ensures refused { OnErr result (text_of writer.new ≡ text_of writer.old) }
     ensures kept { IsBook writer.new }
 {
@@ -82,9 +84,48 @@ fn put(writer: &mut Writer, name: String, text: Text) -> Result<(), Memory>
     writer.update(name, text)
 }
 
-impl Descriptions {
-    ghost use Rattle.metric_descriptions.specs.Said.{said};
+// Readers see what waits. Where nothing waits it does nothing.
+fn show<R: Wait>(writer: &mut Writer, rt: &R) -> Result<(), Memory>
+    requires { IsBook writer.old }
+    ensures published { OnOk result (text_of writer.new ≡ publish (text_of writer.old)) }
+    ensures refused { OnErr result (text_of writer.new ≡ text_of writer.old) }
+    ensures kept { IsBook writer.new }
+{
+    if !writer.has_pending() {
+        return Ok(());
+    }
+    writer.publish(rt)
+}
 
+// What is published under a name.
+fn find<'a>(writer: &'a Writer, name: &String) -> Option<&'a Text>
+    requires { IsBook writer.now }
+    ensures { option_map stored (option_copied result) ≡ option_map written (description_of (text_of writer.now).published (string_bytes name.now)) }
+{
+    writer.get_one(name)
+}
+
+// A stored text, as it is lent.
+fn lend(text: &Text) -> Described<'_>
+    ensures { said result ≡ stored text.now }
+{
+    Described {
+        text: text.0.as_str(),
+        unit: text.1,
+    }
+}
+
+// A reader that is told what was last published.
+fn tell(writer: &mut Writer) -> Result<DescriptionReader, EvmapFault>
+    requires { IsBook writer.old }
+    ensures same { text_of writer.new ≡ text_of writer.old }
+    ensures kept { IsBook writer.new }
+    ensures told { IfOk result (λ reader. IsToldOf (after ⟦<String as KeyClone>⟧.same ⟦<Text as PartialEq>⟧.eq ⟦<KeepAll as Keep<Text>>⟧.keeps) (text_of writer.old).published (known reader)) }
+{
+    writer.told_reader()
+}
+
+impl Descriptions {
     /// Nothing is described. It takes no memory.
     pub fn new() -> Descriptions
         ensures { result ≡ nothing_described }
@@ -102,7 +143,7 @@ impl Descriptions {
         unit: Option<Unit>,
         text: SharedString,
     ) -> Result<(), Memory>
-        ensures described { OnOk result (self.new ≡ describe (record { name = string_bytes name; text = cow_text text; unit = unit }) self.old) }
+        ensures described { OnOk result (self.new ≡ describe (record { name = string_bytes name; text = cow_text text.entry; unit = unit }) self.old) }
         ensures refused { OnErr result (self.new ≡ self.old) }
     {
         make(&mut self.writer, rt, alloc)?;
@@ -119,27 +160,22 @@ impl Descriptions {
         ensures refused { OnErr result (self.new ≡ self.old) }
     {
         match &mut self.writer {
-            Some(writer) => {
-                if writer.has_pending() {
-                    writer.publish(rt)
-                } else {
-                    Ok(())
-                }
-            }
+            Some(writer) => show(writer, rt),
             None => Ok(()),
         }
     }
 
     /// What is published of a metric name. It costs one look-up in a hash map.
     pub fn of(&self, name: &String) -> Option<Described<'_>>
-        ensures { option_map said result ≡ option_map (λ d. (d.text, d.unit)) (description_of self.now.published (string_bytes name.now)) }
+        ensures { option_map said result ≡ option_map written (description_of self.now.published (string_bytes name.now)) }
     {
-        let writer = self.writer.as_ref()?;
-        let text = writer.get_one(name)?;
-        Some(Described {
-            text: text.0.as_str(),
-            unit: text.1,
-        })
+        match &self.writer {
+            Some(writer) => match find(writer, name) {
+                Some(text) => Some(lend(text)),
+                None => None,
+            },
+            None => None,
+        }
     }
 
     /// A reader that was told of the last publish. `NoPlace` where no place is left for one.
@@ -153,7 +189,7 @@ impl Descriptions {
     {
         make(&mut self.writer, rt, alloc)?;
         match &mut self.writer {
-            Some(writer) => writer.told_reader(),
+            Some(writer) => tell(writer),
             None => unreachable!(),
         }
     }
