@@ -1,11 +1,9 @@
 -- What is answered of a name, and what is said where no write waits.
-use Rattle.std.proofs.Common.{◌≡◌, ℕ, ◌<◌, Bool, true, false, List, [], ◌∷◌, ◌++◌, fold, option_map, Option, Some, None, refl, sym, ap, ◌∙◌, subst, ⊎_elim, arith}
+use Rattle.std.proofs.Common.{◌≡◌, ℕ, false, List, [], ◌∷◌, fold, option_map, Option, Some, None, refl, sym, ap, ◌∙◌, subst, ⊎_elim, arith}
 use Rattle.std.specs.List.{AllByRecursion, Contains}
 use Rattle.std.proofs.lemmas.List.Elements.{Contains-push_cases}
-use Rattle.metrics_core.specs.declared.units.Unit.{Unit as UnitOf}
 use Rattle.metrics_core.specs.Texts.{cow_text}
 use Rattle.value_bags.specs.declared.bag.BagForm.{BagForm}
-use Rattle.value_bags.specs.declared.bag.BagForm.TheVariants.{Short}
 use Rattle.value_bags.specs.Bags.{bag_len, values_of}
 use Rattle.evmap_contents.specs.declared.write.Write.{Write}
 use Rattle.evmap_contents.specs.declared.write.Write.TheVariants.{Insert, Update, Clear, RemoveValue, RemoveEntry, Purge, Retain, Fit, FitAll, Reserve, RemovePlaces, SetMeta, Ready}

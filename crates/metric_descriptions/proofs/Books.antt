@@ -1,7 +1,6 @@
 -- What each step leaves of a map of descriptions.
-use Rattle.std.proofs.Common.{◌≡◌, ℕ, Bool, true, false, cond, List, [], ◌∷◌, ◌++◌, map, fold, is_some, option_map, MatchResult, Result, Ok, Err, Option, Some, None, refl, sym, ap, ◌∙◌, subst, append-nil}
-use Rattle.std.specs.Bool.{⊤}
-use Rattle.std.specs.List.{AllByRecursion, AllZip}
+use Rattle.std.proofs.Common.{◌≡◌, ℕ, Bool, true, false, cond, List, [], ◌∷◌, ◌++◌, map, is_some, option_map, MatchResult, Result, Ok, Err, Option, Some, refl, sym, ap, ◌∙◌, subst, append-nil}
+use Rattle.std.specs.List.{AllByRecursion}
 use Rattle.std.specs.Prelude.{String, string_bytes, bytes_eq, IfOk, OnOk}
 use Rattle.std.specs.declared.alloc.Global.{Global}
 use Rattle.std.specs.declared.sync.Arc.{Arc}
@@ -22,40 +21,18 @@ use Rattle.evmap_core.specs.declared.writer.WriteHandle.{WriteHandle}
 use Rattle.evmap_core.specs.Asked.{IsOneOf, bag_under}
 use Rattle.evmap_core.specs.Front.{newcomer, informed, has_write}
 use Rattle.evmap_core.specs.Stored.{writes_of}
-use Rattle.evmap_core.specs.Handles.{published, pending, told, shown, front, made, writer_knows, IsNew, Adds, Publishes, Stays}
-use Rattle.metrics_core.specs.Texts.{cow_text}
-use Rattle.metrics_core.specs.declared.units.Unit.{Unit as UnitOf}
-use Rattle.metric_descriptions.specs.Descriptions.{Description, DescribedText, nothing_described, description_of, put_description, describe, publish}
+use Rattle.evmap_core.specs.Handles.{published, pending, told, shown, front, made, writer_knows, Adds, Publishes, Stays}
+use Rattle.metric_descriptions.specs.Descriptions.{Description, description_of, put_description, describe, publish}
 use Rattle.metric_descriptions.specs.Written.{Text, stored, written, said_of, said_by, Describes, IsOfNewName, Leaves, IsToldOf}
-use Rattle.metric_descriptions.specs.Book.{text_of, text_in, IsBook, HasBook}
+use Rattle.metric_descriptions.specs.Book.{text_of, IsBook}
 use Rattle.metric_descriptions.proofs.Writing.{leaves, look, same-there, said-behind, said-one-more, all-append}
 use Rattle.metric_descriptions.proofs.Asking.{one-said, silent}
 
 module _ {P S H X : Type 0} {key : Key.Ghosts (String Global) (List ℕ)} {hash : Hash.Ghosts (String Global)} {eq : PartialEq.Ghosts (String Global)} {same : PartialEq.Ghosts Text} {hashes : Hash.Ghosts Text} {keep : Keep.Ghosts P Text} {build : Build.Ghosts S H} {hasher : Hasher.Ghosts H} {absorb : Absorb.Ghosts (Store (String Global) Text Unit P S (List ℕ) H) (Write (String Global) (Arc Text Global) (Arc Unit Global) P) X} where
-  -- ---- a new map
+  -- ---- what stays
 
   text-by : (w : WriteHandle (String Global) Text Unit P S (List ℕ) H X key hash eq same hashes keep build hasher absorb) (shown waiting : List (Write (List ℕ) Text Unit P)) → published string_bytes w ≡ shown → pending string_bytes w ≡ waiting → text_of w ≡ record { published = said_by shown; pending = said_by waiting }
   text-by w shown waiting is waits = λ j. record { published = said_by (is j); pending = said_by (waits j) }
-
-  pub new-text : (w : WriteHandle (String Global) Text Unit P S (List ℕ) H X key hash eq same hashes keep build hasher absorb) (m : Unit {0}) (n : ℕ) → IsNew string_bytes w m n → text_of w ≡ nothing_described
-  new-text w m n h = text-by w _ _ h.0 h.1
-
-  pub new-book : (w : WriteHandle (String Global) Text Unit P S (List ℕ) H X key hash eq same hashes keep build hasher absorb) (m : Unit {0}) (n : ℕ) → IsNew string_bytes w m n → IsBook w
-  new-book w m n h = record {
-    shown = subst (AllByRecursion Describes) (sym h.0) tt;
-    waiting = subst (AllByRecursion Describes) (sym h.1) (tt, tt);
-    new_names = subst (λ ws. AllByRecursion (IsOfNewName (said_by (published string_bytes w))) ws) (sym h.1) (tt, tt);
-    told_all = h.3 ∙ sym h.0;
-  }
-
-  pub no-text : (o : Option (WriteHandle (String Global) Text Unit P S (List ℕ) H X key hash eq same hashes keep build hasher absorb)) → is_some o ≡ false → text_in o ≡ nothing_described
-  no-text None h = refl
-  no-text (Some w) h = cc
-
-  -- ---- a step that changes nothing
-
-  pub stays-text : (before after : WriteHandle (String Global) Text Unit P S (List ℕ) H X key hash eq same hashes keep build hasher absorb) → Stays before after → text_of after ≡ text_of before
-  stays-text before after h = text-by after _ _ (ap (writes_of string_bytes) h.0) (ap (map (write_of string_bytes)) h.1)
 
   book-by : (before after : WriteHandle (String Global) Text Unit P S (List ℕ) H X key hash eq same hashes keep build hasher absorb) → published string_bytes after ≡ published string_bytes before → pending string_bytes after ≡ pending string_bytes before → told after ≡ told before → IsBook before → IsBook after
   book-by before after is waits tells book = record {
@@ -67,7 +44,7 @@ module _ {P S H X : Type 0} {key : Key.Ghosts (String Global) (List ℕ)} {hash 
     told_all = tells ∙ book.told_all ∙ sym is;
   }
 
-  pub stays-book : (before after : WriteHandle (String Global) Text Unit P S (List ℕ) H X key hash eq same hashes keep build hasher absorb) → Stays before after → IsBook before → IsBook after
+  stays-book : (before after : WriteHandle (String Global) Text Unit P S (List ℕ) H X key hash eq same hashes keep build hasher absorb) → Stays before after → IsBook before → IsBook after
   stays-book before after h book = book-by before after (ap (writes_of string_bytes) h.0) (ap (map (write_of string_bytes)) h.1) h.2 book
 
   -- ---- asking

@@ -8,7 +8,6 @@ use Rattle.std.specs.declared.hash.BuildHasher as Build
 use Rattle.std.specs.declared.hash.Hasher as Hasher
 use Rattle.std.specs.declared.cmp.PartialEq as PartialEq
 use Rattle.left_right.specs.declared.Absorb as Absorb
-use Rattle.metrics_core.specs.declared.units.Unit.{Unit as UnitOf}
 use Rattle.value_bags.specs.declared.keep.Keep as Keep
 use Rattle.evmap_contents.specs.declared.key.KeyClone as Key
 use Rattle.evmap_contents.specs.declared.write.Write.{Write}

@@ -1,7 +1,7 @@
 -- Worked rows.
-use Rattle.std.specs.Prelude.{◌≡◌, ℕ, List, [], ◌∷◌, Option, Some, None, refl}
+use Rattle.std.specs.Prelude.{◌≡◌, ℕ, [], ◌∷◌, Some, refl}
 use Rattle.metrics_core.specs.declared.units.Unit.TheVariants.{Bytes}
-use Rattle.metric_descriptions.specs.Descriptions.{Description, DescribedText, nothing_described, describe, publish}
+use Rattle.metric_descriptions.specs.Descriptions.{Description, nothing_described, describe, publish}
 
 -- a description of the name 7 or 8
 abbrev said : ℕ → ℕ → Description

@@ -51,80 +51,6 @@ impl Model for Descriptions {
     ghost invariant = { λ d. HasBook d.writer };
 }
 
-// Makes the map where there is none.
-fn make<R: Wait>(writer: &mut Option<Writer>, rt: &R, alloc: Global) -> Result<(), Memory>
-    ensures made { OnOk result (is_some writer.new ≡ true) }
-    ensures same { text_in writer.new ≡ text_in writer.old }
-    ensures kept { HasBook writer.old → HasBook writer.new }
-{
-    if writer.is_some() {
-        return Ok(());
-    }
-    match Options::default().construct(rt, alloc) {
-        Ok((made, _reader)) => {
-            if let Some(former) = replace(writer, Some(made)) {
-                former.end(rt);
-            }
-            Ok(())
-        }
-        Err(_) => Err(Memory),
-    }
-}
-
-// A text waits under a name, where nothing is published under it.
-fn put(writer: &mut Writer, name: String, text: Text) -> Result<(), Memory>
-    requires { IsBook writer.old }
-    ensures described { OnOk result (text_of writer.new ≡ describe (said_of (string_bytes name) text.entry) (text_of writer.old)) }
-    ensures refused { OnErr result (text_of writer.new ≡ text_of writer.old) }
-    ensures kept { IsBook writer.new }
-{
-    if writer.contains_key(&name) {
-        return Ok(());
-    }
-    writer.update(name, text)
-}
-
-// Readers see what waits. Where nothing waits it does nothing.
-fn show<R: Wait>(writer: &mut Writer, rt: &R) -> Result<(), Memory>
-    requires { IsBook writer.old }
-    ensures published { OnOk result (text_of writer.new ≡ publish (text_of writer.old)) }
-    ensures refused { OnErr result (text_of writer.new ≡ text_of writer.old) }
-    ensures kept { IsBook writer.new }
-{
-    if !writer.has_pending() {
-        return Ok(());
-    }
-    writer.publish(rt)
-}
-
-// What is published under a name.
-fn find<'a>(writer: &'a Writer, name: &String) -> Option<&'a Text>
-    requires { IsBook writer.now }
-    ensures { option_map stored (option_copied result) ≡ option_map written (description_of (text_of writer.now).published (string_bytes name.now)) }
-{
-    writer.get_one(name)
-}
-
-// A stored text, as it is lent.
-fn lend(text: &Text) -> Described<'_>
-    ensures { said result ≡ stored text.now }
-{
-    Described {
-        text: text.0.as_str(),
-        unit: text.1,
-    }
-}
-
-// A reader that is told what was last published.
-fn tell(writer: &mut Writer) -> Result<DescriptionReader, EvmapFault>
-    requires { IsBook writer.old }
-    ensures same { text_of writer.new ≡ text_of writer.old }
-    ensures kept { IsBook writer.new }
-    ensures told { IfOk result (λ reader. IsToldOf (after ⟦<String as KeyClone>⟧.same ⟦<Text as PartialEq>⟧.eq ⟦<KeepAll as Keep<Text>>⟧.keeps) (text_of writer.old).published (known reader)) }
-{
-    writer.told_reader()
-}
-
 impl Descriptions {
     /// Nothing is described. It takes no memory.
     pub fn new() -> Descriptions
@@ -201,4 +127,78 @@ impl Descriptions {
             writer.end(rt);
         }
     }
+}
+
+// Makes the map where there is none.
+fn make<R: Wait>(writer: &mut Option<Writer>, rt: &R, alloc: Global) -> Result<(), Memory>
+    ensures made { OnOk result (is_some writer.new ≡ true) }
+    ensures same { text_in writer.new ≡ text_in writer.old }
+    ensures kept { HasBook writer.old → HasBook writer.new }
+{
+    if writer.is_some() {
+        return Ok(());
+    }
+    match Options::default().construct(rt, alloc) {
+        Ok((made, _reader)) => {
+            if let Some(former) = replace(writer, Some(made)) {
+                former.end(rt);
+            }
+            Ok(())
+        }
+        Err(_) => Err(Memory),
+    }
+}
+
+// A text waits under a name, where nothing is published under it.
+fn put(writer: &mut Writer, name: String, text: Text) -> Result<(), Memory>
+    requires { IsBook writer.old }
+    ensures described { OnOk result (text_of writer.new ≡ describe (said_of (string_bytes name) text.entry) (text_of writer.old)) }
+    ensures refused { OnErr result (text_of writer.new ≡ text_of writer.old) }
+    ensures kept { IsBook writer.new }
+{
+    if writer.contains_key(&name) {
+        return Ok(());
+    }
+    writer.update(name, text)
+}
+
+// Readers see what waits. Where nothing waits it does nothing.
+fn show<R: Wait>(writer: &mut Writer, rt: &R) -> Result<(), Memory>
+    requires { IsBook writer.old }
+    ensures published { OnOk result (text_of writer.new ≡ publish (text_of writer.old)) }
+    ensures refused { OnErr result (text_of writer.new ≡ text_of writer.old) }
+    ensures kept { IsBook writer.new }
+{
+    if !writer.has_pending() {
+        return Ok(());
+    }
+    writer.publish(rt)
+}
+
+// What is published under a name.
+fn find<'a>(writer: &'a Writer, name: &String) -> Option<&'a Text>
+    requires { IsBook writer.now }
+    ensures { option_map stored (option_copied result) ≡ option_map written (description_of (text_of writer.now).published (string_bytes name.now)) }
+{
+    writer.get_one(name)
+}
+
+// A stored text, as it is lent.
+fn lend(text: &Text) -> Described<'_>
+    ensures { said result ≡ stored text.now }
+{
+    Described {
+        text: text.0.as_str(),
+        unit: text.1,
+    }
+}
+
+// A reader that is told what was last published.
+fn tell(writer: &mut Writer) -> Result<DescriptionReader, EvmapFault>
+    requires { IsBook writer.old }
+    ensures same { text_of writer.new ≡ text_of writer.old }
+    ensures kept { IsBook writer.new }
+    ensures told { IfOk result (λ reader. IsToldOf (after ⟦<String as KeyClone>⟧.same ⟦<Text as PartialEq>⟧.eq ⟦<KeepAll as Keep<Text>>⟧.keeps) (text_of writer.old).published (known reader)) }
+{
+    writer.told_reader()
 }
