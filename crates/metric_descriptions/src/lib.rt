@@ -10,5 +10,7 @@
 #![tactic(auto)]
 
 mod descriptions;
+#[cfg(test)]
+mod tests;
 
 pub use descriptions::{Described, DescriptionReader, Descriptions};
