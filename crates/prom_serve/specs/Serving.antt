@@ -1,5 +1,5 @@
 -- What serving does to its connections, to its listener and to the exporter.
-use Rattle.std.specs.Prelude.{◌≡◌, ℕ, zero, suc, ◌-◌, ◌⊎◌, ◌↔◌, Bool, IsTrue, List, [], ◌∷◌, ◌++◌, length, take, Option, None, Some, IfSome, All, ⊤}
+use Rattle.std.specs.Prelude.{◌≡◌, ℕ, zero, suc, ◌-◌, ◌≤◌, ◌⊎◌, ◌↔◌, Bool, IsTrue, List, [], ◌∷◌, ◌++◌, length, take, Option, None, Some, IfSome, All, ⊤}
 use Rattle.std.specs.List.{Any}
 use Rattle.std.specs.declared.net.ip_addr.IpAddr.{IpAddr}
 use Rattle.net_addresses.specs.Addresses.{NetworkText, Holds}
@@ -102,3 +102,8 @@ abbrev pub ShowsPage : Option (List NetworkText) → ℕ → ℕ → ℕ → Exp
 ShowsPage networks moment accepted last exporter old new =
     AllHome exporter → AreTimely moment exporter → IfSome old (λ before.
     (ended : List Ended) × (new ≡ Some (before ++ ended)) × (length ended ≡ accepted) × All (IsShown networks moment exporter) (take (accepted - last) ended))
+
+-- at most so many connections were accepted and given back, and so each peer of theirs but the last few
+abbrev pub ShowsPageInPart : Option (List NetworkText) → ℕ → ℕ → ℕ → Exporter → Listening → Listening → Type 0
+ShowsPageInPart networks moment count last exporter old new =
+    (accepted : ℕ) × (accepted ≤ count) × CountedOn old.given new.given accepted × ShowsPage networks moment accepted last exporter old.finished new.finished

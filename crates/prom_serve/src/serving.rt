@@ -8,7 +8,7 @@ ghost use Rattle.std.specs.List.{Any};
 ghost use Rattle.prom_serve.specs.Asked.{asked_text};
 ghost use Rattle.prom_serve.specs.Connections.{CountedOn};
 ghost use Rattle.prom_serve.specs.Refusals.{excepted};
-ghost use Rattle.prom_serve.specs.Serving.{IsAllowed, IsRendered, IsPageAt, MayRender, StaysHome, ShowsPage, IsAnsweredFirst, Accepts, AcceptsOne};
+ghost use Rattle.prom_serve.specs.Serving.{IsAllowed, IsRendered, IsPageAt, MayRender, StaysHome, ShowsPage, ShowsPageInPart, IsAnsweredFirst, Accepts, AcceptsOne};
 ghost use Rattle.prom_serve.specs.declared.serving.GivenUp.TheVariants as given_up;
 
 use crate::answers::{Asked, answer_of, asked_by};
@@ -189,6 +189,8 @@ pub fn serve<R: Net<Listener = TcpListener, Stream = TcpStream> + Wait, N: Liste
     ensures never_falls { N.faults listener.old ≤ N.faults listener.new }
     ensures home { AllHome state.old → StaysHome moment state.old state.new }
     ensures pages { OnOk result (ShowsPage (option_copied allowed.entry) moment count 0 state.old (N.finished listener.old) (N.finished listener.new)) }
+    ensures pages_in_part { IfErr result (λ error. ShowsPageInPart (option_copied allowed.entry) moment count (excepted error) state.old
+        (record { given = N.given listener.old; finished = N.finished listener.old }) (record { given = N.given listener.new; finished = N.finished listener.new })) }
 {
     let mut room = HeadRoom::new(alloc)?;
     let mut failed = 0;

@@ -2,8 +2,9 @@ use Rattle.std.proofs.Common.{◌≡◌, ◌≤◌, Bool, true, false, Result, O
 use Rattle.std.specs.Prelude.{IfErr, option_copied, if◌then◌else◌}
 use Rattle.std.specs.Result.{IsErrAnd}
 use Rattle.std.specs.Int.{from_bool}
-use Rattle.prom_serve.specs.Serving.{ShowsPage}
-use Rattle.prom_serve.proofs.Accepted.{none_accepted, served_next, refused_by, renders_home, shows_page, counted_more}
+use Rattle.prom_serve.specs.Refusals.{excepted}
+use Rattle.prom_serve.specs.Serving.{Listening, ShowsPage}
+use Rattle.prom_serve.proofs.Accepted.{none_accepted, served_next, refused_by, renders_home, shows_page, counted_more, counted_none}
 use Rattle.prom_serve.proofs.serving.serve.Goals as goal
 
 on_err : {A E : Type 0} (P : E → Type 0) (r : Result A E) → ((e : E) → P e) → IfErr r P
@@ -60,3 +61,24 @@ returns-clause-pages g c =
     let finished = g.N.Listener.finished in
     subst (λ n. ShowsPage (option_copied c.args.allowed) c.args.moment n 0 c.args.state.now (finished c.args.listener.now) (finished c.loop-accepted.listener)) all
     (shows_page (option_copied c.args.allowed) c.args.moment c.loop-accepted._accepted 0 c.args.state.now c.loop-accepted.state _ _ c.loop-accepted.invariant.served)
+
+pub returns-in_err-room-clause-pages_in_part : goal.returns-in_err-room-clause-pages_in_part
+returns-in_err-room-clause-pages_in_part g c =
+    let start : Listening = record { given = g.N.Listener.given c.args.listener.now; finished = g.N.Listener.finished c.args.listener.now } in
+    let networks = option_copied c.args.allowed in
+    let exporter = c.args.state.now in
+    on_err _ c.from_residual.result (λ error. (
+      0,
+      omega arith,
+      counted_none start.given,
+      shows_page networks c.args.moment 0 (excepted error) exporter exporter start start (none_accepted networks c.args.moment (excepted error) exporter start),
+    ))
+
+pub returns-in_err-has_failed-clause-pages_in_part : goal.returns-in_err-has_failed-clause-pages_in_part
+returns-in_err-has_failed-clause-pages_in_part g c =
+    let next = c.in_err-has_failed.ensures in
+    at_err _ _ c.from_residual-in_err-has_failed.result c.from_residual-in_err-has_failed.ensures.1 (λ error is.
+    let same : error ≡ c.in_err-has_failed.field-0.0 = is in
+    let refused = refused_by _ _ _ _ _ _ _ _ _ c.in_err-has_failed.field-0.0 c.args.count c.loop-accepted-test.true c.loop-accepted.invariant.served
+    (λ is. next.memory (ap Err is)) (λ is. next.state (ap Err is)) (λ is. next.given (ap Err is)) (λ is. next.finished (ap Err is)) in
+    rw same (refused.0, refused.1, refused.2.given, shows_page _ _ _ _ _ _ _ _ refused.2))
