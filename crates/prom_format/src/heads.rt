@@ -80,6 +80,23 @@ fn push_head(
     Ok(name_length)
 }
 
+/// Appends the label set of a series with this key: the global labels and its own, in braces, and nothing where there is
+/// none. A refused call leaves the buffer as it was.
+pub fn push_row_labels(
+    buffer: &mut String,
+    key: &Key,
+    globals: &IndexMap<String, String>,
+) -> Result<(), Memory>
+    ensures labels { OnOk result (string_bytes buffer.new ≡ string_bytes buffer.old
+        ++ label_set_text (shown_label_set (labels_of globals.now.entries) key.now.labels)) }
+    ensures begins { OnOk result (IsCharBoundary (string_bytes buffer.new) (length (string_bytes buffer.old))) }
+    ensures err { OnErr result (string_bytes buffer.new ≡ string_bytes buffer.old) }
+{
+    let length = buffer.len();
+    let outcome = push_label_set(buffer, key, globals);
+    undo_refused(buffer, length, outcome)
+}
+
 /// Appends the global labels and those of the key in braces, and nothing where there is none. After a refused call some may
 /// be missing.
 fn push_label_set(

@@ -22,7 +22,7 @@ mod suffixes;
 mod undo;
 
 pub use families::FamilyType;
-pub use heads::{prints_plainly, push_row_head, row_head};
+pub use heads::{prints_plainly, push_row_head, push_row_labels, row_head};
 pub use labels::{LabelSet, LabelStrings, put_label};
 pub use laws::{
     escapes_tell_their_text, full_names_are_metric_names, heads_tell_names_and_labels, names_stay,
@@ -35,3 +35,4 @@ pub use names::{is_metric_name, sanitize_label_key, sanitize_metric_name};
 pub use numbers::{push_count, push_fixed};
 pub use printed::{sanitize_description, sanitize_label_value};
 pub use rows::{printed_rows_are_rows, write_row};
+pub use suffixes::write_full_name;

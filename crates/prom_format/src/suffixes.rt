@@ -1,12 +1,30 @@
 //! The full name of a row: a metric name with its unit and its suffix.
 
-ghost use Rattle.std.specs.Prelude.{◌≡◌, [], ◌∷◌, ◌++◌, if◌then◌else◌, OnOk, string_bytes};
+ghost use Rattle.std.specs.Prelude.{◌≡◌, [], ◌∷◌, ◌++◌, if◌then◌else◌, OnErr, OnOk, string_bytes};
 ghost use Rattle.std.specs.Option.{option_copied};
 ghost use Rattle.metrics_core.specs.Characters.{underscore};
 ghost use Rattle.prom_format.specs.Names as names;
 ghost use Rattle.prom_format.specs.Texts.{Begins};
 
+use crate::undo::undo_refused;
 use metrics_core::{Memory, Unit};
+
+/// Appends the full name: the metric name, then the unit, then the suffix. The name is taken as it is. A refused call leaves
+/// the buffer as it was.
+pub fn write_full_name(
+    buffer: &mut String,
+    name: &str,
+    unit: Option<Unit>,
+    suffix: Option<&'static str>,
+) -> Result<(), Memory>
+    ensures ok { OnOk result (string_bytes buffer.new
+        ≡ string_bytes buffer.old ++ names.full_name name.now unit (option_copied suffix.entry)) }
+    ensures err { OnErr result (string_bytes buffer.new ≡ string_bytes buffer.old) }
+{
+    let length = buffer.len();
+    let outcome = push_full_name(buffer, name, unit, suffix);
+    undo_refused(buffer, length, outcome)
+}
 
 /// Appends the metric name, then the unit, then the suffix. The name is taken as it is. After a refused call some may be
 /// missing.
