@@ -156,10 +156,18 @@ fn put(writer: &mut Writer, name: String, text: Text) -> Result<(), Memory>
     ensures refused { OnErr result (text_of writer.new ≡ text_of writer.old) }
     ensures kept { IsBook writer.new }
 {
-    if writer.contains_key(&name) {
+    if is_published(writer, &name) {
         return Ok(());
     }
     writer.update(name, text)
+}
+
+// Whether anything is published under a name.
+fn is_published(writer: &Writer, name: &String) -> bool
+    requires { IsBook writer.now }
+    ensures { result ≡ is_some (description_of (text_of writer.now).published (string_bytes name.now)) }
+{
+    writer.contains_key(name)
 }
 
 // Readers see what waits. Where nothing waits it does nothing.
