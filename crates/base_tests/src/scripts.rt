@@ -18,7 +18,9 @@ fn has_label(globals: &[(String, String)]) -> bool {
 
 /// Whether a register line is the script's second one.
 fn is_gauge(line: &Setup) -> bool {
-    let Setup::Register { kind, key } = line;
+    let Setup::Register { kind, key } = line else {
+        return false;
+    };
     let values = ["\n\\", ""];
     (*kind, key.name()) == (MetricKind::Gauge, "\u{e9} \"")
         && key

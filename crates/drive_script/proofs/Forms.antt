@@ -1,23 +1,30 @@
 -- A line is read as what it says, and so it says at most one thing.
-use Rattle.std.proofs.Common.{◌≡◌, ℕ, ◌+◌, ◌-◌, ◌^◌, ◌<◌, ◌==◌, List, [], ◌∷◌, ◌++◌, map, get_or, Option, Some, None, refl, sym, ap, subst, ◌∙◌, append_assoc, arith, inl, inr, lit<}
-use Rattle.std.specs.Prelude.{codes, decimal, ℤ, option_map, if◌then◌else◌}
+use Rattle.std.proofs.Common.{◌≡◌, ℕ, ◌+◌, ◌-◌, ◌^◌, ◌<◌, Bool, true, false, ◌==◌, List, [], ◌∷◌, ◌++◌, map, get_or, take, drop, Option, Some, None, refl, sym, ap, subst, ◌∙◌, append_assoc, arith, inl, inr, lit<}
+use Rattle.std.specs.Prelude.{bytes_eq, codes, decimal, ℤ, IfSome, option_map, if◌then◌else◌}
 use Rattle.std.proofs.lemmas.Bool.Decides.{nat_tests}
 use Rattle.std.proofs.lemmas.Fmt.{decimal_digit}
-use Rattle.std.proofs.lemmas.Option.{same_Some}
+use Rattle.std.proofs.lemmas.List.{take-append-drop}
+use Rattle.std.proofs.lemmas.Option.{same_Some, some_pair_parts}
+use Rattle.std.proofs.lemmas.Slice.Eq.{bytes_eq-Decides}
 use Rattle.metrics_core.specs.Keys.{LabelText, KeyText}
 use Rattle.metrics_core.specs.Kinds.{kind_text}
+use Rattle.metrics_core.specs.Units.{unit_text}
+use Rattle.metrics_core.specs.UnitLaws.{unit_of, unit_of-text}
+use Rattle.metrics_core.specs.declared.units.Unit.{Unit as UnitOf}
+use Rattle.metrics_core.specs.declared.units.Unit.TheVariants as units
 use Rattle.metrics_core.specs.declared.kinds.MetricKind.{MetricKind}
 use Rattle.metrics_core.specs.declared.kinds.MetricKind.TheVariants as kinds
-use Rattle.drive_script.specs.Words.{spaced, quoted, label_word}
-use Rattle.drive_script.specs.Script.{Register, Describe, Act, Inc, Abs, Add, Sub, Set, Rec, RecN, CallLine, HeaderLine, Quantiles, Buckets, BucketsFor, Summary, Idle, Global, ScriptLine, Header, Round, Setup, CallOf, IsLine, AreActWords}
-use Rattle.drive_script.specs.Reading.{◌or◌, both, after, behind, standing, number_at, positive_at, fixed_at, text_at, labels_at, verb_at, kind_word_at, registered_kind_at, argument_at, quantiles_at, buckets_at, buckets_for_at, summary_at, idle_at, global_at, round_at, Registered, register_at, CallParts, call_parts_at, call_of_parts, call_at}
+use Rattle.drive_script.specs.Words.{spaced, quoted, label_word, unit_word}
+use Rattle.drive_script.specs.Script.{SetupLine, Register, Describe, Act, Inc, Abs, Add, Sub, Set, Rec, RecN, CallLine, HeaderLine, Quantiles, Buckets, BucketsFor, NativeFor, Summary, Idle, Naming, Units, Global, Limit, Mode, NamePrefix, GlobalTag, HistogramKind, ScriptLine, Header, Round, Setup, CallOf, IsLine, AreActWords}
+use Rattle.drive_script.specs.Reading.{◌>>=◌, ◌or◌, both, seen, after, behind, standing, number_at, positive_at, fixed_at, text_at, labels_at, word_length, unit_named, unit_at, verb_at, kind_word_at, registered_kind_at, argument_at, quantiles_at, buckets_at, buckets_for_at, native_for_at, summary_at, idle_at, label_line_at, limit_at, prefix_at, switch_at, round_at, description_of_parts, description_at, describe_at, Registered, register_at, CallParts, call_parts_at, call_of_parts, call_at}
 use Rattle.drive_script.specs.declared.lines.Verb.{Verb}
 use Rattle.drive_script.specs.declared.lines.Verb.TheVariants as verbs
+use Rattle.drive_script.proofs.Fields.{bind_some}
 use Rattle.drive_script.proofs.Readers.{IsReader, Ends, Anywhere, stops_less, SpellsBoth, both_reads, SpellsSeen, seen_reads, SpellsAfter, after_reads, standing_takes, or_some, whole_takes, whole_again}
 use Rattle.drive_script.proofs.Spaced.{WordEnds, ends_word}
 use Rattle.drive_script.proofs.Decimals.{NoDigit, SpellsNumber, number_reads, SpellsPositive, positive_reads, SpellsDec, fixed_reads}
 use Rattle.drive_script.proofs.TextFields.{SpellsText, text_reads, spaced_labels, SpellsLabels, labels_read}
-use Rattle.drive_script.proofs.HeaderForms.{behind_spaces, words_spaced, number_to_end, quantiles_again, buckets_again, buckets_for_again, summary_again, idle_again, global_again}
+use Rattle.drive_script.proofs.HeaderForms.{behind_spaces, words_spaced, number_to_end, fixed_to_end, quantiles_again, buckets_again, buckets_for_again, native_for_again, summary_again, idle_again, naming_again, units_again, mode_again, kind_again, global_again, tag_again, limit_again, prefix_again}
 
 -- ---- round lines
 
@@ -121,6 +128,121 @@ register_again line kind key h =
     whole_again _ _ Ends register_reads refl line (kind, (key.name, key.labels))
     (register_text kind, quoted key.name ++ spaced_labels key.labels, (kind_word kind, refl, refl), (quoted key.name, spaced_labels key.labels, (h.formed.0.0, refl), (h.formed.0.1, refl), refl), h.spelled ∙ ap spaced h.formed.1 ∙ register_spaced kind key.name key.labels)
 
+-- ---- describe lines
+
+-- a space stands next
+abbrev SpaceNext : List ℕ → Type 0
+SpaceNext rest = (others : List ℕ) × (rest ≡ codes " " ++ others)
+
+abbrev SpellsUnit : Option UnitOf → List ℕ → Type 0
+SpellsUnit unit front = front ≡ unit_word unit
+
+named_takes : (word : List ℕ) (unit : Option UnitOf) → unit_named word ≡ Some unit → word ≡ unit_word unit
+named_takes word unit e = by (bytes_eq word (codes "-")) refl e
+  where
+    of_text : (o : Option UnitOf) → unit_of word ≡ o → (o >>= λ u. Some (Some u)) ≡ Some unit → word ≡ unit_word unit
+    of_text None is f = absurd cc
+    of_text (Some u) is f = sym (subst (λ o. IfSome o (λ u. unit_text u ≡ word)) is (unit_of-text word)) ∙ ap unit_word (same_Some (Some u) unit f)
+
+    by : (b : Bool) → bytes_eq word (codes "-") ≡ b → (if b then Some None else (unit_of word >>= λ u. Some (Some u))) ≡ Some unit → word ≡ unit_word unit
+    by true is f = (bytes_eq-Decides word (codes "-")).0 is ∙ ap unit_word (same_Some None unit f)
+    by false is f = of_text (unit_of word) refl f
+
+unit_takes : (bytes : List ℕ) (unit : Option UnitOf) (rest : List ℕ) → unit_at bytes ≡ Some (unit, rest) → (front : List ℕ) × SpellsUnit unit front × (bytes ≡ front ++ rest)
+unfolding unit_at
+unit_takes bytes unit rest e =
+    let n = word_length bytes in
+    let m = bind_some (unit_named (take n bytes)) (λ u. Some (u, drop n bytes)) (unit, rest) e in
+    let same = some_pair_parts m.0 unit (drop n bytes) rest m.2 in
+    (take n bytes, named_takes (take n bytes) unit (m.1 ∙ ap Some same.0), sym (take-append-drop n bytes) ∙ ap (λ l. take n bytes ++ l) same.1)
+
+unit_again : (unit : Option UnitOf) (front rest : List ℕ) → SpellsUnit unit front → SpaceNext rest → unit_at (front ++ rest) ≡ Some (unit, rest)
+unfolding unit_at
+unit_again unit front rest h (others, is) = (λ j. unit_at (h j ++ is j)) ∙ by unit ∙ ap (λ l. Some (unit, l)) (sym is)
+  where
+    by : (unit : Option UnitOf) → unit_at (unit_word unit ++ (codes " " ++ others)) ≡ Some (unit, codes " " ++ others)
+    by None = refl
+    by (Some units.Count) = refl
+    by (Some units.Percent) = refl
+    by (Some units.Seconds) = refl
+    by (Some units.Milliseconds) = refl
+    by (Some units.Microseconds) = refl
+    by (Some units.Nanoseconds) = refl
+    by (Some units.Tebibytes) = refl
+    by (Some units.Gibibytes) = refl
+    by (Some units.Mebibytes) = refl
+    by (Some units.Kibibytes) = refl
+    by (Some units.Bytes) = refl
+    by (Some units.TerabitsPerSecond) = refl
+    by (Some units.GigabitsPerSecond) = refl
+    by (Some units.MegabitsPerSecond) = refl
+    by (Some units.KilobitsPerSecond) = refl
+    by (Some units.BitsPerSecond) = refl
+    by (Some units.CountPerSecond) = refl
+
+unit_reads : IsReader unit_at SpellsUnit SpaceNext
+unit_reads = record { takes = unit_takes; again = unit_again }
+
+abbrev SpellsSpacedText : List ℕ → List ℕ → Type 0
+SpellsSpacedText = SpellsAfter (codes " ") SpellsText
+
+abbrev SpellsUnitAndText : Option UnitOf × List ℕ → List ℕ → Type 0
+SpellsUnitAndText = SpellsBoth SpellsUnit (λ _. SpellsSpacedText)
+
+abbrev SpellsNamed : List ℕ × (Option UnitOf × List ℕ) → List ℕ → Type 0
+SpellsNamed = SpellsBoth SpellsText (λ _. SpellsAfter (codes " ") SpellsUnitAndText)
+
+abbrev SpellsDescription : MetricKind × (List ℕ × (Option UnitOf × List ℕ)) → List ℕ → Type 0
+SpellsDescription = SpellsBoth SpellsKindWord (λ _. SpellsNamed)
+
+unit_and_text_read : IsReader (both unit_at (λ _. after (codes " ") text_at)) SpellsUnitAndText Anywhere
+unit_and_text_read = both_reads unit_at (λ _. after (codes " ") text_at) SpellsUnit (λ _. SpellsSpacedText) SpaceNext Anywhere unit_reads
+    (λ _. after_reads (codes " ") text_at SpellsText Anywhere text_reads) (λ a b y rest h stop. (h.0 ++ rest, ap (λ l. l ++ rest) h.2))
+
+named_read : IsReader (both text_at (λ _. after (codes " ") (both unit_at (λ _. after (codes " ") text_at)))) SpellsNamed Anywhere
+named_read = both_reads text_at (λ _. after (codes " ") (both unit_at (λ _. after (codes " ") text_at))) SpellsText (λ _. SpellsAfter (codes " ") SpellsUnitAndText) Anywhere Anywhere text_reads
+    (λ _. after_reads (codes " ") (both unit_at (λ _. after (codes " ") text_at)) SpellsUnitAndText Anywhere unit_and_text_read) (λ a b y rest h stop. tt)
+
+describe_reads : IsReader (after (codes "describe ") (seen description_of_parts description_at)) (SpellsAfter (codes "describe ") (SpellsSeen description_of_parts SpellsDescription)) Anywhere
+describe_reads = after_reads (codes "describe ") (seen description_of_parts description_at) (SpellsSeen description_of_parts SpellsDescription) Anywhere
+    (seen_reads description_of_parts description_at SpellsDescription Anywhere
+    (both_reads kind_word_at (λ _. both text_at (λ _. after (codes " ") (both unit_at (λ _. after (codes " ") text_at)))) SpellsKindWord (λ _. SpellsNamed) Anywhere Anywhere kind_word_reads (λ _. named_read) (λ a b y rest h stop. tt)))
+
+describe_spaced : (kind : MetricKind) (name unit text : List ℕ) → spaced (codes "describe" ∷ kind_text kind ∷ name ∷ unit ∷ text ∷ []) ≡ codes "describe " ++ (kind_word kind ++ (name ++ (codes " " ++ (unit ++ (codes " " ++ text)))))
+describe_spaced kind name unit text = ap (λ l. codes "describe " ++ l) (sym (append_assoc (kind_text kind) (codes " ") (name ++ (codes " " ++ (unit ++ (codes " " ++ text))))))
+
+pub describe_takes : (line : List ℕ) (setup : SetupLine) → describe_at line ≡ Some setup → IsLine line (Setup setup)
+unfolding describe_at
+describe_takes line setup e =
+    let (x, (parts, is, spelled), line_is) = whole_takes _ _ Anywhere describe_reads line setup e in
+    let (k, y, is_kind, named, x_is) = spelled in
+    let (n, z, is_name, (w, behind_name, z_is), y_is) = named in
+    let (u, v, is_unit, (t, is_text, v_is), w_is) = behind_name in
+    let whole_line : line ≡ codes "describe " ++ (kind_word parts.0 ++ (quoted parts.1.0 ++ (codes " " ++ (unit_word parts.1.1.0 ++ (codes " " ++ quoted parts.1.1.1))))) =
+    line_is ∙ ap (λ l. codes "describe " ++ l) (x_is ∙ (λ i. is_kind i ++ (y_is ∙ (λ j. is_name.1 j ++ (z_is ∙ ap (λ l. codes " " ++ l) (w_is ∙ (λ m. is_unit m ++ (v_is ∙ ap (λ l. codes " " ++ l) is_text.1) m))) j)) i)) in
+    subst (λ (s : SetupLine). IsLine line (Setup s)) is
+    (record {
+      words = codes "describe" ∷ kind_text parts.0 ∷ quoted parts.1.0 ∷ unit_word parts.1.1.0 ∷ quoted parts.1.1.1 ∷ [];
+      formed = (is_name.0, is_text.0, refl);
+      spelled = whole_line ∙ sym (describe_spaced parts.0 (quoted parts.1.0) (unit_word parts.1.1.0) (quoted parts.1.1.1));
+    })
+
+pub describe_again : (line : List ℕ) (kind : MetricKind) (name : List ℕ) (unit : Option UnitOf) (text : List ℕ) → IsLine line (Setup (Describe kind name unit text)) → describe_at line ≡ Some (Describe kind name unit text)
+unfolding describe_at
+describe_again line kind name unit text h =
+    let last : List ℕ = codes " " ++ quoted text in
+    let named : List ℕ = unit_word unit ++ last in
+    let others : List ℕ = quoted name ++ (codes " " ++ named) in
+    whole_again _ _ Anywhere describe_reads tt line (Describe kind name unit text) (
+      kind_word kind ++ others,
+      (
+        (kind, (name, (unit, text))),
+        refl,
+        (kind_word kind, others, refl, (quoted name, codes " " ++ named, (h.formed.0, refl), (named, (unit_word unit, last, refl, (quoted text, (h.formed.1, refl), refl), refl), refl), refl), refl),
+      ),
+      h.spelled ∙ ap spaced h.formed.2 ∙ describe_spaced kind (quoted name) (unit_word unit) (quoted text),
+    )
+
 -- ---- call lines
 
 abbrev verb_word : Verb → List ℕ
@@ -200,9 +322,6 @@ SpellsArgument verbs.Sub = SpellsValue Sub
 SpellsArgument verbs.Set = SpellsValue Set
 SpellsArgument verbs.Rec = SpellsValue Rec
 SpellsArgument verbs.RecN = SpellsSeen samples_act SpellsTimes
-
-fixed_to_end : IsReader fixed_at SpellsDec Ends
-fixed_to_end = stops_less fixed_at SpellsDec WordEnds Ends fixed_reads ends_word
 
 times_read : IsReader (both fixed_at (λ _. after (codes " ") (positive_at 1000000))) SpellsTimes Ends
 times_read = both_reads fixed_at (λ _. after (codes " ") (positive_at 1000000)) SpellsDec (λ _. SpellsAfter (codes " ") (SpellsPositive 1000000)) WordEnds Ends fixed_reads
@@ -338,22 +457,28 @@ abbrev pub registered_line : Registered → ScriptLine
 registered_line registered = Setup (Register registered.0 (key_of registered))
 
 -- a line that is read in none of the forms says nothing
-pub no_reading : (line : List ℕ) → call_at line ≡ None → round_at line ≡ None → register_at line ≡ None → ((header : HeaderLine) → ¬ IsLine line (Header header)) → (says : ScriptLine) → ¬ IsLine line says
-no_reading line no_call no_round no_register no_header (Header header) h = no_header header h
-no_reading line no_call no_round no_register no_header (Round moment) h = let read = round_again line moment h in cc
-no_reading line no_call no_round no_register no_header (Setup (Register kind key)) h = let read = register_again line kind key h in cc
-no_reading line no_call no_round no_register no_header (Setup (Describe kind name unit text)) h = absurd h.formed
-no_reading line no_call no_round no_register no_header (CallOf call) h = let read = call_again line call h in cc
+pub no_reading : (line : List ℕ) → call_at line ≡ None → round_at line ≡ None → register_at line ≡ None → describe_at line ≡ None → ((header : HeaderLine) → ¬ IsLine line (Header header)) → (says : ScriptLine) → ¬ IsLine line says
+no_reading line no_call no_round no_register no_description no_header (Header header) h = no_header header h
+no_reading line no_call no_round no_register no_description no_header (Round moment) h = let read = round_again line moment h in cc
+no_reading line no_call no_round no_register no_description no_header (Setup (Register kind key)) h = let read = register_again line kind key h in cc
+no_reading line no_call no_round no_register no_description no_header (Setup (Describe kind name unit text)) h = let read = describe_again line kind name unit text h in cc
+no_reading line no_call no_round no_register no_description no_header (CallOf call) h = let read = call_again line call h in cc
 
 -- the forms of line
 data Form : Type 0 where
   quantiles : Form
   buckets : Form
   buckets_for : Form
+  native_for : Form
   summary : Form
   idle : Form
+  switch : Form
   global : Form
+  limit : Form
+  prefix : Form
+  tag : Form
   round : Form
+  describe : Form
   register : Form
   call : Form
 
@@ -361,14 +486,30 @@ abbrev form_of : ScriptLine → Form
 form_of (Header (Quantiles values)) = quantiles
 form_of (Header (Buckets values)) = buckets
 form_of (Header (BucketsFor matcher values)) = buckets_for
+form_of (Header (NativeFor native)) = native_for
 form_of (Header (Summary count duration)) = summary
 form_of (Header (Idle mask timeout)) = idle
+form_of (Header Naming) = switch
+form_of (Header Units) = switch
 form_of (Header (Global label)) = global
+form_of (Header (Limit n)) = limit
+form_of (Header (Mode aggressive)) = switch
+form_of (Header (NamePrefix text)) = prefix
+form_of (Header (GlobalTag label)) = tag
+form_of (Header (HistogramKind histograms)) = switch
 form_of (Round moment) = round
-form_of (Setup setup) = register
+form_of (Setup (Describe kind name unit text)) = describe
+form_of (Setup (Register kind key)) = register
 form_of (CallOf call_line) = call
 
 -- which form a line has, by some of its bytes
+abbrev payload_form : ℕ → Form
+payload_form c =
+    if c == 103 then tag
+    else if c == 108 then limit
+    else if c == 112 then prefix
+    else switch
+
 abbrev form_at : List ℕ → Form
 form_at (c ∷ d ∷ line) =
     if c == 103 then global
@@ -377,6 +518,9 @@ form_at (c ∷ d ∷ line) =
     else if c == 115 then summary
     else if c == 105 then idle
     else if c == 98 then (if get_or line 5 0 == 45 then buckets_for else buckets)
+    else if c == 110 then (if get_or line 0 0 == 116 then native_for else switch)
+    else if c == 117 then switch
+    else if c == 100 then (if d == 101 then describe else payload_form (get_or line 2 0))
     else call
 form_at _ = call
 
@@ -385,10 +529,16 @@ abbrev read_as : Form → List ℕ → Option ScriptLine
 read_as quantiles line = option_map (λ values. Header (Quantiles values)) (quantiles_at line)
 read_as buckets line = option_map (λ values. Header (Buckets values)) (buckets_at line)
 read_as buckets_for line = option_map (λ rule. Header (BucketsFor rule.0 rule.1)) (buckets_for_at line)
+read_as native_for line = option_map (λ native. Header (NativeFor native)) (native_for_at line)
 read_as summary line = option_map (λ s. Header (Summary s.0 s.1)) (summary_at line)
 read_as idle line = option_map (λ i. Header (Idle i.0 i.1)) (idle_at line)
-read_as global line = option_map (λ label. Header (Global label)) (global_at line)
+read_as switch line = option_map Header (switch_at line)
+read_as global line = option_map (λ label. Header (Global label)) (label_line_at (codes "global ") line)
+read_as limit line = option_map (λ n. Header (Limit n)) (limit_at line)
+read_as prefix line = option_map (λ text. Header (NamePrefix text)) (prefix_at line)
+read_as tag line = option_map (λ label. Header (GlobalTag label)) (label_line_at (codes "dsd-global ") line)
 read_as round line = option_map Round (round_at line)
+read_as describe line = option_map Setup (describe_at line)
 read_as register line = option_map registered_line (register_at line)
 read_as call line = option_map CallOf (call_at line)
 
@@ -396,12 +546,20 @@ read_so : (line : List ℕ) (says : ScriptLine) → IsLine line says → read_as
 read_so line (Header (Quantiles values)) h = ap (option_map (λ values. Header (Quantiles values))) (quantiles_again line values h)
 read_so line (Header (Buckets values)) h = ap (option_map (λ values. Header (Buckets values))) (buckets_again line values h)
 read_so line (Header (BucketsFor matcher values)) h = ap (option_map (λ rule. Header (BucketsFor rule.0 rule.1))) (buckets_for_again line matcher values h)
+read_so line (Header (NativeFor native)) h = ap (option_map (λ native. Header (NativeFor native))) (native_for_again line native h)
 read_so line (Header (Summary count duration)) h = ap (option_map (λ s. Header (Summary s.0 s.1))) (summary_again line count duration h)
 read_so line (Header (Idle mask timeout)) h = ap (option_map (λ i. Header (Idle i.0 i.1))) (idle_again line mask timeout h)
+read_so line (Header Naming) h = ap (option_map Header) (naming_again line h)
+read_so line (Header Units) h = ap (option_map Header) (units_again line h)
 read_so line (Header (Global label)) h = ap (option_map (λ label. Header (Global label))) (global_again line label h)
+read_so line (Header (Limit n)) h = ap (option_map (λ n. Header (Limit n))) (limit_again line n h)
+read_so line (Header (Mode aggressive)) h = ap (option_map Header) (mode_again line aggressive h)
+read_so line (Header (NamePrefix text)) h = ap (option_map (λ text. Header (NamePrefix text))) (prefix_again line text h)
+read_so line (Header (GlobalTag label)) h = ap (option_map (λ label. Header (GlobalTag label))) (tag_again line label h)
+read_so line (Header (HistogramKind histograms)) h = ap (option_map Header) (kind_again line histograms h)
 read_so line (Round moment) h = ap (option_map Round) (round_again line moment h)
 read_so line (Setup (Register kind key)) h = ap (option_map registered_line) (register_again line kind key h)
-read_so line (Setup (Describe kind name unit text)) h = absurd h.formed
+read_so line (Setup (Describe kind name unit text)) h = ap (option_map Setup) (describe_again line kind name unit text h)
 read_so line (CallOf call_line) h = ap (option_map CallOf) (call_again line call_line h)
 
 -- a line whose first byte is a digit
@@ -419,10 +577,18 @@ formed line (Header (Buckets values)) h = ap form_at (h.spelled ∙ ap spaced h.
 formed line (Header (BucketsFor matcher values)) h = ap form_at (h.spelled ∙ ap spaced h.formed.3)
 formed line (Header (Summary count duration)) h = ap form_at (h.spelled ∙ ap spaced h.formed.3)
 formed line (Header (Idle mask timeout)) h = ap form_at (h.spelled ∙ ap spaced h.formed.3)
+formed line (Header (NativeFor native)) h = ap form_at (h.spelled ∙ ap spaced h.formed.6)
+formed line (Header Naming) h = ap form_at (h.spelled ∙ ap spaced h.formed)
+formed line (Header Units) h = ap form_at (h.spelled ∙ ap spaced h.formed)
 formed line (Header (Global label)) h = ap form_at (h.spelled ∙ ap spaced h.formed.1)
+formed line (Header (Limit n)) h = ap form_at (h.spelled ∙ ap spaced h.formed.1)
+formed line (Header (Mode aggressive)) h = ap form_at (h.spelled ∙ ap spaced h.formed)
+formed line (Header (NamePrefix text)) h = ap form_at (h.spelled ∙ ap spaced h.formed.1)
+formed line (Header (GlobalTag label)) h = ap form_at (h.spelled ∙ ap spaced h.formed.1)
+formed line (Header (HistogramKind histograms)) h = ap form_at (h.spelled ∙ ap spaced h.formed)
 formed line (Round moment) h = ap form_at (h.spelled ∙ ap spaced h.formed.1)
 formed line (Setup (Register kind key)) h = ap form_at (h.spelled ∙ ap spaced h.formed.1)
-formed line (Setup (Describe kind name unit text)) h = absurd h.formed
+formed line (Setup (Describe kind name unit text)) h = ap form_at (h.spelled ∙ ap spaced h.formed.2)
 formed line (CallOf line_call) h =
     let (rest, act, lane_fits, handle_fits, words_are) = h.formed in
     let w = worded rest line_call.handle line_call.act act in

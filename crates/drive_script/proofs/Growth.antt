@@ -1,5 +1,5 @@
 -- The lines of a valid script and one more: they are a valid script just where that line is the script's next.
-use Rattle.std.proofs.Common.{◌≡◌, ℕ, zero, suc, ◌+◌, ◌-◌, ◌<◌, ◌≤◌, List, [], ◌∷◌, ◌++◌, map, length, get_or, take, refl, sym, ap, subst, ◌∙◌, arith, inl, inr, lit≤}
+use Rattle.std.proofs.Common.{◌≡◌, ℕ, zero, suc, ◌+◌, ◌-◌, ◌<◌, ◌≤◌, List, [], ◌∷◌, ◌++◌, map, length, get_or, take, None, refl, sym, ap, subst, ◌∙◌, arith, inl, inr, lit≤}
 use Rattle.std.specs.Prelude.{All, AllPairs, IfSome, flat_map, filter_map, sum_by}
 use Rattle.std.specs.List.{AllZip}
 use Rattle.std.specs.List.Sorted.{IsNonDecreasingBy}
@@ -12,15 +12,29 @@ use Rattle.std.proofs.lemmas.List.Sums.{sum_by_push}
 use Rattle.metrics_core.specs.Keys.{KeyText}
 use Rattle.metrics_core.proofs.Lists.{AllZip-push}
 use Rattle.metrics_core.specs.declared.kinds.MetricKind.{MetricKind}
-use Rattle.drive_script.specs.Script.{ScriptText, RoundText, SetupLine, Register, Describe, CallLine, HeaderLine, ScriptLine, Header, Round, Setup, CallOf, IsLine, IsScript, sayable, header_lines, round_lines, only_globals, global_labels, SettingsText}
+use Rattle.drive_script.specs.Script.{ScriptText, RoundText, SetupLine, Register, Describe, CallLine, HeaderLine, ScriptLine, Header, Round, Setup, CallOf, IsLine, IsScript, Said, IsMeant, header_lines, round_lines, only_globals, global_labels, SettingsText}
 use Rattle.drive_script.specs.Valid.{Registration, registration_of, registered_in, registered, HasHandle, HaveHandles, sample_count, sample_total, PrintApart, IsValid, AreValidLines}
-use Rattle.drive_script.specs.Growth.{AddsHeader, BeginsRound, SetsUp, AddsCall, IsNext}
+use Rattle.drive_script.specs.Growth.{AddsHeader, BeginsRound, SetsUp, AddsCall, IsNext, with_header}
 use Rattle.drive_script.proofs.Forms.{one_reading}
-use Rattle.drive_script.proofs.HeaderGrowth.{last_of, header_behind, with_header_sayable, HeaderLast, no_header, last_one, header_last, before_sayable, no_header_said}
+use Rattle.drive_script.proofs.HeaderGrowth.{last_of, header_behind, still_meant, HeaderLast, no_header, last_one, header_last, nothing_said, no_header_said}
 
--- the lines are this valid script
-abbrev pub Valid : List (List ℕ) → ScriptText → Type 0
-Valid lines script = IsScript lines script × IsValid script
+-- all lines of a script whose header lines say this of the mode and of the kind
+abbrev pub script_lines : Said → ScriptText → List ScriptLine
+script_lines said s = map Header (header_lines s.settings said) ++ flat_map round_lines s.rounds
+
+-- the lines are this script, and say this
+abbrev pub Saying : Said → List (List ℕ) → ScriptText → Type 0
+Saying said lines script = IsMeant said script.settings × AllZip IsLine lines (script_lines said script)
+
+-- the same, and the script is valid
+abbrev pub Valid : Said → List (List ℕ) → ScriptText → Type 0
+Valid said lines script = Saying said lines script × IsValid script
+
+pub valid_of : (lines : List (List ℕ)) (script : ScriptText) (h : IsScript lines script) → IsValid script → Valid h.said lines script
+valid_of lines script h valid = ((h.meant, h.each), valid)
+
+unfoldable pub script_of : (said : Said) (lines : List (List ℕ)) (script : ScriptText) → Saying said lines script → IsScript lines script
+script_of said lines script h = record { said = said; meant = h.0; each = h.1 }
 
 -- ---- lists that pair up, seen from their ends
 
@@ -58,37 +72,44 @@ call_said moment setup calls call = ap (λ l. Round moment ∷ l) (ap (λ l. map
 said_grown : (before : List RoundText) (old new : RoundText) (says : ScriptLine) → round_lines new ≡ round_lines old ++ says ∷ [] → lines_said (before ++ new ∷ []) ≡ lines_said (before ++ old ∷ []) ++ says ∷ []
 said_grown before old new says e = lines_push before new ∙ ap (λ l. lines_said before ++ l) e ∙ sym (append_assoc (lines_said before) (round_lines old) (says ∷ [])) ∙ ap (λ l. l ++ says ∷ []) (sym (lines_push before old))
 
--- all lines of a script
-abbrev script_lines : ScriptText → List ScriptLine
-script_lines s = map Header (header_lines s.settings) ++ lines_said s.rounds
-
 -- what the next line adds, where that is no header line
-rounds_next : (old new : ScriptText) (says : ScriptLine) → new.settings ≡ old.settings → lines_said new.rounds ≡ lines_said old.rounds ++ says ∷ [] → script_lines new ≡ script_lines old ++ says ∷ []
-rounds_next old new says settings e = (λ j. map Header (header_lines (settings j)) ++ e j) ∙ sym (append_assoc (map Header (header_lines old.settings)) (lines_said old.rounds) (says ∷ []))
+rounds_next : (said : Said) (old new : ScriptText) (says : ScriptLine) → new.settings ≡ old.settings → lines_said new.rounds ≡ lines_said old.rounds ++ says ∷ [] → script_lines said new ≡ script_lines said old ++ says ∷ []
+rounds_next said old new says settings e = (λ j. map Header (header_lines (settings j) said) ++ e j) ∙ sym (append_assoc (map Header (header_lines old.settings said)) (lines_said old.rounds) (says ∷ []))
+
+setup_next : (said : Said) (old new : ScriptText) (setup : SetupLine) → SetsUp old setup new → script_lines said new ≡ script_lines said old ++ Setup setup ∷ []
+setup_next said old new setup h =
+    let with_calls = λ (calls : List CallLine). round_lines (record { moment = h.round.moment; setup = h.round.setup ++ setup ∷ []; calls = calls }) in
+    let without = λ (calls : List CallLine). round_lines (record { moment = h.round.moment; setup = h.round.setup; calls = calls }) ++ Setup setup ∷ [] in
+    let round : round_lines (record h.round { setup = h.round.setup ++ setup ∷ [] }) ≡ round_lines h.round ++ Setup setup ∷ [] = ap with_calls h.no_call ∙ setup_said h.round.moment h.round.setup setup ∙ ap without (sym h.no_call) in
+    rounds_next said old new (Setup setup) (ap (λ (s : ScriptText). s.settings) h.grown)
+    (ap (λ (s : ScriptText). lines_said s.rounds) h.grown ∙ said_grown h.before h.round (record h.round { setup = h.round.setup ++ setup ∷ [] }) (Setup setup) round ∙ ap (λ r. lines_said r ++ Setup setup ∷ []) (sym h.last))
+
+call_next : (said : Said) (old new : ScriptText) (call : CallLine) → AddsCall old call new → script_lines said new ≡ script_lines said old ++ CallOf call ∷ []
+call_next said old new call h =
+    rounds_next said old new (CallOf call) (ap (λ (s : ScriptText). s.settings) h.grown)
+    (ap (λ (s : ScriptText). lines_said s.rounds) h.grown ∙ said_grown h.before h.round (record h.round { calls = h.round.calls ++ call ∷ [] }) (CallOf call) (call_said h.round.moment h.round.setup h.round.calls call)
+    ∙ ap (λ r. lines_said r ++ CallOf call ∷ []) (sym h.last))
+
+-- the header lines with one more
+pub header_next : (said later : Said) (old new : ScriptText) (line : HeaderLine) → AddsHeader said old line later new → header_lines new.settings later ≡ header_lines old.settings said ++ line ∷ []
+header_next said later old new line h = (λ j. header_lines (h.grown j).settings (h.told j)) ∙ header_behind old.settings said line h.order
 
 -- what the next line adds
-next_said : (old new : ScriptText) (says : ScriptLine) → IsNext old says new → script_lines new ≡ script_lines old ++ says ∷ []
-next_said old new (Header line) h =
-    let lines = header_lines old.settings in
-    ap script_lines h.grown
-    ∙ (λ j. map Header (header_behind old.settings line h.order j) ++ lines_said (h.no_round j))
+next_said : (said later : Said) (old new : ScriptText) (says : ScriptLine) → IsNext said old says later new → script_lines later new ≡ script_lines said old ++ says ∷ []
+next_said said later old new (Header line) h =
+    let lines = header_lines old.settings said in
+    (λ j. map Header (header_next said later old new line h j) ++ lines_said (h.grown j).rounds)
+    ∙ ap (λ rs. map Header (lines ++ line ∷ []) ++ lines_said rs) h.no_round
     ∙ append_nil_map (lines ++ line ∷ []) ∙ map_push Header lines line
     ∙ ap (λ l. l ++ Header line ∷ []) (sym (append_nil_map lines) ∙ ap (λ rs. map Header lines ++ lines_said rs) (sym h.no_round))
   where
     append_nil_map : (lines : List HeaderLine) → map Header lines ++ lines_said [] ≡ map Header lines
     append_nil_map lines = append-nil (map Header lines)
-next_said old new (Round moment) h =
-    rounds_next old new (Round moment) (ap (λ (s : ScriptText). s.settings) h.grown) (ap (λ (s : ScriptText). lines_said s.rounds) h.grown ∙ lines_push old.rounds (record { moment = moment; setup = []; calls = [] }))
-next_said old new (Setup setup) h =
-    let with_calls = λ (calls : List CallLine). round_lines (record { moment = h.round.moment; setup = h.round.setup ++ setup ∷ []; calls = calls }) in
-    let without = λ (calls : List CallLine). round_lines (record { moment = h.round.moment; setup = h.round.setup; calls = calls }) ++ Setup setup ∷ [] in
-    let round : round_lines (record h.round { setup = h.round.setup ++ setup ∷ [] }) ≡ round_lines h.round ++ Setup setup ∷ [] = ap with_calls h.no_call ∙ setup_said h.round.moment h.round.setup setup ∙ ap without (sym h.no_call) in
-    rounds_next old new (Setup setup) (ap (λ (s : ScriptText). s.settings) h.grown)
-    (ap (λ (s : ScriptText). lines_said s.rounds) h.grown ∙ said_grown h.before h.round (record h.round { setup = h.round.setup ++ setup ∷ [] }) (Setup setup) round ∙ ap (λ r. lines_said r ++ Setup setup ∷ []) (sym h.last))
-next_said old new (CallOf call) h =
-    rounds_next old new (CallOf call) (ap (λ (s : ScriptText). s.settings) h.grown)
-    (ap (λ (s : ScriptText). lines_said s.rounds) h.grown ∙ said_grown h.before h.round (record h.round { calls = h.round.calls ++ call ∷ [] }) (CallOf call) (call_said h.round.moment h.round.setup h.round.calls call)
-    ∙ ap (λ r. lines_said r ++ CallOf call ∷ []) (sym h.last))
+next_said said later old new (Round moment) (same, h) =
+    ap (λ t. script_lines t new) same
+    ∙ rounds_next said old new (Round moment) (ap (λ (s : ScriptText). s.settings) h.grown) (ap (λ (s : ScriptText). lines_said s.rounds) h.grown ∙ lines_push old.rounds (record { moment = moment; setup = []; calls = [] }))
+next_said said later old new (Setup setup) (same, h) = ap (λ t. script_lines t new) same ∙ setup_next said old new setup h
+next_said said later old new (CallOf call) (same, h) = ap (λ t. script_lines t new) same ∙ call_next said old new call h
 
 -- ---- samples
 
@@ -213,14 +234,20 @@ abbrev registrations_of : SetupLine → List Registration
 registrations_of (Register kind key) = record { kind = kind; key = key } ∷ []
 registrations_of (Describe kind name unit text) = []
 
+-- a setup line that describes registers nothing
+pub none_described : (old new : ScriptText) (before : List RoundText) (round : RoundText) (line : SetupLine) → registration_of line ≡ None → old.rounds ≡ before ++ round ∷ [] → new ≡ record old { rounds = before ++ record round { setup = round.setup ++ line ∷ [] } ∷ [] }
+    → registered new ≡ registered old
+none_described old new before round (Register kind key) none last grown = absurd cc
+none_described old new before round (Describe kind name unit text) none last grown =
+    ap (λ (s : ScriptText). registered s) grown
+    ∙ registered_push before (record round { setup = round.setup ++ Describe kind name unit text ∷ [] })
+    ∙ ap (λ rs. flat_map registered_in before ++ rs) (filter_map-append registration_of round.setup (Describe kind name unit text ∷ []) ∙ append-nil (registered_in round))
+    ∙ sym (registered_push before round) ∙ ap (flat_map registered_in) (sym last)
+
 -- what a setup line registers stands behind the others
 setup_registered : (old new : ScriptText) (setup : SetupLine) → SetsUp old setup new → registered new ≡ registered old ++ registrations_of setup
 setup_registered old new (Register kind key) h = one_registered old new h.before h.round kind key h.last h.grown
-setup_registered old new (Describe kind name unit text) h =
-    ap (λ (s : ScriptText). registered s) h.grown
-    ∙ registered_push h.before (record h.round { setup = h.round.setup ++ Describe kind name unit text ∷ [] })
-    ∙ ap (λ rs. flat_map registered_in h.before ++ rs) (filter_map-append registration_of h.round.setup (Describe kind name unit text ∷ []) ∙ append-nil (registered_in h.round))
-    ∙ sym (registered_push h.before h.round) ∙ ap (flat_map registered_in) (sym h.last) ∙ sym (append-nil (registered old))
+setup_registered old new (Describe kind name unit text) h = none_described old new h.before h.round (Describe kind name unit text) refl h.last h.grown ∙ sym (append-nil (registered old))
 
 -- a round line registers nothing
 pub round_registered : (old new : ScriptText) (moment : ℕ) → BeginsRound old moment new → registered new ≡ registered old
@@ -228,20 +255,23 @@ round_registered old new moment h = ap (λ (s : ScriptText). registered s) h.gro
 
 -- ---- one more line
 
--- the settings without header lines are as they were
-next_settings : (old new : ScriptText) (says : ScriptLine) → IsNext old says new → old.settings ≡ sayable old.settings → new.settings ≡ sayable new.settings
-next_settings old new (Header line) h plain =
-    subst (λ (s : SettingsText). s ≡ sayable s) (sym (ap (λ (s : ScriptText). s.settings) h.grown)) (with_header_sayable old.settings line plain)
-next_settings old new (Round moment) h plain = subst (λ (s : SettingsText). s ≡ sayable s) (sym (ap (λ (s : ScriptText). s.settings) h.grown)) plain
-next_settings old new (Setup setup) h plain = subst (λ (s : SettingsText). s ≡ sayable s) (sym (ap (λ (s : ScriptText). s.settings) h.grown)) plain
-next_settings old new (CallOf call) h plain = subst (λ (s : SettingsText). s ≡ sayable s) (sym (ap (λ (s : ScriptText). s.settings) h.grown)) plain
+-- the settings have still the mode and the kind that are said
+next_meant : (said later : Said) (old new : ScriptText) (says : ScriptLine) → IsNext said old says later new → IsMeant said old.settings → IsMeant later new.settings
+next_meant said later old new (Header line) h meant =
+    subst (λ (s : ScriptText). IsMeant later s.settings) (sym h.grown) (subst (λ t. IsMeant t (with_line old line)) (sym h.told) (still_meant old.settings said line meant))
+  where
+    with_line : ScriptText → HeaderLine → SettingsText
+    with_line s line = with_header s.settings line
+next_meant said later old new (Round moment) (same, h) meant = subst (λ (s : ScriptText). IsMeant later s.settings) (sym h.grown) (subst (λ t. IsMeant t old.settings) (sym same) meant)
+next_meant said later old new (Setup setup) (same, h) meant = subst (λ (s : ScriptText). IsMeant later s.settings) (sym h.grown) (subst (λ t. IsMeant t old.settings) (sym same) meant)
+next_meant said later old new (CallOf call) (same, h) meant = subst (λ (s : ScriptText). IsMeant later s.settings) (sym h.grown) (subst (λ t. IsMeant t old.settings) (sym same) meant)
 
 same_length : {A : Type 0} (xs : List A) (x y : A) → length (xs ++ x ∷ []) ≡ length (xs ++ y ∷ [])
 same_length xs x y = length_push xs x ∙ sym (length_push xs y)
 
 -- without rounds there are no moments, handles and registrations to speak of
-new_no_rounds : (old new : ScriptText) (line : HeaderLine) → AddsHeader old line new → new.rounds ≡ []
-new_no_rounds old new line h = ap (λ (s : ScriptText). s.rounds) h.grown ∙ h.no_round
+new_no_rounds : (said later : Said) (old new : ScriptText) (line : HeaderLine) → AddsHeader said old line later new → new.rounds ≡ []
+new_no_rounds said later old new line h = ap (λ (s : ScriptText). s.rounds) h.grown ∙ h.no_round
 
 no_moments : (rounds : List RoundText) → rounds ≡ [] → Sorted rounds
 no_moments rounds none = IsNonDecreasingBy-short (λ (r : RoundText). r.moment) rounds (omega (arith, ap length none))
@@ -249,17 +279,17 @@ no_moments rounds none = IsNonDecreasingBy-short (λ (r : RoundText). r.moment) 
 no_pairs : (R : Registration → Registration → Type 0) (rs : List Registration) → rs ≡ [] → AllPairs R rs
 no_pairs R rs none = λ i j d before within. absurd (omega (arith, within, ap length none))
 
-next_moments : (old new : ScriptText) (says : ScriptLine) → IsNext old says new → Sorted old.rounds → Sorted new.rounds
-next_moments old new (Header line) h sorted = no_moments new.rounds (new_no_rounds old new line h)
-next_moments old new (Round moment) h sorted = subst (λ (s : ScriptText). Sorted s.rounds) (sym h.grown) (sorted_push old.rounds (record { moment = moment; setup = []; calls = [] }) sorted h.not_before)
-next_moments old new (Setup setup) h sorted = subst (λ (s : ScriptText). Sorted s.rounds) (sym h.grown) (sorted_same h.before h.round (record h.round { setup = h.round.setup ++ setup ∷ [] }) refl (subst Sorted h.last sorted))
-next_moments old new (CallOf call) h sorted = subst (λ (s : ScriptText). Sorted s.rounds) (sym h.grown) (sorted_same h.before h.round (record h.round { calls = h.round.calls ++ call ∷ [] }) refl (subst Sorted h.last sorted))
+next_moments : (said later : Said) (old new : ScriptText) (says : ScriptLine) → IsNext said old says later new → Sorted old.rounds → Sorted new.rounds
+next_moments said later old new (Header line) h sorted = no_moments new.rounds (new_no_rounds said later old new line h)
+next_moments said later old new (Round moment) (same, h) sorted = subst (λ (s : ScriptText). Sorted s.rounds) (sym h.grown) (sorted_push old.rounds (record { moment = moment; setup = []; calls = [] }) sorted h.not_before)
+next_moments said later old new (Setup setup) (same, h) sorted = subst (λ (s : ScriptText). Sorted s.rounds) (sym h.grown) (sorted_same h.before h.round (record h.round { setup = h.round.setup ++ setup ∷ [] }) refl (subst Sorted h.last sorted))
+next_moments said later old new (CallOf call) (same, h) sorted = subst (λ (s : ScriptText). Sorted s.rounds) (sym h.grown) (sorted_same h.before h.round (record h.round { calls = h.round.calls ++ call ∷ [] }) refl (subst Sorted h.last sorted))
 
-next_registrations : (old new : ScriptText) (says : ScriptLine) → IsNext old says new → length (registered old) ≤ 1000000 → length (registered new) ≤ 1000000
-next_registrations old new (Header line) h few = let e : length (registered new) ≡ 0 = ap (λ rs. length (flat_map registered_in rs)) (new_no_rounds old new line h) in omega arith
-next_registrations old new (Round moment) h few = omega (arith, few, ap length (round_registered old new moment h))
-next_registrations old new (Setup setup) h few = h.room
-next_registrations old new (CallOf call) h few =
+next_registrations : (said later : Said) (old new : ScriptText) (says : ScriptLine) → IsNext said old says later new → length (registered old) ≤ 1000000 → length (registered new) ≤ 1000000
+next_registrations said later old new (Header line) h few = let e : length (registered new) ≡ 0 = ap (λ rs. length (flat_map registered_in rs)) (new_no_rounds said later old new line h) in omega arith
+next_registrations said later old new (Round moment) (same, h) few = omega (arith, few, ap length (round_registered old new moment h))
+next_registrations said later old new (Setup setup) (same, h) few = h.room
+next_registrations said later old new (CallOf call) (same, h) few =
     let e : length (registered new) ≡ length (registered old) = ap length (none_registered old new call h) in omega arith
 
 abbrev Apart : ScriptText → List Registration → Type 0
@@ -268,27 +298,27 @@ Apart s rs = AllPairs (PrintApart (global_labels s.settings)) rs
 same_apart : (old new : ScriptText) → new.settings ≡ old.settings → registered new ≡ registered old → Apart old (registered old) → Apart new (registered new)
 same_apart old new settings same apart = subst (λ (s : SettingsText). AllPairs (PrintApart (global_labels s)) (registered new)) (sym settings) (subst (Apart old) (sym same) apart)
 
-next_heads : (old new : ScriptText) (says : ScriptLine) → IsNext old says new → Apart old (registered old) → Apart new (registered new)
-next_heads old new (Header line) h apart = no_pairs (PrintApart (global_labels new.settings)) (registered new) (ap (flat_map registered_in) (new_no_rounds old new line h))
-next_heads old new (Round moment) h apart = same_apart old new (ap (λ (s : ScriptText). s.settings) h.grown) (round_registered old new moment h) apart
-next_heads old new (Setup (Describe kind name unit text)) h apart =
+next_heads : (said later : Said) (old new : ScriptText) (says : ScriptLine) → IsNext said old says later new → Apart old (registered old) → Apart new (registered new)
+next_heads said later old new (Header line) h apart = no_pairs (PrintApart (global_labels new.settings)) (registered new) (ap (flat_map registered_in) (new_no_rounds said later old new line h))
+next_heads said later old new (Round moment) (same, h) apart = same_apart old new (ap (λ (s : ScriptText). s.settings) h.grown) (round_registered old new moment h) apart
+next_heads said later old new (Setup (Describe kind name unit text)) (same, h) apart =
     same_apart old new (ap (λ (s : ScriptText). s.settings) h.grown) (setup_registered old new (Describe kind name unit text) h ∙ append-nil (registered old)) apart
-next_heads old new (Setup (Register kind key)) h apart =
+next_heads said later old new (Setup (Register kind key)) (same, h) apart =
     subst (λ (s : SettingsText). AllPairs (PrintApart (global_labels s)) (registered new)) (sym (ap (λ (s : ScriptText). s.settings) h.grown))
     (subst (Apart old) (sym (setup_registered old new (Register kind key) h)) (pairs_push (PrintApart (global_labels old.settings)) (registered old) (record { kind = kind; key = key }) apart h.apart))
-next_heads old new (CallOf call) h apart = same_apart old new (ap (λ (s : ScriptText). s.settings) h.grown) (none_registered old new call h) apart
+next_heads said later old new (CallOf call) (same, h) apart = same_apart old new (ap (λ (s : ScriptText). s.settings) h.grown) (none_registered old new call h) apart
 
-next_handles : (old new : ScriptText) (says : ScriptLine) → IsNext old says new → HaveHandles [] old.rounds → HaveHandles [] new.rounds
-next_handles old new (Header line) h handles = subst (HaveHandles []) (sym (new_no_rounds old new line h)) tt
-next_handles old new (Round moment) h handles =
+next_handles : (said later : Said) (old new : ScriptText) (says : ScriptLine) → IsNext said old says later new → HaveHandles [] old.rounds → HaveHandles [] new.rounds
+next_handles said later old new (Header line) h handles = subst (HaveHandles []) (sym (new_no_rounds said later old new line h)) tt
+next_handles said later old new (Round moment) (same, h) handles =
     let round : RoundText = record { moment = moment; setup = []; calls = [] } in
     subst (λ (s : ScriptText). HaveHandles [] s.rounds) (sym h.grown) (handles_push [] old.rounds round handles (All-nil (HasHandle (flat_map registered_in (old.rounds ++ round ∷ [])))))
-next_handles old new (Setup setup) h handles =
+next_handles said later old new (Setup setup) (same, h) handles =
     let parts = handles_last [] h.before h.round (subst (HaveHandles []) h.last handles) in
     let round : RoundText = record h.round { setup = h.round.setup ++ setup ∷ [] } in
     let P : CallLine → Type 0 = HasHandle (flat_map registered_in (h.before ++ round ∷ [])) in
     subst (λ (s : ScriptText). HaveHandles [] s.rounds) (sym h.grown) (handles_push [] h.before round parts.0 (subst (All P) (sym h.no_call) (All-nil P)))
-next_handles old new (CallOf call) h handles =
+next_handles said later old new (CallOf call) (same, h) handles =
     let parts = handles_last [] h.before h.round (subst (HaveHandles []) h.last handles) in
     let round : RoundText = record h.round { calls = h.round.calls ++ call ∷ [] } in
     let same : flat_map registered_in (h.before ++ h.round ∷ []) ≡ flat_map registered_in (h.before ++ round ∷ []) = same_registered h.before h.round round refl in
@@ -297,54 +327,53 @@ next_handles old new (CallOf call) h handles =
     let others : All P h.round.calls = subst (λ rs. All (HasHandle rs) h.round.calls) same parts.1 in
     subst (λ (s : ScriptText). HaveHandles [] s.rounds) (sym h.grown) (handles_push [] h.before round parts.0 (All-push P h.round.calls call others last))
 
-next_samples : (old new : ScriptText) (says : ScriptLine) → IsNext old says new → sample_total old ≤ 16777216 → sample_total new ≤ 16777216
-next_samples old new (Header line) h few = let e : sample_total new ≡ 0 = ap samples_in (new_no_rounds old new line h) in omega (arith, e)
-next_samples old new (Round moment) h few = omega (arith, few, round_samples old new moment h)
-next_samples old new (Setup setup) h few = omega (arith, few, setup_samples old new setup h)
-next_samples old new (CallOf call) h few = h.room
+next_samples : (said later : Said) (old new : ScriptText) (says : ScriptLine) → IsNext said old says later new → sample_total old ≤ 16777216 → sample_total new ≤ 16777216
+next_samples said later old new (Header line) h few = let e : sample_total new ≡ 0 = ap samples_in (new_no_rounds said later old new line h) in omega (arith, e)
+next_samples said later old new (Round moment) (same, h) few = omega (arith, few, round_samples old new moment h)
+next_samples said later old new (Setup setup) (same, h) few = omega (arith, few, setup_samples old new setup h)
+next_samples said later old new (CallOf call) (same, h) few = h.room
 
 -- behind the lines of a valid script its next line makes a valid script
-pub next_valid : (lines : List (List ℕ)) (line : List ℕ) (old new : ScriptText) (says : ScriptLine) → Valid lines old → IsLine line says → IsNext old says new → Valid (lines ++ line ∷ []) new
-next_valid lines line old new says h is_line next =
-    let each : AllZip IsLine (lines ++ line ∷ []) (script_lines new) = subst (AllZip IsLine (lines ++ line ∷ [])) (sym (next_said old new says next)) (AllZip-push IsLine lines (script_lines old) line says h.0.each is_line) in
-    let script : IsScript (lines ++ line ∷ []) new = record { settings = next_settings old new says next h.0.settings; each = each } in (
-      script,
+pub next_valid : (said later : Said) (lines : List (List ℕ)) (line : List ℕ) (old new : ScriptText) (says : ScriptLine) → Valid said lines old → IsLine line says → IsNext said old says later new → Valid later (lines ++ line ∷ []) new
+next_valid said later lines line old new says h is_line next =
+    let each : AllZip IsLine (lines ++ line ∷ []) (script_lines later new) = subst (AllZip IsLine (lines ++ line ∷ [])) (sym (next_said said later old new says next)) (AllZip-push IsLine lines (script_lines said old) line says h.0.1 is_line) in (
+      (next_meant said later old new says next h.0.0, each),
       record {
-        moments = next_moments old new says next h.1.moments;
-        handles = next_handles old new says next h.1.handles;
-        registrations = next_registrations old new says next h.1.registrations;
-        samples = next_samples old new says next h.1.samples;
-        heads = next_heads old new says next h.1.heads;
+        moments = next_moments said later old new says next h.1.moments;
+        handles = next_handles said later old new says next h.1.handles;
+        registrations = next_registrations said later old new says next h.1.registrations;
+        samples = next_samples said later old new says next h.1.samples;
+        heads = next_heads said later old new says next h.1.heads;
       },
     )
 
 -- ---- the last line
 
 -- the script without its last line, and what that line says
-pub record Last (lines : List (List ℕ)) (line : List ℕ) (new : ScriptText) : Type 0 where
+pub record Last (later : Said) (lines : List (List ℕ)) (line : List ℕ) (new : ScriptText) : Type 0 where
+  pub said : Said
   pub old : ScriptText
   pub says : ScriptLine
-  pub valid : Valid lines old
+  pub valid : Valid said lines old
   pub is_line : IsLine line says
-  pub next : IsNext old says new
+  pub next : IsNext said old says later new
 
 -- what is valid of a script beside its lines
-record Fine (s : ScriptText) : Type 0 where
-  settings : s.settings ≡ sayable s.settings
+record Fine (said : Said) (s : ScriptText) : Type 0 where
+  meant : IsMeant said s.settings
   moments : Sorted s.rounds
   handles : HaveHandles [] s.rounds
   registrations : length (registered s) ≤ 1000000
   samples : sample_total s ≤ 16777216
   heads : Apart s (registered s)
 
-make_last : (lines : List (List ℕ)) (line : List ℕ) (new old : ScriptText) (says : ScriptLine) → Valid (lines ++ line ∷ []) new → IsNext old says new → Fine old → Last lines line new
-make_last lines line new old says h next fine =
-    let each = zip_last IsLine lines (script_lines old) line says (subst (AllZip IsLine (lines ++ line ∷ [])) (next_said old new says next) h.0.each) in
-    let script : IsScript lines old = record { settings = fine.settings; each = each.0 } in
+make_last : (said later : Said) (lines : List (List ℕ)) (line : List ℕ) (new old : ScriptText) (says : ScriptLine) → Valid later (lines ++ line ∷ []) new → IsNext said old says later new → Fine said old → Last later lines line new
+make_last said later lines line new old says h next fine =
+    let each = zip_last IsLine lines (script_lines said old) line says (subst (AllZip IsLine (lines ++ line ∷ [])) (next_said said later old new says next) h.0.1) in
     let valid : IsValid old = record { moments = fine.moments; handles = fine.handles; registrations = fine.registrations; samples = fine.samples; heads = fine.heads } in
-    record { old = old; says = says; valid = (script, valid); is_line = each.1; next = next }
+    record { said = said; old = old; says = says; valid = ((fine.meant, each.0), valid); is_line = each.1; next = next }
 
-module _ (lines : List (List ℕ)) (line : List ℕ) (new : ScriptText) (h : Valid (lines ++ line ∷ []) new) (before : List RoundText) (round : RoundText) (e : new.rounds ≡ before ++ round ∷ []) where
+module _ (said : Said) (lines : List (List ℕ)) (line : List ℕ) (new : ScriptText) (h : Valid said (lines ++ line ∷ []) new) (before : List RoundText) (round : RoundText) (e : new.rounds ≡ before ++ round ∷ []) where
   few_registered : length (flat_map registered_in (before ++ round ∷ [])) ≤ 1000000
   few_registered = subst (λ rs. length (flat_map registered_in rs) ≤ 1000000) e h.1.registrations
 
@@ -357,7 +386,7 @@ module _ (lines : List (List ℕ)) (line : List ℕ) (new : ScriptText) (h : Val
   apart : Apart new (flat_map registered_in (before ++ round ∷ []))
   apart = subst (λ rs. Apart new (flat_map registered_in rs)) e h.1.heads
 
-  last_call : (calls : List CallLine) (call : CallLine) → round.calls ≡ calls ++ call ∷ [] → Last lines line new
+  last_call : (calls : List CallLine) (call : CallLine) → round.calls ≡ calls ++ call ∷ [] → Last said lines line new
   last_call calls call f =
       let earlier : RoundText = record round { calls = calls } in
       let old : ScriptText = record new { rounds = before ++ earlier ∷ [] } in
@@ -367,9 +396,9 @@ module _ (lines : List (List ℕ)) (line : List ℕ) (new : ScriptText) (h : Val
       let all : All P (calls ++ call ∷ []) = subst (All P) f (subst (λ rs. All (HasHandle rs) round.calls) same parts.1) in
       let grown : new ≡ record old { rounds = before ++ record earlier { calls = calls ++ call ∷ [] } ∷ [] } = ap (λ rs. record new { rounds = rs }) (e ∙ ap (λ cs. before ++ record round { calls = cs } ∷ []) f) in
       let next : AddsCall old call new = record { before = before; round = earlier; last = refl; grown = grown; handle = last_all P calls call all; room = h.1.samples } in
-      make_last lines line new old (CallOf call) h next
+      make_last said said lines line new old (CallOf call) h (refl, next)
       (record {
-        settings = h.0.settings;
+        meant = h.0.0;
         moments = sorted_same before round earlier refl sorted;
         handles = handles_push [] before earlier parts.0 (front_all P calls call all);
         registrations = omega (arith, few_registered, ap length same);
@@ -377,7 +406,7 @@ module _ (lines : List (List ℕ)) (line : List ℕ) (new : ScriptText) (h : Val
         heads = subst (Apart new) same apart;
       })
 
-  last_setup : (setup : List SetupLine) (last : SetupLine) → round.calls ≡ [] → round.setup ≡ setup ++ last ∷ [] → Last lines line new
+  last_setup : (setup : List SetupLine) (last : SetupLine) → round.calls ≡ [] → round.setup ≡ setup ++ last ∷ [] → Last said lines line new
   last_setup setup last g f =
       let earlier : RoundText = record { moment = round.moment; setup = setup; calls = [] } in
       let old : ScriptText = record new { rounds = before ++ earlier ∷ [] } in
@@ -391,9 +420,9 @@ module _ (lines : List (List ℕ)) (line : List ℕ) (new : ScriptText) (h : Val
       ∙ ap (λ rs. rs ++ filter_map registration_of (last ∷ [])) (sym (registered_push before earlier)) in
       let both = heads_split last (registered old) (subst (Apart new) all_registered apart) in
       let next : SetsUp old last new = record { before = before; round = earlier; last = refl; no_call = refl; grown = grown; room = h.1.registrations; apart = both.1 } in
-      make_last lines line new old (Setup last) h next
+      make_last said said lines line new old (Setup last) h (refl, next)
       (record {
-        settings = h.0.settings;
+        meant = h.0.0;
         moments = sorted_same before round earlier refl sorted;
         handles = handles_push [] before earlier parts.0 (All-nil (HasHandle (registered old)));
         registrations = omega (arith, few_registered, ap length all_registered, length-append (registered old) (filter_map registration_of (last ∷ [])));
@@ -405,7 +434,7 @@ module _ (lines : List (List ℕ)) (line : List ℕ) (new : ScriptText) (h : Val
       heads_split (Register kind key) rs pairs = (pairs_front (PrintApart (global_labels new.settings)) rs (record { kind = kind; key = key }) pairs, pairs_last (PrintApart (global_labels new.settings)) rs (record { kind = kind; key = key }) pairs)
       heads_split (Describe kind name unit text) rs pairs = (subst (Apart new) (append-nil rs) pairs, tt)
 
-  last_round : round.calls ≡ [] → round.setup ≡ [] → Last lines line new
+  last_round : round.calls ≡ [] → round.setup ≡ [] → Last said lines line new
   last_round g f =
       let old : ScriptText = record new { rounds = before } in
       let parts = handles_last [] before round (subst (HaveHandles []) e h.1.handles) in
@@ -414,9 +443,9 @@ module _ (lines : List (List ℕ)) (line : List ℕ) (new : ScriptText) (h : Val
         not_before = sorted_last before round sorted;
         grown = ap (λ rs. record new { rounds = rs }) (e ∙ ap (λ s. before ++ record round { setup = s } ∷ []) f ∙ ap (λ cs. before ++ record { moment = round.moment; setup = []; calls = cs } ∷ []) g);
       } in
-      make_last lines line new old (Round round.moment) h next
+      make_last said said lines line new old (Round round.moment) h (refl, next)
       (record {
-        settings = h.0.settings;
+        meant = h.0.0;
         moments = sorted_front before round sorted;
         handles = parts.0;
         registrations = omega (arith, few_registered, ap length same);
@@ -424,7 +453,7 @@ module _ (lines : List (List ℕ)) (line : List ℕ) (new : ScriptText) (h : Val
         heads = subst (Apart new) same apart;
       })
 
-  last_of_round : Last lines line new
+  last_of_round : Last said lines line new
   last_of_round =
       elim (last_of round.calls) [
         | inr (calls, call, f) ↦ last_call calls call f
@@ -432,83 +461,98 @@ module _ (lines : List (List ℕ)) (line : List ℕ) (new : ScriptText) (h : Val
       ]
 
 -- without rounds the last line is a header line
-last_header : (lines : List (List ℕ)) (line : List ℕ) (new : ScriptText) → Valid (lines ++ line ∷ []) new → new.rounds ≡ [] → Last lines line new
-last_header lines line new h none = by (header_last new.settings)
+last_header : (said : Said) (lines : List (List ℕ)) (line : List ℕ) (new : ScriptText) → Valid said (lines ++ line ∷ []) new → new.rounds ≡ [] → Last said lines line new
+last_header said lines line new h none = by (header_last new.settings said h.0.0)
   where
-    by : HeaderLast new.settings → Last lines line new
-    by (no_header e) = absurd (zip_no_more IsLine lines line (subst (AllZip IsLine (lines ++ line ∷ [])) (λ j. map Header (e j) ++ lines_said (none j)) h.0.each))
-    by (last_one before says order grown) =
+    by : HeaderLast new.settings said → Last said lines line new
+    by (no_header e) = absurd (zip_no_more IsLine lines line (subst (AllZip IsLine (lines ++ line ∷ [])) (λ j. map Header (e j) ++ lines_said (none j)) h.0.1))
+    by (last_one before earlier says meant order grown told) =
         let old : ScriptText = record { settings = before; rounds = [] } in
-        let next : AddsHeader old says new = record { no_round = refl; order = order; grown = λ j. record { settings = grown j; rounds = none j } } in
-        let plain : before ≡ sayable before = before_sayable before says (subst (λ (s : SettingsText). s ≡ sayable s) grown h.0.settings) in
-        make_last lines line new old (Header says) h next
-        (record { settings = plain; moments = no_moments [] refl; handles = tt; registrations = lit≤ tt; samples = lit≤ tt; heads = no_pairs (PrintApart (global_labels before)) [] refl })
+        let next : AddsHeader earlier old says said new = record { no_round = refl; order = order; told = told; grown = λ j. record { settings = grown j; rounds = none j } } in
+        make_last earlier said lines line new old (Header says) h next
+        (record { meant = meant; moments = no_moments [] refl; handles = tt; registrations = lit≤ tt; samples = lit≤ tt; heads = no_pairs (PrintApart (global_labels before)) [] refl })
 
-pub last_line : (lines : List (List ℕ)) (line : List ℕ) (new : ScriptText) → Valid (lines ++ line ∷ []) new → Last lines line new
-last_line lines line new h =
-    elim (last_of new.rounds) [ inl e ↦ last_header lines line new h e | inr (before, round, e) ↦ last_of_round lines line new h before round e ]
+pub last_line : (said : Said) (lines : List (List ℕ)) (line : List ℕ) (new : ScriptText) → Valid said (lines ++ line ∷ []) new → Last said lines line new
+last_line said lines line new h =
+    elim (last_of new.rounds) [ inl e ↦ last_header said lines line new h e | inr (before, round, e) ↦ last_of_round said lines line new h before round e ]
 
 -- ---- lines are one script at most
 
-next_one : (old : ScriptText) (says : ScriptLine) (new other : ScriptText) → IsNext old says new → IsNext old says other → new ≡ other
-next_one old (Header line) new other a b = a.grown ∙ sym b.grown
-next_one old (Round moment) new other a b = a.grown ∙ sym b.grown
-next_one old (Setup setup) new other a b =
+setup_one : (old : ScriptText) (setup : SetupLine) (new other : ScriptText) → SetsUp old setup new → SetsUp old setup other → new ≡ other
+setup_one old setup new other a b =
     let same = same_from_push a.before b.before a.round b.round (sym a.last ∙ b.last) in
     a.grown ∙ ap (λ rs. record old { rounds = rs ++ record a.round { setup = a.round.setup ++ setup ∷ [] } ∷ [] }) same.0 ∙ ap (λ (r : RoundText). record old { rounds = b.before ++ record r { setup = r.setup ++ setup ∷ [] } ∷ [] }) same.1 ∙ sym b.grown
-next_one old (CallOf call) new other a b =
+
+call_one : (old : ScriptText) (call : CallLine) (new other : ScriptText) → AddsCall old call new → AddsCall old call other → new ≡ other
+call_one old call new other a b =
     let same = same_from_push a.before b.before a.round b.round (sym a.last ∙ b.last) in
     a.grown ∙ ap (λ rs. record old { rounds = rs ++ record a.round { calls = a.round.calls ++ call ∷ [] } ∷ [] }) same.0 ∙ ap (λ (r : RoundText). record old { rounds = b.before ++ record r { calls = r.calls ++ call ∷ [] } ∷ [] }) same.1 ∙ sym b.grown
+
+-- a script, and what its header lines say
+abbrev SaidScript : Type 0
+SaidScript = Said × ScriptText
+
+next_one : (said : Said) (old : ScriptText) (says : ScriptLine) (later other : Said) (new another : ScriptText) → IsNext said old says later new → IsNext said old says other another → ◌≡◌ {A = SaidScript} (later, new) (other, another)
+next_one said old (Header line) later other new another a b = λ j. ((a.told ∙ sym b.told) j, (a.grown ∙ sym b.grown) j)
+next_one said old (Round moment) later other new another (s, a) (t, b) = λ j. ((s ∙ sym t) j, (a.grown ∙ sym b.grown) j)
+next_one said old (Setup setup) later other new another (s, a) (t, b) = λ j. ((s ∙ sym t) j, setup_one old setup new another a b j)
+next_one said old (CallOf call) later other new another (s, a) (t, b) = λ j. ((s ∙ sym t) j, call_one old call new another a b j)
 
 no_rounds : (rounds : List RoundText) → AllZip IsLine [] (lines_said rounds) → rounds ≡ []
 no_rounds [] h = refl
 no_rounds (r ∷ rounds) h = absurd h
 
-no_lines : (script : ScriptText) → IsScript [] script → script ≡ record { settings = only_globals []; rounds = [] }
-no_lines script h =
-    let none = zip_nothing (map Header (header_lines script.settings)) (lines_said script.rounds) h.each in
-    (λ j. record { settings = (h.settings ∙ no_header_said script.settings none.0) j; rounds = no_rounds script.rounds none.1 j })
+no_lines : (said : Said) (script : ScriptText) → Saying said [] script → ◌≡◌ {A = SaidScript} (said, script) (nothing_said, record { settings = only_globals []; rounds = [] })
+no_lines said script h =
+    let none = zip_nothing (map Header (header_lines script.settings said)) (lines_said script.rounds) h.1 in
+    let unsaid = no_header_said script.settings said h.0 none.0 in
+    λ j. (unsaid.1 j, record { settings = unsaid.0 j; rounds = no_rounds script.rounds none.1 j })
   where
     zip_nothing : (says others : List ScriptLine) → AllZip IsLine [] (says ++ others) → (says ≡ []) × AllZip IsLine [] others
     zip_nothing [] others h = (refl, h)
     zip_nothing (s ∷ says) others h = absurd h
 
-one_script_of : (n : ℕ) (lines : List (List ℕ)) (s t : ScriptText) → length lines ≡ n → Valid lines s → Valid lines t → s ≡ t
-one_script_of zero lines s t len a b =
+one_script_of : (n : ℕ) (lines : List (List ℕ)) (said other : Said) (s t : ScriptText) → length lines ≡ n → Valid said lines s → Valid other lines t → ◌≡◌ {A = SaidScript} (said, s) (other, t)
+one_script_of zero lines said other s t len a b =
     let none : lines ≡ [] = nil_from_length lines len in
-    no_lines s (subst (λ ls. IsScript ls s) none a.0) ∙ sym (no_lines t (subst (λ ls. IsScript ls t) none b.0))
-one_script_of (suc n) lines s t len a b =
+    no_lines said s (subst (λ ls. Saying said ls s) none a.0) ∙ sym (no_lines other t (subst (λ ls. Saying other ls t) none b.0))
+one_script_of (suc n) lines said other s t len a b =
     elim (last_of lines) [
       | inl e ↦ absurd (omega (arith, len, ap length e))
       | inr (front, line, e) ↦
-          let x = last_line front line s (subst (λ ls. Valid ls s) e a) in
-          let y = last_line front line t (subst (λ ls. Valid ls t) e b) in
-          let old : x.old ≡ y.old = one_script_of n front x.old y.old (omega (arith, len, ap length e, length_push front line)) x.valid y.valid in
+          let x = last_line said front line s (subst (λ ls. Valid said ls s) e a) in
+          let y = last_line other front line t (subst (λ ls. Valid other ls t) e b) in
+          let before : ◌≡◌ {A = SaidScript} (x.said, x.old) (y.said, y.old) = one_script_of n front x.said y.said x.old y.old (omega (arith, len, ap length e, length_push front line)) x.valid y.valid in
           let says : x.says ≡ y.says = one_reading line x.says y.says x.is_line y.is_line in
-          next_one y.old y.says s t (subst (λ l. IsNext y.old l s) says (subst (λ o. IsNext o x.says s) old x.next)) y.next
+          next_one y.said y.old y.says said other s t (subst (λ l. IsNext y.said y.old l said s) says (subst (λ (o : SaidScript). IsNext o.0 o.1 x.says said s) before x.next)) y.next
     ]
 
-pub one_script : (lines : List (List ℕ)) (s t : ScriptText) → Valid lines s → Valid lines t → s ≡ t
-one_script lines s t = one_script_of (length lines) lines s t refl
+one_said : (lines : List (List ℕ)) (said other : Said) (s t : ScriptText) → Valid said lines s → Valid other lines t → ◌≡◌ {A = SaidScript} (said, s) (other, t)
+one_said lines said other s t = one_script_of (length lines) lines said other s t refl
+
+pub one_script : (lines : List (List ℕ)) (s t : ScriptText) → IsScript lines s × IsValid s → IsScript lines t × IsValid t → s ≡ t
+one_script lines s t (a, a_valid) (b, b_valid) = ap (λ (o : SaidScript). o.1) (one_said lines a.said b.said s t (valid_of lines s a a_valid) (valid_of lines t b b_valid))
 
 -- ---- where a line may not stand
 
 -- a line that says what is not the script's next makes no valid script
-pub only_next : (lines : List (List ℕ)) (line : List ℕ) (old : ScriptText) (says : ScriptLine) → Valid lines old → IsLine line says → ((new : ScriptText) → ¬ IsNext old says new) → ¬ AreValidLines (lines ++ line ∷ [])
-only_next lines line old says h is_line none v =
-    let last = last_line lines line v.0 (v.1, v.2) in
-    let before : last.old ≡ old = one_script lines last.old old last.valid h in
-    let said : last.says ≡ says = one_reading line last.says says last.is_line is_line in
-    none v.0 (subst (λ l. IsNext old l v.0) said (subst (λ o. IsNext o last.says v.0) before last.next))
+pub only_next : (said : Said) (lines : List (List ℕ)) (line : List ℕ) (old : ScriptText) (says : ScriptLine) → Valid said lines old → IsLine line says → ((later : Said) (new : ScriptText) → ¬ IsNext said old says later new) → ¬ AreValidLines (lines ++ line ∷ [])
+only_next said lines line old says h is_line none (new, script, valid) =
+    let last = last_line script.said lines line new (valid_of (lines ++ line ∷ []) new script valid) in
+    let before : ◌≡◌ {A = SaidScript} (last.said, last.old) (said, old) = one_said lines last.said said last.old old last.valid h in
+    let same : last.says ≡ says = one_reading line last.says says last.is_line is_line in
+    none script.said new (subst (λ l. IsNext said old l script.said new) same (subst (λ (o : SaidScript). IsNext o.0 o.1 last.says script.said new) before last.next))
 
 -- neither does a line that says nothing
 pub no_next : (lines : List (List ℕ)) (line : List ℕ) → ((says : ScriptLine) → ¬ IsLine line says) → ¬ AreValidLines (lines ++ line ∷ [])
-no_next lines line none v = let last = last_line lines line v.0 (v.1, v.2) in none last.says last.is_line
+no_next lines line none (new, script, valid) = let last = last_line script.said lines line new (valid_of (lines ++ line ∷ []) new script valid) in none last.says last.is_line
 
 -- ---- fewer lines
 
 front_valid : (lines : List (List ℕ)) (line : List ℕ) → AreValidLines (lines ++ line ∷ []) → AreValidLines lines
-front_valid lines line v = let last = last_line lines line v.0 (v.1, v.2) in (last.old, last.valid.0, last.valid.1)
+front_valid lines line (new, script, valid) =
+    let last = last_line script.said lines line new (valid_of (lines ++ line ∷ []) new script valid) in
+    (last.old, script_of last.said lines last.old last.valid.0, last.valid.1)
 
 fewer_valid : (d k : ℕ) (lines : List (List ℕ)) → d + k ≡ length lines → AreValidLines lines → AreValidLines (take k lines)
 fewer_valid zero k lines e v = subst AreValidLines (sym (take_all k lines (omega arith))) v

@@ -23,7 +23,7 @@ use Rattle.prom_format.proofs.NameLaws.{sanitized_metric_name-is_name, sanitized
 use Rattle.prom_format.proofs.PagesReadOnce.{row_head_told}
 use Rattle.prom_format.specs.PlainKeys.{PrintsPlainly}
 use Rattle.prom_format.proofs.PlainKeys.{plain_keys_told}
-use Rattle.drive_script.specs.Script.{Register}
+use Rattle.drive_script.specs.Script.{SetupLine, Register, Describe}
 use Rattle.drive_script.specs.Valid.{Registration, registration_of, registered_in, Head, head_of, PrintApart}
 use Rattle.drive_script.specs.Heads.{text_of_head, keys_by_head, key_at, AreHeadsOf, AllPrintPlainly, AreNoted}
 use Rattle.drive_script.specs.Texts.{setup_of, round_of, registrations_in, registrations_of}
@@ -262,6 +262,18 @@ setup_more setup i line kind key within at says =
     ap registrations_in (take_more setup i line within ∙ ap (λ l. take i setup ++ l ∷ []) (sym at))
     ∙ ap (filter_map registration_of) (map_push setup_of (take i setup) line ∙ ap (λ s. map setup_of (take i setup) ++ s ∷ []) says)
     ∙ filter_map-append registration_of (map setup_of (take i setup)) (Register kind key ∷ [])
+
+-- a line that describes registers nothing
+pub setup_same : (setup : List Setup) (i : ℕ) (line : Setup) → i < length setup → line ≡ get_or setup i line → registration_of (setup_of line) ≡ None → registrations_in (take (i + 1) setup) ≡ registrations_in (take i setup)
+setup_same setup i line within at none =
+    ap registrations_in (take_more setup i line within ∙ ap (λ l. take i setup ++ l ∷ []) (sym at))
+    ∙ ap (filter_map registration_of) (map_push setup_of (take i setup) line)
+    ∙ filter_map-append registration_of (map setup_of (take i setup)) (setup_of line ∷ [])
+    ∙ ap (λ l. registrations_in (take i setup) ++ l) (alone (setup_of line) none) ∙ append-nil (registrations_in (take i setup))
+  where
+    alone : (line : SetupLine) → registration_of line ≡ None → filter_map registration_of (line ∷ []) ≡ []
+    alone (Register kind key) none = absurd cc
+    alone (Describe kind name unit description) none = refl
 
 pub setup_front : (setup : List Setup) (n : ℕ) → registrations_in setup ≡ registrations_in (take n setup) ++ registrations_in (drop n setup)
 setup_front setup n =

@@ -1,13 +1,17 @@
 -- A header line is read as what it says.
-use Rattle.std.proofs.Common.{◌≡◌, ℕ, ◌-◌, ◌^◌, ◌<◌, List, [], ◌∷◌, ◌++◌, Some, None, refl, sym, ap, subst, ◌∙◌, append_assoc, arith, inl, inr, lit<}
-use Rattle.std.specs.Prelude.{codes, decimal, ℤ, IsUtf8, flat_map}
+use Rattle.std.proofs.Common.{◌≡◌, ℕ, ◌-◌, ◌^◌, ◌<◌, Bool, true, false, List, [], ◌∷◌, ◌++◌, Option, Some, None, refl, sym, ap, subst, ◌∙◌, append_assoc, arith, inl, inr, lit<}
+use Rattle.std.specs.Prelude.{bytes_eq, codes, decimal, ℤ, IsUtf8, flat_map, option_map, Result, Ok, Err, IfOk, MatchOption, if◌then◌else◌}
 use Rattle.std.proofs.lemmas.List.{append-nil}
+use Rattle.std.proofs.lemmas.Option.{same_Some}
+use Rattle.std.proofs.lemmas.Slice.Eq.{bytes_eq-Decides}
 use Rattle.metrics_core.specs.Keys.{LabelText}
 use Rattle.metrics_core.specs.Kinds.{KindMask}
 use Rattle.prom_format.specs.Matchers.{MatcherText, Full, Prefix, Suffix, matcher_bytes}
-use Rattle.drive_script.specs.Words.{spaced, quoted, AreDecs, form_word}
-use Rattle.drive_script.specs.Script.{HeaderLine, Quantiles, Buckets, BucketsFor, Summary, Idle, Global, Header, IsLine}
-use Rattle.drive_script.specs.Reading.{both, after, behind, standing, whole, number_at, positive_at, fixed_at, values_at, text_at, matcher_form_at, matcher_of, matcher_at, mask_at, quantiles_at, buckets_at, buckets_for_at, summary_at, idle_at, global_at}
+use Rattle.drive_script.specs.Words.{spaced, quoted, AreDecs, form_word, IsLabelUtf8}
+use Rattle.drive_script.specs.Script.{NativeLine, HeaderLine, Quantiles, Buckets, BucketsFor, NativeFor, Summary, Idle, Naming, Units, Global, Limit, Mode, NamePrefix, GlobalTag, HistogramKind, Header, IsLine, AreHeaderWords}
+use Rattle.drive_script.specs.Reading.{◌or◌, both, seen, after, behind, standing, whole, number_at, positive_at, fixed_at, values_at, text_at, matcher_form_at, matcher_of, matcher_at, mask_at, quantiles_at, buckets_at, buckets_for_at, native_numbers_at, native_of_parts, native_for_at, summary_at, idle_at, label_line_at, limit_at, prefix_at, switch_at, payload_line_at}
+use Rattle.drive_script.specs.Texts.{header_of}
+use Rattle.drive_script.specs.declared.headers.HeaderLine.{HeaderLine as HeaderOf}
 use Rattle.drive_script.specs.declared.headers.MatcherForm.{MatcherForm}
 use Rattle.drive_script.specs.declared.headers.MatcherForm.TheVariants as forms
 use Rattle.drive_script.proofs.Readers.{IsReader, Ends, Anywhere, stops_less, SpellsBoth, both_reads, SpellsSeen, seen_reads, SpellsAfter, after_reads, standing_takes, or_some, whole_takes, whole_again}
@@ -243,30 +247,248 @@ idle_again line mask timeout h =
       h.spelled ∙ ap spaced words_are,
     )
 
--- ---- global lines
+-- ---- native-for lines
 
-pub global_takes : (line : List ℕ) (label : LabelText) → global_at line ≡ Some label → IsLine line (Header (Global label))
-unfolding global_at
+abbrev SpellsSpacedDec : ℤ → List ℕ → Type 0
+SpellsSpacedDec = SpellsAfter (codes " ") SpellsDec
+
+abbrev SpellsCountAndDec : ℕ × ℤ → List ℕ → Type 0
+SpellsCountAndDec = SpellsBoth (SpellsNumber (2 ^ 32 - 1)) (λ _. SpellsSpacedDec)
+
+abbrev SpellsNumbers : ℤ × (ℕ × ℤ) → List ℕ → Type 0
+SpellsNumbers = SpellsBoth SpellsDec (λ _. SpellsAfter (codes " ") SpellsCountAndDec)
+
+-- what begins with a space
+spaced_stops : (x y rest : List ℕ) → y ≡ codes " " ++ x → WordEnds (y ++ rest)
+spaced_stops x y rest e = subst (λ l. WordEnds (l ++ rest)) (sym e) refl
+
+pub fixed_to_end : IsReader fixed_at SpellsDec Ends
+fixed_to_end = stops_less fixed_at SpellsDec WordEnds Ends fixed_reads ends_word
+
+numbers_read : IsReader native_numbers_at SpellsNumbers Ends
+numbers_read = both_reads fixed_at (λ _. after (codes " ") (both (number_at (2 ^ 32 - 1)) (λ _. after (codes " ") fixed_at))) SpellsDec (λ _. SpellsAfter (codes " ") SpellsCountAndDec) WordEnds Ends fixed_reads
+    (λ _. after_reads (codes " ") (both (number_at (2 ^ 32 - 1)) (λ _. after (codes " ") fixed_at)) SpellsCountAndDec Ends
+    (both_reads (number_at (2 ^ 32 - 1)) (λ _. after (codes " ") fixed_at) (SpellsNumber (2 ^ 32 - 1)) (λ _. SpellsSpacedDec) WordEnds Ends (number_words (2 ^ 32 - 1) (lit< tt))
+    (λ _. after_reads (codes " ") fixed_at SpellsDec Ends fixed_to_end) (λ a b y rest h stop. spaced_stops h.0 y rest h.2)))
+    (λ a b y rest h stop. spaced_stops h.0 y rest h.2)
+
+abbrev SpellsNativeParts : MatcherText × (ℤ × (ℕ × ℤ)) → List ℕ → Type 0
+SpellsNativeParts = SpellsBoth SpellsMatcher (λ _. SpellsAfter (codes " ") SpellsNumbers)
+
+native_reads : IsReader (after (codes "native-for ") (seen native_of_parts (both matcher_at (λ _. after (codes " ") native_numbers_at)))) (SpellsAfter (codes "native-for ") (SpellsSeen native_of_parts SpellsNativeParts)) Ends
+native_reads = after_reads (codes "native-for ") _ (SpellsSeen native_of_parts SpellsNativeParts) Ends (seen_reads native_of_parts _ SpellsNativeParts Ends
+    (both_reads matcher_at (λ _. after (codes " ") native_numbers_at) SpellsMatcher (λ _. SpellsAfter (codes " ") SpellsNumbers) Anywhere Ends matcher_reads
+    (λ _. after_reads (codes " ") native_numbers_at SpellsNumbers Ends numbers_read) (λ a b y rest h stop. tt)))
+
+native_spaced : (form text factor count threshold : List ℕ) → spaced (codes "native-for" ∷ form ∷ text ∷ factor ∷ count ∷ threshold ∷ []) ≡ codes "native-for " ++ ((form ++ (codes " " ++ text)) ++ (codes " " ++ (factor ++ (codes " " ++ (count ++ (codes " " ++ threshold))))))
+native_spaced form text factor count threshold =
+    ap (λ l. codes "native-for " ++ l) (sym (append_assoc form (codes " " ++ text) (codes " " ++ (factor ++ (codes " " ++ (count ++ (codes " " ++ threshold)))))))
+
+pub native_for_takes : (line : List ℕ) (native : NativeLine) → native_for_at line ≡ Some native → IsLine line (Header (NativeFor native))
+unfolding native_for_at
+native_for_takes line native e =
+    let (x, (parts, is, spelled), line_is) = whole_takes _ _ Ends native_reads line native e in
+    let (m, y, is_matcher, (z, numbers, y_is), x_is) = spelled in
+    let (factor, w, is_factor, (v, more, w_is), z_is) = numbers in
+    let (count, u, is_count, (threshold, is_threshold, u_is), v_is) = more in
+    let matcher = parts.0 in
+    let whole_line : line ≡ codes "native-for " ++ ((form_word matcher ++ (codes " " ++ quoted (matcher_bytes matcher))) ++ (codes " " ++ (factor ++ (codes " " ++ (decimal parts.1.1.0 ++ (codes " " ++ threshold)))))) =
+    line_is ∙ ap (λ l. codes "native-for " ++ l) (x_is ∙ (λ j. is_matcher.1 j ++ (y_is ∙ ap (λ l. codes " " ++ l) (z_is ∙ ap (λ l. factor ++ l) (w_is ∙ ap (λ l. codes " " ++ l) (v_is ∙ (λ k. is_count.0 k ++ u_is k))))) j)) in
+    subst (λ (n : NativeLine). IsLine line (Header (NativeFor n))) is
+    (record {
+      words = codes "native-for" ∷ form_word matcher ∷ quoted (matcher_bytes matcher) ∷ factor ∷ decimal parts.1.1.0 ∷ threshold ∷ [];
+      formed = (factor, threshold, is_matcher.0, is_factor, omega (arith, is_count.1), is_threshold, refl);
+      spelled = whole_line ∙ sym (native_spaced (form_word matcher) (quoted (matcher_bytes matcher)) factor (decimal parts.1.1.0) threshold);
+    })
+
+pub native_for_again : (line : List ℕ) (native : NativeLine) → IsLine line (Header (NativeFor native)) → native_for_at line ≡ Some native
+unfolding native_for_at
+native_for_again line native h =
+    let (factor, threshold, utf8, is_factor, fits, is_threshold, words_are) = h.formed in
+    let front : List ℕ = form_word native.matcher ++ (codes " " ++ quoted (matcher_bytes native.matcher)) in
+    let count : List ℕ = decimal native.max_buckets in
+    let last : List ℕ = codes " " ++ threshold in
+    let others : List ℕ = count ++ last in
+    let numbers : List ℕ = factor ++ (codes " " ++ others) in
+    whole_again _ _ Ends native_reads refl line native (
+      front ++ (codes " " ++ numbers),
+      (
+        (native.matcher, (native.factor, (native.max_buckets, native.threshold))),
+        refl,
+        (front, codes " " ++ numbers, (utf8, refl), (numbers, (factor, codes " " ++ others, is_factor, (others, (count, last, (refl, omega (arith, fits)), (threshold, is_threshold, refl), refl), refl), refl), refl), refl),
+      ),
+      h.spelled ∙ ap spaced words_are ∙ native_spaced (form_word native.matcher) (quoted (matcher_bytes native.matcher)) factor count threshold,
+    )
+
+-- ---- global lines and dsd-global lines
+
+module _ (word line : List ℕ) (label : LabelText) where
+  abbrev label_spelling : List ℕ
+  label_spelling = word ++ (quoted label.key ++ (codes " " ++ quoted label.value))
+
+  label_line_takes : label_line_at word line ≡ Some label → IsLabelUtf8 label × (line ≡ label_spelling)
+  unfolding label_line_at
+  label_line_takes e =
+      let read = after_reads word _ _ Anywhere (label_seen_reads (codes " ")) in
+      let (front, spelled, split) = whole_takes _ _ Anywhere read line label e in
+      let is = label_spelled (codes " ") label front spelled in
+      (is.0, split ∙ ap (λ l. word ++ l) is.1)
+
+  label_line_again : IsLabelUtf8 label → line ≡ label_spelling → label_line_at word line ≡ Some label
+  unfolding label_line_at
+  label_line_again utf8 is =
+      let read = after_reads word _ _ Anywhere (label_seen_reads (codes " ")) in
+      let front : List ℕ = quoted label.key ++ (codes " " ++ quoted label.value) in
+      whole_again _ _ Anywhere read tt line label (front, label_spells (codes " ") label front utf8 refl, is)
+
+pub global_takes : (line : List ℕ) (label : LabelText) → label_line_at (codes "global ") line ≡ Some label → IsLine line (Header (Global label))
 global_takes line label e =
-    let read = after_reads (codes "global ") _ _ Anywhere (label_seen_reads (codes " ")) in
-    let (front, spelled, split) = whole_takes _ _ Anywhere read line label e in
-    let is = label_spelled (codes " ") label front spelled in
-    record { words = codes "global" ∷ quoted label.key ∷ quoted label.value ∷ []; formed = (is.0, refl); spelled = split ∙ ap (λ l. codes "global " ++ l) is.1 }
+    let is = label_line_takes (codes "global ") line label e in
+    record { words = codes "global" ∷ quoted label.key ∷ quoted label.value ∷ []; formed = (is.0, refl); spelled = is.1 }
 
-pub global_again : (line : List ℕ) (label : LabelText) → IsLine line (Header (Global label)) → global_at line ≡ Some label
-unfolding global_at
-global_again line label h =
-    let read = after_reads (codes "global ") _ _ Anywhere (label_seen_reads (codes " ")) in
-    let front : List ℕ = quoted label.key ++ (codes " " ++ quoted label.value) in
-    whole_again _ _ Anywhere read tt line label (front, label_spells (codes " ") label front h.formed.0 refl, h.spelled ∙ ap spaced h.formed.1)
+pub global_again : (line : List ℕ) (label : LabelText) → IsLine line (Header (Global label)) → label_line_at (codes "global ") line ≡ Some label
+global_again line label h = label_line_again (codes "global ") line label h.formed.0 (h.spelled ∙ ap spaced h.formed.1)
+
+tag_takes : (line : List ℕ) (label : LabelText) → label_line_at (codes "dsd-global ") line ≡ Some label → IsLine line (Header (GlobalTag label))
+tag_takes line label e =
+    let is = label_line_takes (codes "dsd-global ") line label e in
+    record { words = codes "dsd-global" ∷ quoted label.key ∷ quoted label.value ∷ []; formed = (is.0, refl); spelled = is.1 }
+
+pub tag_again : (line : List ℕ) (label : LabelText) → IsLine line (Header (GlobalTag label)) → label_line_at (codes "dsd-global ") line ≡ Some label
+tag_again line label h = label_line_again (codes "dsd-global ") line label h.formed.0 (h.spelled ∙ ap spaced h.formed.1)
+
+-- ---- dsd-limit lines and dsd-prefix lines
+
+limit_reads : IsReader (after (codes "dsd-limit ") (number_at (2 ^ 64 - 1))) (SpellsAfter (codes "dsd-limit ") (SpellsNumber (2 ^ 64 - 1))) Ends
+limit_reads = after_reads (codes "dsd-limit ") (number_at (2 ^ 64 - 1)) (SpellsNumber (2 ^ 64 - 1)) Ends (number_to_end (2 ^ 64 - 1) (lit< tt))
+
+limit_takes : (line : List ℕ) (limit : ℕ) → limit_at line ≡ Some limit → IsLine line (Header (Limit limit))
+unfolding limit_at
+limit_takes line limit e =
+    let (front, number, split) = whole_takes _ _ Ends limit_reads line limit e in
+    record { words = codes "dsd-limit" ∷ decimal limit ∷ []; formed = (omega (arith, number.1), refl); spelled = split ∙ ap (λ l. codes "dsd-limit " ++ l) number.0 }
+
+pub limit_again : (line : List ℕ) (limit : ℕ) → IsLine line (Header (Limit limit)) → limit_at line ≡ Some limit
+unfolding limit_at
+limit_again line limit h = whole_again _ _ Ends limit_reads refl line limit (decimal limit, (refl, omega (arith, h.formed.0)), h.spelled ∙ ap spaced h.formed.1)
+
+prefix_reads : IsReader (after (codes "dsd-prefix ") text_at) (SpellsAfter (codes "dsd-prefix ") SpellsText) Anywhere
+prefix_reads = after_reads (codes "dsd-prefix ") text_at SpellsText Anywhere text_reads
+
+prefix_takes : (line text : List ℕ) → prefix_at line ≡ Some text → IsLine line (Header (NamePrefix text))
+unfolding prefix_at
+prefix_takes line text e =
+    let (front, is_text, split) = whole_takes _ _ Anywhere prefix_reads line text e in
+    record { words = codes "dsd-prefix" ∷ quoted text ∷ []; formed = (is_text.0, refl); spelled = split ∙ ap (λ l. codes "dsd-prefix " ++ l) is_text.1 }
+
+pub prefix_again : (line text : List ℕ) → IsLine line (Header (NamePrefix text)) → prefix_at line ≡ Some text
+unfolding prefix_at
+prefix_again line text h = whole_again _ _ Anywhere prefix_reads tt line text (quoted text, (h.formed.0, refl), h.spelled ∙ ap spaced h.formed.1)
+
+-- a line that is read in one of these forms
+mapped_some : {A B : Type 0} (f : A → B) (o : Option A) (y : B) → option_map f o ≡ Some y → (x : A) × (o ≡ Some x) × (f x ≡ y)
+mapped_some f None y e = absurd cc
+mapped_some f (Some x) y e = (x, refl, same_Some (f x) y e)
+
+payload_takes : (line : List ℕ) (says : HeaderLine) → payload_line_at line ≡ Some says → IsLine line (Header says)
+payload_takes line says e =
+    elim (or_some (option_map GlobalTag (label_line_at (codes "dsd-global ") line)) _ says e) [
+      | inl f ↦ let m = mapped_some GlobalTag (label_line_at (codes "dsd-global ") line) says f in subst (λ h. IsLine line (Header h)) m.2 (tag_takes line m.0 m.1)
+      | inr f ↦ elim (or_some (option_map Limit (limit_at line)) _ says f) [
+        | inl g ↦ let m = mapped_some Limit (limit_at line) says g in subst (λ h. IsLine line (Header h)) m.2 (limit_takes line m.0 m.1)
+        | inr g ↦ let m = mapped_some NamePrefix (prefix_at line) says g in subst (λ h. IsLine line (Header h)) m.2 (prefix_takes line m.0 m.1)
+      ]
+    ]
+
+none_mapped : {A B : Type 0} (f : A → B) (o : Option A) → option_map f o ≡ None → o ≡ None
+none_mapped f None e = refl
+none_mapped f (Some x) e = absurd cc
+
+or_none : {A : Type 0} (o p : Option A) → (o or p) ≡ None → (o ≡ None) × (p ≡ None)
+or_none None p e = (refl, e)
+or_none (Some x) p e = absurd cc
+
+-- ---- lines whose bytes are always the same
+
+pub switch_takes : (line : List ℕ) (says : HeaderLine) → switch_at line ≡ Some says → IsLine line (Header says)
+switch_takes line says e = naming (units (conservative (aggressive (h_kind (d_kind (λ f. absurd cc)))))) e
+  where
+    -- the line is this word, or is read as another
+    by : (spelling : List ℕ) (header : HeaderLine) (other : Option HeaderLine) (b : Bool) → bytes_eq line spelling ≡ b → IsLine spelling (Header header) → (other ≡ Some says → IsLine line (Header says)) → (if b then Some header else other) ≡ Some says → IsLine line (Header says)
+    by spelling header other true is h rest f =
+        subst (λ l. IsLine l (Header says)) (sym ((bytes_eq-Decides line spelling).0 is)) (subst (λ h. IsLine spelling (Header h)) (same_Some header says f) h)
+    by spelling header other false is h rest f = rest f
+
+    two_words : (first second : List ℕ) (header : HeaderLine) → AreHeaderWords (first ∷ second ∷ []) header → IsLine (spaced (first ∷ second ∷ [])) (Header header)
+    two_words first second header formed = record { words = first ∷ second ∷ []; formed = formed; spelled = refl }
+
+    naming : {other : Option HeaderLine} → (other ≡ Some says → IsLine line (Header says)) → (if bytes_eq line (codes "naming on") then Some Naming else other) ≡ Some says → IsLine line (Header says)
+    naming {other} = by (codes "naming on") Naming other (bytes_eq line (codes "naming on")) refl (two_words (codes "naming") (codes "on") Naming refl)
+
+    units : {other : Option HeaderLine} → (other ≡ Some says → IsLine line (Header says)) → (if bytes_eq line (codes "units on") then Some Units else other) ≡ Some says → IsLine line (Header says)
+    units {other} = by (codes "units on") Units other (bytes_eq line (codes "units on")) refl (two_words (codes "units") (codes "on") Units refl)
+
+    conservative : {other : Option HeaderLine} → (other ≡ Some says → IsLine line (Header says)) → (if bytes_eq line (codes "dsd-mode conservative") then Some (Mode false) else other) ≡ Some says → IsLine line (Header says)
+    conservative {other} = by (codes "dsd-mode conservative") (Mode false) other (bytes_eq line (codes "dsd-mode conservative")) refl (two_words (codes "dsd-mode") (codes "conservative") (Mode false) refl)
+
+    aggressive : {other : Option HeaderLine} → (other ≡ Some says → IsLine line (Header says)) → (if bytes_eq line (codes "dsd-mode aggressive") then Some (Mode true) else other) ≡ Some says → IsLine line (Header says)
+    aggressive {other} = by (codes "dsd-mode aggressive") (Mode true) other (bytes_eq line (codes "dsd-mode aggressive")) refl (two_words (codes "dsd-mode") (codes "aggressive") (Mode true) refl)
+
+    h_kind : {other : Option HeaderLine} → (other ≡ Some says → IsLine line (Header says)) → (if bytes_eq line (codes "dsd-kind h") then Some (HistogramKind true) else other) ≡ Some says → IsLine line (Header says)
+    h_kind {other} = by (codes "dsd-kind h") (HistogramKind true) other (bytes_eq line (codes "dsd-kind h")) refl (two_words (codes "dsd-kind") (codes "h") (HistogramKind true) refl)
+
+    d_kind : {other : Option HeaderLine} → (other ≡ Some says → IsLine line (Header says)) → (if bytes_eq line (codes "dsd-kind d") then Some (HistogramKind false) else other) ≡ Some says → IsLine line (Header says)
+    d_kind {other} = by (codes "dsd-kind d") (HistogramKind false) other (bytes_eq line (codes "dsd-kind d")) refl (two_words (codes "dsd-kind") (codes "d") (HistogramKind false) refl)
+
+pub naming_again : (line : List ℕ) → IsLine line (Header Naming) → switch_at line ≡ Some Naming
+naming_again line h = ap switch_at (h.spelled ∙ ap spaced h.formed)
+
+pub units_again : (line : List ℕ) → IsLine line (Header Units) → switch_at line ≡ Some Units
+units_again line h = ap switch_at (h.spelled ∙ ap spaced h.formed)
+
+pub mode_again : (line : List ℕ) (aggressive : Bool) → IsLine line (Header (Mode aggressive)) → switch_at line ≡ Some (Mode aggressive)
+mode_again line true h = ap switch_at (h.spelled ∙ ap spaced h.formed)
+mode_again line false h = ap switch_at (h.spelled ∙ ap spaced h.formed)
+
+pub kind_again : (line : List ℕ) (histograms : Bool) → IsLine line (Header (HistogramKind histograms)) → switch_at line ≡ Some (HistogramKind histograms)
+kind_again line true h = ap switch_at (h.spelled ∙ ap spaced h.formed)
+kind_again line false h = ap switch_at (h.spelled ∙ ap spaced h.formed)
 
 -- ---- no reading
 
 -- a line that is read in none of the forms is no header line
-pub no_header : (line : List ℕ) → global_at line ≡ None → buckets_for_at line ≡ None → buckets_at line ≡ None → quantiles_at line ≡ None → summary_at line ≡ None → idle_at line ≡ None → (says : HeaderLine) → ¬ IsLine line (Header says)
-no_header line g bf b q s i (Quantiles values) h = let read = quantiles_again line values h in cc
-no_header line g bf b q s i (Buckets values) h = let read = buckets_again line values h in cc
-no_header line g bf b q s i (BucketsFor matcher values) h = let read = buckets_for_again line matcher values h in cc
-no_header line g bf b q s i (Summary count duration) h = let read = summary_again line count duration h in cc
-no_header line g bf b q s i (Idle mask timeout) h = let read = idle_again line mask timeout h in cc
-no_header line g bf b q s i (Global label) h = let read = global_again line label h in cc
+pub no_header : (line : List ℕ) → label_line_at (codes "global ") line ≡ None → buckets_for_at line ≡ None → buckets_at line ≡ None → quantiles_at line ≡ None → summary_at line ≡ None → idle_at line ≡ None → native_for_at line ≡ None → switch_at line ≡ None → payload_line_at line ≡ None
+    → (says : HeaderLine) → ¬ IsLine line (Header says)
+no_header line g bf b q s i n sw p = by
+  where
+    others : (label_line_at (codes "dsd-global ") line ≡ None) × (limit_at line ≡ None) × (prefix_at line ≡ None)
+    others =
+        let tag = or_none (option_map GlobalTag (label_line_at (codes "dsd-global ") line)) _ p in
+        let rest = or_none (option_map Limit (limit_at line)) _ tag.1 in
+        (none_mapped GlobalTag (label_line_at (codes "dsd-global ") line) tag.0, none_mapped Limit (limit_at line) rest.0, none_mapped NamePrefix (prefix_at line) rest.1)
+
+    differ : {A : Type 0} (o : Option A) (x : A) → o ≡ None → o ≡ Some x → ⊥
+    differ o x none some = absurd cc
+
+    by : (says : HeaderLine) → ¬ IsLine line (Header says)
+    by (Quantiles values) h = differ (quantiles_at line) values q (quantiles_again line values h)
+    by (Buckets values) h = differ (buckets_at line) values b (buckets_again line values h)
+    by (BucketsFor matcher values) h = differ (buckets_for_at line) (matcher, values) bf (buckets_for_again line matcher values h)
+    by (NativeFor native) h = differ (native_for_at line) native n (native_for_again line native h)
+    by (Summary count duration) h = differ (summary_at line) (count, duration) s (summary_again line count duration h)
+    by (Idle mask timeout) h = differ (idle_at line) (mask, timeout) i (idle_again line mask timeout h)
+    by Naming h = differ (switch_at line) Naming sw (naming_again line h)
+    by Units h = differ (switch_at line) Units sw (units_again line h)
+    by (Global label) h = differ (label_line_at (codes "global ") line) label g (global_again line label h)
+    by (Limit limit) h = differ (limit_at line) limit others.1 (limit_again line limit h)
+    by (Mode aggressive) h = differ (switch_at line) (Mode aggressive) sw (mode_again line aggressive h)
+    by (NamePrefix text) h = differ (prefix_at line) text others.2 (prefix_again line text h)
+    by (GlobalTag label) h = differ (label_line_at (codes "dsd-global ") line) label others.0 (tag_again line label h)
+    by (HistogramKind histograms) h = differ (switch_at line) (HistogramKind histograms) sw (kind_again line histograms h)
+
+-- the last form that is tried
+pub payload_read : {E : Type 0} (line : List ℕ) (r : Result (Option HeaderOf) E) → IfOk r (λ read. option_map header_of read ≡ payload_line_at line) → (payload_line_at line ≡ None → (says : HeaderLine) → ¬ IsLine line (Header says))
+    → IfOk r (λ read. MatchOption read ((says : HeaderLine) → ¬ IsLine line (Header says)) (λ says. IsLine line (Header (header_of says))))
+payload_read line (Ok None) e none = none (sym e)
+payload_read line (Ok (Some header)) e none = payload_takes line (header_of header) (sym e)
+payload_read line (Err refused) e none = tt

@@ -3,10 +3,12 @@ pub mod Readers
 pub mod Spaced
 pub mod Decimals
 pub mod Masks
+pub mod UnitNames
 pub mod TextFields
 pub mod HeaderForms
 pub mod Forms
 pub mod Loops
+pub mod Parts
 pub mod HeadSteps
 pub mod HeaderGrowth
 pub mod Growth

@@ -1,24 +1,27 @@
 -- One step of the progress: the last round with one more line.
-use Rattle.std.proofs.Common.{◌≡◌, ℕ, suc, ◌+◌, ◌-◌, ◌<◌, ◌≤◌, Bool, true, false, List, [], ◌∷◌, ◌++◌, map, length, get_or, set, take, Option, Some, None, refl, sym, ap, ◌∙◌, arith}
+use Rattle.std.proofs.Common.{◌≡◌, ℕ, suc, ◌+◌, ◌-◌, ◌<◌, ◌≤◌, Bool, true, false, List, [], ◌∷◌, ◌++◌, map, length, get_or, set, take, Option, Some, None, refl, sym, ap, subst, ◌∙◌, arith}
 use Rattle.std.specs.Global.{Vec}
-use Rattle.std.specs.Prelude.{slice_get, option_map, Result, Ok, Err, All, IfOk, MatchBool}
+use Rattle.std.specs.Prelude.{slice_get, option_map, Result, Ok, Err, All, IfOk, IfSome, MatchBool}
 use Rattle.std.specs.List.Sorted.{IsNonDecreasingBy}
-use Rattle.std.proofs.lemmas.List.Elements.{All-get_or, All-from_get_or}
+use Rattle.std.proofs.lemmas.List.Elements.{All-head, All-push, All-get_or, All-from_get_or}
 use Rattle.std.proofs.Math.ListN.{get_or-map}
 use Rattle.std.proofs.lemmas.List.{take_all, take_more, set_split, drop_all, map_push, same_from_push, length-map, length_push}
 use Rattle.std.proofs.lemmas.Option.{slice_get_read, slice_get-map, slice_get_within, same_Some}
-use Rattle.metrics_core.specs.Keys.{KeyText}
+use Rattle.metrics_core.specs.Keys.{KeyText, label_set}
 use Rattle.metrics_core.specs.declared.kinds.MetricKind.{MetricKind}
 use Rattle.drive_script.specs.Script as text
-use Rattle.drive_script.specs.Script.{ScriptText, SettingsText, IsLine, global_labels}
-use Rattle.drive_script.specs.Valid.{Registration, registered, HasHandle, sample_count, sample_total, PrintApart, AreValidLines}
-use Rattle.drive_script.specs.Growth.{BeginsRound, SetsUp, AddsCall, IsNext}
-use Rattle.drive_script.specs.Texts.{call_line_of, setup_of, round_of, script_so_far, IsKnown, StandsBehind}
+use Rattle.drive_script.specs.Script.{ScriptText, SettingsText, Said, header_lines, IsLine, global_labels}
+use Rattle.drive_script.specs.Valid.{Registration, registration_of, registered, HasHandle, sample_count, sample_total, PrintApart, AreValidLines}
+use Rattle.drive_script.specs.Growth.{AddsHeader, BeginsRound, SetsUp, AddsCall, place, least_behind, MayFollow, IsLeastPlace, with_header, said_with, globals_with}
+use Rattle.drive_script.specs.Taking.{Takes}
+use Rattle.drive_script.specs.Texts.{call_line_of, setup_of, round_of, script_so_far, StandsBehind}
 use Rattle.drive_script.specs.declared.progress.ScriptSoFar.{ScriptSoFar}
 use Rattle.drive_script.specs.declared.script.CallLine.{CallLine}
 use Rattle.drive_script.specs.declared.script.Setup.{Setup}
 use Rattle.drive_script.specs.declared.script.Round.{Round}
-use Rattle.drive_script.proofs.Growth.{one_registered, call_samples, next_valid, only_next}
+use Rattle.drive_script.proofs.Growth.{one_registered, none_described, call_samples, valid_of, script_of, next_valid, only_next}
+use Rattle.drive_script.proofs.HeaderGrowth.{split_all, least_range}
+use Rattle.drive_script.proofs.HeadSteps.{label_set-push}
 
 abbrev with_rounds : SettingsText → List text.RoundText → ScriptText
 with_rounds settings rounds = record { settings = settings; rounds = rounds }
@@ -62,26 +65,43 @@ module _ (settings : SettingsText) (rounds : List Round) (n : ℕ) (len : n ≡ 
           room = omega (arith, room, call_samples (script_with settings rounds) new (call_line_of call) (map round_of (take (n - 1) rounds)) (round_of round) texts_split grown);
         }
 
-    -- one more register line
-    module _ (setup : Vec Setup) (line : Setup) (kind : MetricKind) (key : KeyText) (says : setup_of line ≡ text.Register kind key) (e : setup.items ≡ round.setup.items ++ line ∷ []) (no_call : round.calls.items ≡ []) where
-      grown : script_with settings (set rounds (n - 1) (record { moment = round.moment; setup = setup; calls = round.calls })) ≡ record { settings = settings; rounds = map round_of (take (n - 1) rounds) ++ record (round_of round) { setup = map setup_of round.setup.items ++ text.Register kind key ∷ [] } ∷ [] }
-      grown =
-          let with_setup = λ (ss : List text.SetupLine). with_rounds settings (map round_of (take (n - 1) rounds) ++ round_with round.moment ss (map call_line_of round.calls.items) ∷ []) in
-          ap (with_rounds settings) (texts_set (record { moment = round.moment; setup = setup; calls = round.calls })) ∙ ap with_setup (ap (map setup_of) e ∙ map_push setup_of round.setup.items line ∙ ap (λ s. map setup_of round.setup.items ++ s ∷ []) says)
+    -- one more setup line
+    module _ (setup : Vec Setup) (line : Setup) (e : setup.items ≡ round.setup.items ++ line ∷ []) (no_call : round.calls.items ≡ []) where
+      abbrev set_up : ScriptText
+      set_up = script_with settings (set rounds (n - 1) (record { moment = round.moment; setup = setup; calls = round.calls }))
 
-      pub key_registered : registered (script_with settings (set rounds (n - 1) (record { moment = round.moment; setup = setup; calls = round.calls }))) ≡ registered (script_with settings rounds) ++ record { kind = kind; key = key } ∷ []
-      key_registered = one_registered (script_with settings rounds) (script_with settings (set rounds (n - 1) (record { moment = round.moment; setup = setup; calls = round.calls }))) (map round_of (take (n - 1) rounds)) (round_of round) kind key texts_split grown
+      module _ (says : text.SetupLine) (is : setup_of line ≡ says) where
+        grown : set_up ≡ record { settings = settings; rounds = map round_of (take (n - 1) rounds) ++ record (round_of round) { setup = map setup_of round.setup.items ++ says ∷ [] } ∷ [] }
+        grown =
+            let with_setup = λ (ss : List text.SetupLine). with_rounds settings (map round_of (take (n - 1) rounds) ++ round_with round.moment ss (map call_line_of round.calls.items) ∷ []) in
+            ap (with_rounds settings) (texts_set (record { moment = round.moment; setup = setup; calls = round.calls })) ∙ ap with_setup (ap (map setup_of) e ∙ map_push setup_of round.setup.items line ∙ ap (λ s. map setup_of round.setup.items ++ s ∷ []) is)
 
-      pub register_added : length (registered (script_with settings rounds)) < 1000000 → All (λ r. PrintApart (global_labels settings) r (record { kind = kind; key = key })) (registered (script_with settings rounds)) → SetsUp (script_with settings rounds) (text.Register kind key) (script_with settings (set rounds (n - 1) (record { moment = round.moment; setup = setup; calls = round.calls })))
-      register_added room apart = record {
-        before = map round_of (take (n - 1) rounds);
-        round = round_of round;
-        last = texts_split;
-        no_call = ap (map call_line_of) no_call;
-        grown = grown;
-        apart = apart;
-        room = omega (arith, ap length key_registered, length_push (registered (script_with settings rounds)) (record { kind = kind; key = key }));
-      }
+        added : length (registered set_up) ≤ 1000000 → IfSome (registration_of says) (λ new. All (λ r. PrintApart (global_labels settings) r new) (registered (script_with settings rounds))) → SetsUp (script_with settings rounds) says set_up
+        added room apart = record {
+          before = map round_of (take (n - 1) rounds);
+          round = round_of round;
+          last = texts_split;
+          no_call = ap (map call_line_of) no_call;
+          grown = grown;
+          apart = apart;
+          room = room;
+        }
+
+        -- what describes registers nothing
+        pub still_registered : registration_of says ≡ None → registered set_up ≡ registered (script_with settings rounds)
+        still_registered none = none_described (script_with settings rounds) set_up (map round_of (take (n - 1) rounds)) (round_of round) says none texts_split grown
+
+        pub description_added : registration_of says ≡ None → length (registered (script_with settings rounds)) ≤ 1000000 → SetsUp (script_with settings rounds) says set_up
+        description_added none few =
+            added (omega (arith, few, ap length (still_registered none)))
+            (subst (λ o. IfSome o (λ new. All (λ r. PrintApart (global_labels settings) r new) (registered (script_with settings rounds)))) (sym none) tt)
+
+      module _ (kind : MetricKind) (key : KeyText) (is : setup_of line ≡ text.Register kind key) where
+        pub key_registered : registered set_up ≡ registered (script_with settings rounds) ++ record { kind = kind; key = key } ∷ []
+        key_registered = one_registered (script_with settings rounds) set_up (map round_of (take (n - 1) rounds)) (round_of round) kind key texts_split (grown (text.Register kind key) is)
+
+        pub register_added : length (registered (script_with settings rounds)) < 1000000 → All (λ r. PrintApart (global_labels settings) r (record { kind = kind; key = key })) (registered (script_with settings rounds)) → SetsUp (script_with settings rounds) (text.Register kind key) set_up
+        register_added room apart = added (text.Register kind key) is (omega (arith, ap length key_registered, length_push (registered (script_with settings rounds)) (record { kind = kind; key = key }))) apart
 
     -- behind a call line nothing is set up
     pub calls_stand : (setup : text.SetupLine) (new : ScriptText) → 0 < length round.calls.items → SetsUp (script_with settings rounds) setup new → ⊥
@@ -151,14 +171,46 @@ no_handle rs kinds place wanted knows past h =
     let within : place < length rs = slice_get_within rs place (record { kind = wanted; key = h.0 }) h.1 in
     omega (arith, ap length knows, length-map rs (λ (r : Registration). r.kind))
 
+-- ---- header lines
+
+-- the least place behind one more line
+pub least_grown : (lines : List text.HeaderLine) (line : text.HeaderLine) (least : ℕ) → IsLeastPlace least lines → least ≤ place line → IsLeastPlace (least_behind line) (lines ++ line ∷ [])
+least_grown lines line least is within = λ p. (λ enough. both p enough, λ may. All-head (λ l. least_behind l ≤ p) line [] (split_all (λ l. least_behind l ≤ p) lines (line ∷ []) may).1)
+  where
+    both : (p : ℕ) → least_behind line ≤ p → MayFollow (lines ++ line ∷ []) p
+    both p enough = All-push (λ l. least_behind l ≤ p) lines line ((is p).0 (omega (arith, within, enough, (least_range line).0))) enough
+
+-- the global labels with one more header line
+pub globals_grown : (settings : SettingsText) (line : text.HeaderLine) → globals_with (label_set settings.globals []) line ≡ label_set (with_header settings line).globals []
+globals_grown settings (text.Quantiles values) = refl
+globals_grown settings (text.Buckets values) = refl
+globals_grown settings (text.BucketsFor matcher values) = refl
+globals_grown settings (text.NativeFor native) = refl
+globals_grown settings (text.Summary count duration) = refl
+globals_grown settings (text.Idle mask timeout) = refl
+globals_grown settings text.Naming = refl
+globals_grown settings text.Units = refl
+globals_grown settings (text.Global label) = sym (label_set-push settings.globals label)
+globals_grown settings (text.Limit limit) = refl
+globals_grown settings (text.Mode aggressive) = refl
+globals_grown settings (text.NamePrefix prefix) = refl
+globals_grown settings (text.GlobalTag label) = refl
+globals_grown settings (text.HistogramKind histograms) = refl
+
+-- a header line with which the settings stand
+pub header_added : (said : Said) (old : ScriptText) (line : text.HeaderLine) (settings : SettingsText) → old.rounds ≡ [] → MayFollow (header_lines old.settings said) (place line) → settings ≡ with_header old.settings line
+    → AddsHeader said old line (said_with said line) (record old { settings = settings })
+header_added said old line settings no_round order is = record { no_round = no_round; order = order; told = refl; grown = ap (λ (s : SettingsText). record old { settings = s }) is }
+
 -- ---- one line
 
 -- what a step says of the script, said of the lines
-pub step_taken : {E : Type 0} (lines : List (List ℕ)) (line : List ℕ) (old new : ScriptSoFar) (says : text.ScriptLine) (r : Result Bool E) → StandsBehind lines old → IsLine line says
-    → IfOk r (λ taken. MatchBool taken (IsNext (script_so_far old) says (script_so_far new) × IsKnown new) ((t : ScriptText) → ¬ IsNext (script_so_far old) says t))
+pub step_taken : {E : Type 0} (lines : List (List ℕ)) (line : List ℕ) (old new : ScriptSoFar) (says : text.ScriptLine) (r : Result Bool E) (h : StandsBehind lines old) → IsLine line says
+    → IfOk r (Takes h.script.said old new says)
     → IfOk r (λ taken. MatchBool taken (StandsBehind (lines ++ line ∷ []) new) (¬ AreValidLines (lines ++ line ∷ [])))
-step_taken lines line old new says (Ok true) h is_line next =
-    let valid = next_valid lines line (script_so_far old) (script_so_far new) says (h.script, h.valid) is_line next.0 in
-    record { script = valid.0; valid = valid.1; known = next.1 }
-step_taken lines line old new says (Ok false) h is_line none = only_next lines line (script_so_far old) says (h.script, h.valid) is_line none
+unfolding script_of
+step_taken lines line old new says (Ok true) h is_line (later, next, known) =
+    let valid = next_valid h.script.said later lines line (script_so_far old) (script_so_far new) says (valid_of lines (script_so_far old) h.script h.valid) is_line next in
+    record { script = script_of later (lines ++ line ∷ []) (script_so_far new) valid.0; valid = valid.1; known = known }
+step_taken lines line old new says (Ok false) h is_line none = only_next h.script.said lines line (script_so_far old) says (valid_of lines (script_so_far old) h.script h.valid) is_line none
 step_taken lines line old new says (Err e) h is_line next = tt

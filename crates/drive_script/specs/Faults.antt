@@ -3,7 +3,7 @@ use Rattle.std.specs.Prelude.{ℕ, List, ◌++◌, codes, decimal}
 use Rattle.drive_script.specs.declared.faults.DriveFault.{DriveFault}
 use Rattle.drive_script.specs.declared.faults.DriveFault.TheVariants as faults
 use Rattle.drive_script.specs.declared.faults.SettingFault.{SettingFault}
-use Rattle.drive_script.specs.declared.faults.SettingFault.TheVariants as settings
+use Rattle.drive_script.specs.Settings.{refusal_of, refusal_text}
 use Rattle.drive_script.specs.Valid.{IsFirstBadLine}
 
 -- Why the bytes are refused as a script: the line is the first bad one. Want of memory is free, and nothing else is answered.
@@ -15,11 +15,9 @@ IsScriptFault bytes faults.ReadFault = ⊥
 IsScriptFault bytes faults.WriteFault = ⊥
 IsScriptFault bytes faults.Memory = Unit {0}
 
--- the text that is said of a refused setting, that of the exporter's own refusal
+-- the text that is said of a refused setting
 abbrev pub setting_text : SettingFault → List ℕ
-setting_text settings.Empty = codes "bucket bounds/quantiles cannot be empty"
-setting_text settings.ZeroDuration = codes "bucket durations cannot be set to zero"
-setting_text settings.SpanTooLong = codes "bucket durations exceed 64 bits of nanoseconds"
+setting_text fault = refusal_text (refusal_of fault)
 
 -- the text that is said of a fault
 abbrev pub fault_text : DriveFault → List ℕ

@@ -1,13 +1,15 @@
 -- What is read from the front of a line, from left to right. That a line is read as what it says, and as nothing
 -- else, is proved.
-use Rattle.std.specs.Prelude.{ℕ, zero, suc, ◌+◌, ◌-◌, ◌*◌, ◌^◌, ◌&&◌, ◌||◌, Bool, true, false, nat_le, nat_eq, List, [], ◌∷◌, ◌++◌, length, take, drop, ℤ, Option, Some, None, codes, decimal, bytes_eq, not, ◌==◌, if◌then◌else◌}
+use Rattle.std.specs.Prelude.{ℕ, zero, suc, ◌+◌, ◌-◌, ◌*◌, ◌^◌, ◌&&◌, ◌||◌, Bool, true, false, nat_le, nat_eq, List, [], ◌∷◌, ◌++◌, length, take, drop, ℤ, Option, Some, None, option_map, codes, decimal, bytes_eq, not, ◌==◌, if◌then◌else◌}
 use Rattle.std.specs.Char.{is_ascii_digit}
 use Rattle.std.specs.List.{starts_with, position_or_len}
 use Rattle.std.specs.Str.{is_utf8}
 use Rattle.std.specs.Str.Parse.{digits_value}
-use Rattle.metrics_core.specs.Characters.{quote, backslash, newline}
+use Rattle.metrics_core.specs.Characters.{space, quote, backslash, newline}
 use Rattle.metrics_core.specs.Keys.{LabelText}
 use Rattle.metrics_core.specs.Kinds.{KindMask, mask_has}
+use Rattle.metrics_core.specs.UnitLaws.{unit_of}
+use Rattle.metrics_core.specs.declared.units.Unit.{Unit as UnitOf}
 use Rattle.metrics_core.specs.Numbers.{one}
 use Rattle.metrics_core.specs.declared.kinds.MetricKind.{MetricKind}
 use Rattle.metrics_core.specs.declared.kinds.MetricKind.TheVariants as kinds
@@ -15,7 +17,7 @@ use Rattle.metrics_registry.specs.Masks.{only}
 use Rattle.prom_format.specs.Matchers.{MatcherText, Full, Prefix, Suffix}
 use Rattle.drive_script.specs.Words.{signed, greatest, with_kind}
 use Rattle.drive_script.specs.Script as text
-use Rattle.drive_script.specs.Script.{Act, CallLine}
+use Rattle.drive_script.specs.Script.{NativeLine, HeaderLine, SetupLine, Act, CallLine}
 use Rattle.drive_script.specs.declared.headers.MatcherForm.{MatcherForm}
 use Rattle.drive_script.specs.declared.headers.MatcherForm.TheVariants as forms
 use Rattle.drive_script.specs.declared.lines.Verb.{Verb}
@@ -219,6 +221,22 @@ matcher_of forms.Suffix text = Suffix text
 unfoldable pub matcher_at : Reader MatcherText
 matcher_at = seen (λ parts. matcher_of parts.0 parts.1) (both matcher_form_at (λ _. text_at))
 
+-- ---- units
+
+-- how many bytes stand before the next space
+abbrev pub word_length : List ℕ → ℕ
+word_length bytes = position_or_len (λ b. b == space) bytes
+
+-- the unit of a name, or none for `-`
+abbrev pub unit_named : List ℕ → Option (Option UnitOf)
+unit_named word = if bytes_eq word (codes "-") then Some None else (unit_of word >>= λ unit. Some (Some unit))
+
+-- a unit, or none, in the bytes before the next space
+unfoldable pub unit_at : Reader (Option UnitOf)
+unit_at bytes = do
+  unit ← unit_named (take (word_length bytes) bytes)
+  Some (unit, drop (word_length bytes) bytes)
+
 -- ---- sets of kinds
 
 abbrev pub kind_of_letter : ℕ → Option MetricKind
@@ -289,6 +307,17 @@ buckets_at line = whole (after (codes "buckets") values_at) line
 unfoldable pub buckets_for_at : List ℕ → Option (MatcherText × List ℤ)
 buckets_for_at line = whole (after (codes "buckets-for ") (both matcher_at (λ _. values_at))) line
 
+-- the factor, the greatest number of buckets and the threshold of a native-for line
+abbrev pub native_numbers_at : Reader (ℤ × (ℕ × ℤ))
+native_numbers_at = both fixed_at (λ _. after (codes " ") (both (number_at (2 ^ 32 - 1)) (λ _. after (codes " ") fixed_at)))
+
+-- a native-for line
+abbrev pub native_of_parts : MatcherText × (ℤ × (ℕ × ℤ)) → NativeLine
+native_of_parts parts = record { matcher = parts.0; factor = parts.1.0; max_buckets = parts.1.1.0; threshold = parts.1.1.1 }
+
+unfoldable pub native_for_at : List ℕ → Option NativeLine
+native_for_at line = whole (after (codes "native-for ") (seen native_of_parts (both matcher_at (λ _. after (codes " ") native_numbers_at)))) line
+
 -- the bucket count and the bucket duration of a summary line
 unfoldable pub summary_at : List ℕ → Option (ℕ × ℕ)
 summary_at line = whole (after (codes "summary ") (both (positive_at (2 ^ 32 - 1)) (λ _. after (codes " ") (number_at (2 ^ 64 - 1))))) line
@@ -297,13 +326,48 @@ summary_at line = whole (after (codes "summary ") (both (positive_at (2 ^ 32 - 1
 unfoldable pub idle_at : List ℕ → Option (KindMask × ℕ)
 idle_at line = whole (after (codes "idle ") (both mask_at (λ _. after (codes " ") (number_at (2 ^ 64 - 1))))) line
 
--- a global line
-unfoldable pub global_at : List ℕ → Option LabelText
-global_at line = whole (after (codes "global ") (seen (λ texts. record { key = texts.0; value = texts.1 }) (both text_at (λ _. after (codes " ") text_at)))) line
+-- a label behind the first word of a line
+unfoldable pub label_line_at : List ℕ → List ℕ → Option LabelText
+label_line_at word line = whole (after word (seen (λ texts. record { key = texts.0; value = texts.1 }) (both text_at (λ _. after (codes " ") text_at)))) line
+
+-- the limit of a dsd-limit line
+unfoldable pub limit_at : List ℕ → Option ℕ
+limit_at line = whole (after (codes "dsd-limit ") (number_at (2 ^ 64 - 1))) line
+
+-- the prefix of a dsd-prefix line
+unfoldable pub prefix_at : List ℕ → Option (List ℕ)
+prefix_at line = whole (after (codes "dsd-prefix ") text_at) line
+
+-- a header line whose bytes are always the same
+abbrev pub switch_at : List ℕ → Option HeaderLine
+switch_at line =
+    if bytes_eq line (codes "naming on") then Some text.Naming
+    else if bytes_eq line (codes "units on") then Some text.Units
+    else if bytes_eq line (codes "dsd-mode conservative") then Some (text.Mode false)
+    else if bytes_eq line (codes "dsd-mode aggressive") then Some (text.Mode true)
+    else if bytes_eq line (codes "dsd-kind h") then Some (text.HistogramKind true)
+    else if bytes_eq line (codes "dsd-kind d") then Some (text.HistogramKind false)
+    else None
+
+-- a header line of payloads that is not always the same
+abbrev pub payload_line_at : List ℕ → Option HeaderLine
+payload_line_at line =
+    option_map text.GlobalTag (label_line_at (codes "dsd-global ") line) or option_map text.Limit (limit_at line)
+    or option_map text.NamePrefix (prefix_at line)
 
 -- the moment of a round line
 unfoldable pub round_at : List ℕ → Option ℕ
 round_at line = whole (after (codes "round ") (number_at (2 ^ 64 - 1))) line
+
+-- a describe line
+abbrev pub description_of_parts : MetricKind × (List ℕ × (Option UnitOf × List ℕ)) → SetupLine
+description_of_parts parts = text.Describe parts.0 parts.1.0 parts.1.1.0 parts.1.1.1
+
+abbrev pub description_at : Reader (MetricKind × (List ℕ × (Option UnitOf × List ℕ)))
+description_at = both kind_word_at (λ _. both text_at (λ _. after (codes " ") (both unit_at (λ _. after (codes " ") text_at))))
+
+unfoldable pub describe_at : List ℕ → Option SetupLine
+describe_at line = whole (after (codes "describe ") (seen description_of_parts description_at)) line
 
 -- what a register line registers: a kind, and a key's name and labels
 abbrev pub Registered : Type 0

@@ -1,5 +1,5 @@
 -- The script grammar (this project's format): which lines are a script.
-use Rattle.std.specs.Prelude.{◌≡◌, ℕ, ◌^◌, ◌<◌, ◌≤◌, ◌==◌, Bool, false, List, [], ◌∷◌, ◌++◌, map, ℤ, Option, None, option_map, option_to_list, codes, decimal, flat_map, IsUtf8}
+use Rattle.std.specs.Prelude.{◌≡◌, ℕ, ◌^◌, ◌<◌, ◌≤◌, ◌==◌, Bool, false, List, [], ◌∷◌, ◌++◌, map, ℤ, Option, None, option_map, option_to_list, codes, decimal, flat_map, unwrap_or, IsUtf8, if◌then◌else◌}
 use Rattle.std.specs.List.{AllZip, slice_split}
 use Rattle.metrics_core.specs.declared.kinds.MetricKind.{MetricKind}
 use Rattle.metrics_core.specs.declared.kinds.MetricKind.TheVariants as kinds
@@ -10,7 +10,7 @@ use Rattle.metrics_core.specs.Keys.{LabelText, KeyText, label_set}
 use Rattle.metrics_core.specs.Calls.{Call}
 use Rattle.metrics_core.specs.Calls as calls
 use Rattle.prom_format.specs.Matchers.{MatcherText, matcher_bytes}
-use Rattle.drive_script.specs.Words.{spaced, IsDec, AreDecs, form_word, IsMask, quoted, label_word, IsLabelUtf8, IsKeyUtf8}
+use Rattle.drive_script.specs.Words.{spaced, IsDec, AreDecs, form_word, IsMask, quoted, label_word, unit_word, mode_word, histogram_word, IsLabelUtf8, IsKeyUtf8}
 
 -- ---- scripts
 
@@ -50,19 +50,6 @@ only_globals globals = record {
   naming = false;
   units = false;
   globals = globals;
-  dsd_limit = None;
-  dsd_aggressive = false;
-  dsd_prefix = None;
-  dsd_globals = [];
-  dsd_histograms = false;
-}
-
--- the settings that there are header lines for; the others have none yet, and are as without
-abbrev pub sayable : SettingsText → SettingsText
-sayable settings = record settings {
-  native_for = [];
-  naming = false;
-  units = false;
   dsd_limit = None;
   dsd_aggressive = false;
   dsd_prefix = None;
@@ -113,9 +100,17 @@ pub data HeaderLine : Type 0 where
   Quantiles : List ℤ → HeaderLine
   Buckets : List ℤ → HeaderLine
   BucketsFor : MatcherText → List ℤ → HeaderLine
+  NativeFor : NativeLine → HeaderLine
   Summary : ℕ → ℕ → HeaderLine
   Idle : KindMask → ℕ → HeaderLine
+  Naming : HeaderLine
+  Units : HeaderLine
   Global : LabelText → HeaderLine
+  Limit : ℕ → HeaderLine
+  Mode : Bool → HeaderLine
+  NamePrefix : List ℕ → HeaderLine
+  GlobalTag : LabelText → HeaderLine
+  HistogramKind : Bool → HeaderLine
 
 -- what one line says
 pub data ScriptLine : Type 0 where
@@ -131,18 +126,30 @@ AreHeaderWords words (Buckets values) = (decs : List (List ℕ)) × AreDecs decs
 AreHeaderWords words (BucketsFor matcher values) =
     (decs : List (List ℕ)) × IsUtf8 (matcher_bytes matcher) × AreDecs decs values
     × (words ≡ codes "buckets-for" ∷ form_word matcher ∷ quoted (matcher_bytes matcher) ∷ decs)
+AreHeaderWords words (NativeFor native) =
+    (factor threshold : List ℕ) × IsUtf8 (matcher_bytes native.matcher) × IsDec factor native.factor × (native.max_buckets < 2 ^ 32) × IsDec threshold native.threshold
+    × (words ≡ codes "native-for" ∷ form_word native.matcher ∷ quoted (matcher_bytes native.matcher) ∷ factor ∷ decimal native.max_buckets ∷ threshold ∷ [])
 AreHeaderWords words (Summary count duration) =
     (1 ≤ count) × (count < 2 ^ 32) × (duration < 2 ^ 64) × (words ≡ codes "summary" ∷ decimal count ∷ decimal duration ∷ [])
 AreHeaderWords words (Idle mask timeout) =
     (letters : List ℕ) × IsMask letters mask × (timeout < 2 ^ 64) × (words ≡ codes "idle" ∷ letters ∷ decimal timeout ∷ [])
+AreHeaderWords words Naming = words ≡ codes "naming" ∷ codes "on" ∷ []
+AreHeaderWords words Units = words ≡ codes "units" ∷ codes "on" ∷ []
 AreHeaderWords words (Global label) =
     IsLabelUtf8 label × (words ≡ codes "global" ∷ quoted label.key ∷ quoted label.value ∷ [])
+AreHeaderWords words (Limit limit) = (limit < 2 ^ 64) × (words ≡ codes "dsd-limit" ∷ decimal limit ∷ [])
+AreHeaderWords words (Mode aggressive) = words ≡ codes "dsd-mode" ∷ mode_word aggressive ∷ []
+AreHeaderWords words (NamePrefix text) = IsUtf8 text × (words ≡ codes "dsd-prefix" ∷ quoted text ∷ [])
+AreHeaderWords words (GlobalTag label) =
+    IsLabelUtf8 label × (words ≡ codes "dsd-global" ∷ quoted label.key ∷ quoted label.value ∷ [])
+AreHeaderWords words (HistogramKind histograms) = words ≡ codes "dsd-kind" ∷ histogram_word histograms ∷ []
 
--- the words of a setup line: it registers a series of a kind under a key
+-- the words of a setup line: it describes the metric of a kind and a name, or registers a series of a kind under a key
 abbrev pub AreSetupWords : List (List ℕ) → SetupLine → Type 0
+AreSetupWords words (Describe kind name unit text) =
+    IsUtf8 name × IsUtf8 text × (words ≡ codes "describe" ∷ kind_text kind ∷ quoted name ∷ unit_word unit ∷ quoted text ∷ [])
 AreSetupWords words (Register kind key) =
     IsKeyUtf8 key × (words ≡ codes "register" ∷ kind_text kind ∷ quoted key.name ∷ map label_word key.labels)
-AreSetupWords words _ = ⊥
 
 -- the words of a call behind its lane: the act, the handle, and what it is made with; a `recn` line records 1 to 1,000,000 samples
 abbrev pub AreActWords : List (List ℕ) → ℕ → Act → Type 0
@@ -171,15 +178,37 @@ pub record IsLine (bytes : List ℕ) (says : ScriptLine) : Type 0 where
 
 -- ---- the lines of a script
 
+-- what the header lines say of the mode of aggregation, and of the kind of histogram lines, where they say it: whether the
+-- mode is aggressive, and whether the kind is `h`
+pub record Said : Type 0 where
+  pub mode : Option Bool
+  pub kind : Option Bool
+
+-- the settings have the mode and the kind that were said; else the mode is conservative, and the kind `d`
+abbrev pub IsMeant : Said → SettingsText → Type 0
+IsMeant said settings = (settings.dsd_aggressive ≡ unwrap_or said.mode false) × (settings.dsd_histograms ≡ unwrap_or said.kind false)
+
+-- a line that stands where a setting is on
+abbrev pub where_on : Bool → HeaderLine → List HeaderLine
+where_on on line = if on then line ∷ [] else []
+
 -- the header lines, in their order
-abbrev pub header_lines : SettingsText → List HeaderLine
-header_lines settings =
+abbrev pub header_lines : SettingsText → Said → List HeaderLine
+header_lines settings said =
     option_to_list (option_map Quantiles settings.quantiles)
     ++ option_to_list (option_map Buckets settings.buckets)
     ++ map (λ rule. BucketsFor rule.0 rule.1) settings.buckets_for
+    ++ map NativeFor settings.native_for
     ++ option_to_list (option_map (λ summary. Summary summary.0 summary.1) settings.summary)
     ++ option_to_list (option_map (λ idle. Idle idle.0 idle.1) settings.idle)
+    ++ where_on settings.naming Naming
+    ++ where_on settings.units Units
     ++ map Global settings.globals
+    ++ option_to_list (option_map Limit settings.dsd_limit)
+    ++ option_to_list (option_map Mode said.mode)
+    ++ option_to_list (option_map NamePrefix settings.dsd_prefix)
+    ++ map GlobalTag settings.dsd_globals
+    ++ option_to_list (option_map HistogramKind said.kind)
 
 -- a round: its line, setup lines, call lines
 abbrev pub round_lines : RoundText → List ScriptLine
@@ -187,8 +216,9 @@ round_lines round = Round round.moment ∷ map Setup round.setup ++ map CallOf r
 
 -- the lines are a script: header lines, then rounds, each line of its form
 pub record IsScript (lines : List (List ℕ)) (script : ScriptText) : Type 0 where
-  pub settings : script.settings ≡ sayable script.settings
-  pub each : AllZip IsLine lines (map Header (header_lines script.settings) ++ flat_map round_lines script.rounds)
+  pub said : Said
+  pub meant : IsMeant said script.settings
+  pub each : AllZip IsLine lines (map Header (header_lines script.settings said) ++ flat_map round_lines script.rounds)
 
 -- ---- bytes and lines
 

@@ -3,11 +3,13 @@ use Rattle.std.specs.Prelude.{◌≡◌, ◌+◌, ℕ, ℤ, List, map, flat_map,
 use Rattle.std.specs.Int.NonZero.{non_zero_u32_get}
 use Rattle.std.specs.declared.string.String.{String}
 use Rattle.std.specs.declared.alloc.Global.{Global}
+use Rattle.prom_format.specs.declared.matchers.Matcher.{Matcher}
 use Rattle.metrics_core.specs.declared.numbers.Fixed.{Fixed}
 use Rattle.metrics_core.specs.declared.kinds.MetricKind.{MetricKind}
 use Rattle.metrics_core.specs.Keys.{LabelText, KeyText}
 use Rattle.prom_format.specs.LabelSets.{labels_of}
 use Rattle.prom_format.specs.MatcherTexts.{matcher_text}
+use Rattle.drive_script.specs.Growth.{IsLeastPlace}
 use Rattle.drive_script.specs.Heads.{AreNoted}
 use Rattle.drive_script.specs.Reading.{Registered}
 use Rattle.drive_script.specs.declared.script.Settings.{Settings}
@@ -39,6 +41,7 @@ abbrev pub call_line_of : CallLine → text.CallLine
 call_line_of line = record { lane = line.lane; handle = line.handle; act = act_of line.act }
 
 abbrev pub setup_of : Setup → text.SetupLine
+setup_of (setups.Describe kind name unit description) = text.Describe kind (string_bytes name) unit (string_bytes description)
 setup_of (setups.Register kind key) = text.Register kind key
 
 abbrev pub round_of : Round → text.RoundText
@@ -47,13 +50,25 @@ round_of round = record { moment = round.moment; setup = map setup_of round.setu
 abbrev pub values_of : List Fixed → List ℤ
 values_of values = map (λ value. value.0) values
 
+abbrev pub native_of : Matcher × Fixed × ℕ × Fixed → text.NativeLine
+native_of line = record { matcher = matcher_text line.0; factor = line.1.0; max_buckets = line.2; threshold = line.3.0 }
+
 abbrev pub settings_of : Settings → text.SettingsText
-settings_of settings = record (text.only_globals (labels_of settings.globals.items)) {
+settings_of settings = record {
   quantiles = option_map (λ quantiles. values_of quantiles.items) settings.quantiles;
   buckets = option_map (λ bounds. values_of bounds.items) settings.buckets;
   buckets_for = map (λ rule. (matcher_text rule.0, values_of rule.1.items)) settings.buckets_for.items;
+  native_for = map native_of settings.native_for.items;
   summary = option_map (λ summary. (non_zero_u32_get summary.0, summary.1)) settings.summary;
   idle = settings.idle;
+  naming = settings.naming;
+  units = settings.units;
+  globals = labels_of settings.globals.items;
+  dsd_limit = settings.dsd_limit;
+  dsd_aggressive = settings.dsd_aggressive;
+  dsd_prefix = option_map (λ prefix. string_bytes prefix) settings.dsd_prefix;
+  dsd_globals = labels_of settings.dsd_globals.items;
+  dsd_histograms = settings.dsd_histograms;
 }
 
 abbrev pub script_of : Script → text.ScriptText
@@ -78,14 +93,22 @@ abbrev pub header_of : HeaderLine → text.HeaderLine
 header_of (headers.Quantiles values) = text.Quantiles (values_of values.items)
 header_of (headers.Buckets bounds) = text.Buckets (values_of bounds.items)
 header_of (headers.BucketsFor matcher bounds) = text.BucketsFor (matcher_text matcher) (values_of bounds.items)
+header_of (headers.NativeFor matcher factor max_buckets threshold) = text.NativeFor (native_of (matcher, factor, max_buckets, threshold))
 header_of (headers.Summary count duration) = text.Summary (non_zero_u32_get count) duration
 header_of (headers.Idle mask timeout) = text.Idle mask timeout
+header_of headers.Naming = text.Naming
+header_of headers.Units = text.Units
 header_of (headers.Global key value) = text.Global (label_of (key, value))
+header_of (headers.Limit limit) = text.Limit limit
+header_of (headers.Mode aggressive) = text.Mode aggressive
+header_of (headers.NamePrefix prefix) = text.NamePrefix (string_bytes prefix)
+header_of (headers.GlobalTag key value) = text.GlobalTag (label_of (key, value))
+header_of (headers.HistogramKind histograms) = text.HistogramKind histograms
 
 abbrev pub line_of : Statement → text.ScriptLine
 line_of (lines.Header line) = text.Header (header_of line)
 line_of (lines.Round moment) = text.Round moment
-line_of (lines.Register kind key) = text.Setup (text.Register kind key)
+line_of (lines.Setup setup) = text.Setup (setup_of setup)
 line_of (lines.Call call) = text.CallOf (call_line_of call)
 
 -- ---- the progress of the reading
@@ -94,16 +117,18 @@ line_of (lines.Call call) = text.CallOf (call_line_of call)
 abbrev pub script_so_far : ScriptSoFar → text.ScriptText
 script_so_far progress = record { settings = settings_of progress.settings; rounds = map round_of progress.rounds.items }
 
--- what is known beside the script: the global labels, the kind of each register line, which lines print alike, and how many
--- more samples its call lines may record
-pub record IsKnown (progress : ScriptSoFar) : Type 0 where
+-- what is known beside the script, where its header lines said this of the mode and of the kind: the global labels, the kind of
+-- each register line, which lines print alike, how many more samples its call lines may record, and the least place of one
+-- more header line
+pub record IsKnown (said : text.Said) (progress : ScriptSoFar) : Type 0 where
   pub globals : labels_of progress.heads.globals.entries ≡ text.global_labels (script_so_far progress).settings
   pub kinds : progress.kinds.items ≡ map (λ r. r.kind) (registered (script_so_far progress))
   pub heads : AreNoted (labels_of progress.heads.globals.entries) progress.heads.table (registered (script_so_far progress))
   pub samples : sample_total (script_so_far progress) + progress.samples_left ≡ 16777216
+  pub order : IsLeastPlace progress.least_place (text.header_lines (script_so_far progress).settings said)
 
 -- the progress stands behind these lines: they are the valid script of its rounds
 pub record StandsBehind (lines : List (List ℕ)) (progress : ScriptSoFar) : Type 0 where
   pub script : text.IsScript lines (script_so_far progress)
   pub valid : IsValid (script_so_far progress)
-  pub known : IsKnown progress
+  pub known : IsKnown script.said progress

@@ -1,8 +1,10 @@
 -- Worked examples, computed.
-use Rattle.std.specs.Prelude.{◌≡◌, ℕ, codes, refl, List, [], ◌∷◌, pos}
+use Rattle.std.specs.Prelude.{◌≡◌, ℕ, codes, refl, true, List, [], ◌∷◌, pos, Some}
 use Rattle.metrics_core.specs.declared.kinds.MetricKind.TheVariants.{Counter, Histogram}
 use Rattle.metrics_core.specs.Keys.{KeyText}
-use Rattle.drive_script.specs.Script.{ScriptText, RoundText, Register, Inc, RecN, only_globals, lines_of}
+use Rattle.metrics_core.specs.declared.units.Unit.TheVariants.{Seconds}
+use Rattle.prom_format.specs.Matchers.{Full}
+use Rattle.drive_script.specs.Script.{ScriptText, NativeLine, RoundText, Describe, Register, Inc, RecN, only_globals, lines_of}
 
 abbrev pub basic_key : KeyText
 basic_key = record { name = codes "basic_counter"; labels = [] }
@@ -12,6 +14,31 @@ basic_round = record { moment = 0; setup = Register Counter basic_key ∷ []; ca
 
 abbrev pub basic : ScriptText
 basic = record { settings = only_globals []; rounds = basic_round ∷ [] }
+
+-- header lines of many forms, and a line that describes
+abbrev pub settings_bytes : List ℕ
+settings_bytes = codes "native-for full \"n\" 2 160 0\nnaming on\nunits on\ndsd-limit 512\ndsd-mode aggressive\ndsd-prefix \"p\"\ndsd-global \"e\" \"\"\ndsd-kind h\nround 0\ndescribe counter \"a\" seconds \"b\"\n"
+
+abbrev pub described_round : RoundText
+described_round = record { moment = 0; setup = Describe Counter (codes "a") (Some Seconds) (codes "b") ∷ []; calls = [] }
+
+abbrev pub native_line : NativeLine
+native_line = record { matcher = Full (codes "n"); factor = pos 2000000000; max_buckets = 160; threshold = pos 0 }
+
+abbrev pub with_settings : ScriptText
+with_settings = record {
+  settings = record (only_globals []) {
+    native_for = native_line ∷ [];
+    naming = true;
+    units = true;
+    dsd_limit = Some 512;
+    dsd_aggressive = true;
+    dsd_prefix = Some (codes "p");
+    dsd_globals = record { key = codes "e"; value = [] } ∷ [];
+    dsd_histograms = true;
+  };
+  rounds = described_round ∷ [];
+}
 
 abbrev pub empty : ScriptText
 empty = record { settings = only_globals []; rounds = [] }

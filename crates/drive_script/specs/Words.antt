@@ -1,11 +1,13 @@
 -- The words of a script line (this project's format): numbers, decimals, texts and labels.
-use Rattle.std.specs.Prelude.{◌≡◌, ℕ, ◌+◌, ◌-◌, ◌*◌, ◌^◌, ◌<◌, ◌≤◌, Bool, false, List, [], ◌∷◌, ◌++◌, map, fold, length, ℤ, pos, neg_ℤ, codes, decimal, IsUtf8, All, if◌then◌else◌}
+use Rattle.std.specs.Prelude.{◌≡◌, ℕ, ◌+◌, ◌-◌, ◌*◌, ◌^◌, ◌<◌, ◌≤◌, Bool, false, List, [], ◌∷◌, ◌++◌, map, fold, length, ℤ, pos, neg_ℤ, codes, decimal, IsUtf8, All, Option, None, Some, if◌then◌else◌}
 use Rattle.std.specs.List.{AllZip, join_with_byte}
 use Rattle.std.specs.Str.Parse.{AllDigits, digits_value}
 use Rattle.metrics_core.specs.Characters.{space, full_stop, minus_sign}
 use Rattle.metrics_core.specs.Numbers.{one}
 use Rattle.metrics_core.specs.Keys.{LabelText, KeyText}
 use Rattle.metrics_core.specs.Kinds.{KindMask, mask_has}
+use Rattle.metrics_core.specs.Units.{unit_text}
+use Rattle.metrics_core.specs.declared.units.Unit.{Unit as UnitOf}
 use Rattle.metrics_core.specs.declared.kinds.MetricKind.{MetricKind}
 use Rattle.metrics_core.specs.declared.kinds.MetricKind.TheVariants as kinds
 use Rattle.metrics_registry.specs.Masks.{no_kinds, only, union_of}
@@ -75,6 +77,11 @@ form_word (Full _) = codes "full"
 form_word (Prefix _) = codes "prefix"
 form_word (Suffix _) = codes "suffix"
 
+-- UNIT: the name of a unit, or `-` where there is none
+abbrev pub unit_word : Option UnitOf → List ℕ
+unit_word None = codes "-"
+unit_word (Some unit) = unit_text unit
+
 -- the letter of a kind
 abbrev pub kind_letter : MetricKind → ℕ
 kind_letter kinds.Counter = 99
@@ -97,3 +104,10 @@ pub record IsMask (word : List ℕ) (mask : KindMask) : Type 0 where
   pub different : AreNewKinds no_kinds kinds
   pub spelled : word ≡ map kind_letter kinds
   pub meant : mask ≡ fold with_kind no_kinds kinds
+
+-- the word of a mode of aggregation, and of a kind of histogram lines
+abbrev pub mode_word : Bool → List ℕ
+mode_word aggressive = if aggressive then codes "aggressive" else codes "conservative"
+
+abbrev pub histogram_word : Bool → List ℕ
+histogram_word histograms = if histograms then codes "h" else codes "d"

@@ -1,6 +1,7 @@
 //! What is read from the front of one line.
 
 ghost use Rattle.std.specs.Prelude.{
+  bytes_eq,
   ◌≡◌,
   ℕ,
   ◌<◌,
@@ -13,6 +14,7 @@ ghost use Rattle.std.specs.Prelude.{
   IfOk,
   IfSome,
   codes,
+  option_map,
   string_bytes,
   Some,
   None,
@@ -44,15 +46,20 @@ ghost use Rattle.drive_script.specs.Reading.{
   mask_at,
   matcher_at,
   matcher_form_at,
+  native_numbers_at,
   number_at,
   positive_at,
   registered_kind_at,
   run_length,
   text_at,
   text_behind,
+  unit_at,
+  unit_named,
   value_of,
   values_at,
   verb_at,
+  whole,
+  word_length,
 };
 ghost use Rattle.std.specs.Int.NonZero.{non_zero_u32_get};
 ghost use Rattle.metrics_registry.specs.Masks.{only};
@@ -64,7 +71,7 @@ use crate::Act;
 use crate::headers::MatcherForm;
 use crate::lines::Verb;
 use crate::recent::Recent;
-use metrics_core::{BILLIONTHS, Fixed, Label, Memory, MetricKind, SharedString};
+use metrics_core::{BILLIONTHS, Fixed, Label, Memory, MetricKind, SharedString, Unit};
 use metrics_registry::MetricKindMask;
 use prom_format::Matcher;
 use std::alloc::Global;
@@ -175,7 +182,7 @@ impl<'a> Cursor<'a> {
     }
 
     /// Takes a space and a value.
-    fn spaced_value(&mut self) -> Option<Fixed>
+    pub(crate) fn spaced_value(&mut self) -> Option<Fixed>
         ensures { MatchOption result (after (codes " ") fixed_at self.old.rest.now ≡ None)
             (λ value. after (codes " ") fixed_at self.old.rest.now ≡ Some (value.0, self.new.rest.now)) }
     {
@@ -199,6 +206,17 @@ impl<'a> Cursor<'a> {
         match str::from_utf8(run) {
             Ok(text) => Ok(Some(CowStr::Borrowed(text))),
             Err(_) => Ok(None),
+        }
+    }
+
+    /// Takes a space and a text.
+    pub(crate) fn spaced_text(&mut self, alloc: Global) -> Result<Option<CowStr<'a>>, Memory>
+        ensures { IfOk result (λ text. MatchOption text (after (codes " ") text_at self.old.rest.now ≡ None)
+            (λ text. after (codes " ") text_at self.old.rest.now ≡ Some (cow_str_bytes text, self.new.rest.now))) }
+    {
+        match self.literal(b" ") {
+            Some(()) => self.text(alloc),
+            None => Ok(None),
         }
     }
 
@@ -343,6 +361,40 @@ impl<'a> Cursor<'a> {
         Some(MatcherForm::Suffix)
     }
 
+    /// Takes the three numbers of a native-for line, each behind a space, and the end of the line.
+    pub(crate) fn native_numbers(&mut self) -> Option<(Fixed, u32, Fixed)>
+        ensures { option_map (λ numbers. (numbers.0.0, (numbers.1, numbers.2.0))) result
+            ≡ whole (after (codes " ") native_numbers_at) self.old.rest.now }
+    {
+        let factor = self.spaced_value()?;
+        self.literal(b" ")?;
+        let max_buckets = self.number(u64::from(u32::MAX))?;
+        let threshold = self.spaced_value()?;
+        self.end()?;
+        Some((factor, max_buckets as u32, threshold))
+    }
+
+    /// Takes a space, and the name of a unit, or `-` where there is none.
+    pub(crate) fn spaced_unit(&mut self) -> Option<Option<Unit>>
+        ensures { MatchOption result (after (codes " ") unit_at self.old.rest.now ≡ None)
+            (λ unit. after (codes " ") unit_at self.old.rest.now ≡ Some (unit, self.new.rest.now)) }
+    {
+        self.literal(b" ")?;
+        self.unit()
+    }
+
+    /// Takes the bytes before the next space: the name of a unit, or `-` where there is none.
+    #[tactic(auto, unfolding(crate::specs::Reading::unit_at))]
+    fn unit(&mut self) -> Option<Option<Unit>>
+        ensures { MatchOption result (unit_at self.old.rest.now ≡ None)
+            (λ unit. unit_at self.old.rest.now ≡ Some (unit, self.new.rest.now)) }
+    {
+        let (word, rest) = self.rest.split_at(word_length(self.rest));
+        let unit = unit_named(word)?;
+        self.rest = rest;
+        Some(unit)
+    }
+
     /// Takes the letters of one to three different kinds.
     #[tactic(auto, unfolding(crate::specs::Reading::mask_at))]
     pub(crate) fn mask(&mut self) -> Option<MetricKindMask>
@@ -407,6 +459,15 @@ impl<'a> Cursor<'a> {
         self.kind_word()
     }
 
+    /// Takes the first words of a describe line.
+    pub(crate) fn described_kind(&mut self) -> Option<MetricKind>
+        ensures { MatchOption result (after (codes "describe ") kind_word_at self.old.rest.now ≡ None)
+            (λ kind. after (codes "describe ") kind_word_at self.old.rest.now ≡ Some (kind, self.new.rest.now)) }
+    {
+        self.literal(b"describe ")?;
+        self.kind_word()
+    }
+
     /// Takes the word of a kind, and the space behind it.
     #[tactic(auto, unfolding(crate::specs::Reading::kind_word_at))]
     fn kind_word(&mut self) -> Option<MetricKind>
@@ -467,6 +528,35 @@ fn run_length(bytes: &[u8]) -> usize
         .iter()
         .position(|byte| matches!(*byte, b'"' | b'\\' | b'\n'))
         .unwrap_or(bytes.len())
+}
+
+/// How many bytes stand before the next space.
+fn word_length(bytes: &[u8]) -> usize
+    ensures count { result ≡ word_length bytes.now }
+    ensures within { result ≤ length bytes.now }
+{
+    bytes
+        .iter()
+        .position(|byte| *byte == b' ')
+        .unwrap_or(bytes.len())
+}
+
+/// The unit of a name, or none for `-`.
+fn unit_named(word: &[u8]) -> Option<Option<Unit>>
+    ensures { result ≡ unit_named word.now }
+{
+    if is_same(word, b"-") {
+        return Some(None);
+    }
+    let unit = Unit::from_string(str::from_utf8(word).ok()?)?;
+    Some(Some(unit))
+}
+
+/// Whether two runs of bytes are the same.
+pub(crate) fn is_same(one: &[u8], other: &[u8]) -> bool
+    ensures { result ≡ bytes_eq one.now other.now }
+{
+    one == other
 }
 
 /// How many digits stand at the front.

@@ -2,6 +2,7 @@
 
 ghost use Rattle.std.specs.Prelude.{Some};
 
+use dsd_addresses::LimitFault;
 use metrics_core::Memory;
 use std::error::Error;
 use std::fmt;
@@ -15,6 +16,10 @@ pub enum SettingFault {
     ZeroDuration,
     /// A window's span, its number of buckets times their width, passes 64 bits of nanoseconds.
     SpanTooLong,
+    /// A native histogram can't have what a line asks for, for this reason.
+    Native(&'static str),
+    /// The payload limit isn't allowed at the address.
+    Limit(LimitFault),
 }
 
 impl fmt::Display for SettingFault {
@@ -30,6 +35,8 @@ impl fmt::Display for SettingFault {
             SettingFault::SpanTooLong => {
                 write!(f, "bucket durations exceed 64 bits of nanoseconds")
             }
+            SettingFault::Native(reason) => write!(f, "{reason}"),
+            SettingFault::Limit(fault) => write!(f, "invalid configuration: {fault}"),
         }
     }
 }

@@ -1,23 +1,28 @@
 //! Header lines: what each says, and in which order they stand.
 
-ghost use Rattle.std.specs.Prelude.{◌≡◌, ◌↔◌, IsTrue, Option, Some, None, IfOk, MatchOption, OnOk, option_map};
+ghost use Rattle.std.specs.Prelude.{◌≡◌, Option, Some, None, IfOk, MatchOption, OnOk, option_map, string_bytes};
 ghost use Rattle.std.specs.Int.NonZero.{non_zero_u32_get};
 ghost use Rattle.prom_format.specs.MatcherTexts.{matcher_text};
 ghost use Rattle.drive_script.specs.Script as text;
 ghost use Rattle.drive_script.specs.Script.{IsLine};
-ghost use Rattle.drive_script.specs.Growth.{NoneFromIdle, NoneFromSummary, NoneFromBuckets, MayFollow, with_header};
+ghost use Rattle.drive_script.specs.Growth.{place, may_repeat, least_behind, with_header};
 ghost use Rattle.drive_script.specs.Reading.{
   quantiles_at,
   buckets_at,
   buckets_for_at,
+  native_for_at,
   summary_at,
   idle_at,
-  global_at,
+  label_line_at,
+  limit_at,
+  prefix_at,
+  switch_at,
+  payload_line_at,
 };
-ghost use Rattle.drive_script.specs.Texts.{header_of, label_of, settings_of, values_of};
+ghost use Rattle.drive_script.specs.Texts.{header_of, label_of, native_of, settings_of, values_of};
 
 use crate::Settings;
-use crate::cursor::Cursor;
+use crate::cursor::{Cursor, is_same};
 use metrics_core::{Fixed, Memory};
 use metrics_registry::MetricKindMask;
 use prom_format::Matcher;
@@ -33,12 +38,28 @@ pub(crate) enum HeaderLine {
     Buckets(Vec<Fixed>),
     /// The bounds of histograms with a name that matches.
     BucketsFor(Matcher, Vec<Fixed>),
+    /// The factor, the greatest number of buckets and the threshold of native histograms with a name that matches.
+    NativeFor(Matcher, Fixed, u32, Fixed),
     /// How many buckets a summary's window has, and the nanoseconds of each.
     Summary(NonZeroU32, u64),
     /// The kinds that fall idle, and after how many nanoseconds.
     Idle(MetricKindMask, u64),
+    /// Names follow the conventions of Prometheus.
+    Naming,
+    /// Names end with their units.
+    Units,
     /// The key and the value of a global label.
     Global(String, String),
+    /// How many bytes a payload may have.
+    Limit(u64),
+    /// Whether values are aggregated as far as they can be.
+    Mode(bool),
+    /// What all names in payloads begin with.
+    NamePrefix(String),
+    /// The key and the value of a tag of all lines in payloads.
+    GlobalTag(String, String),
+    /// Whether the lines of histograms are of the kind `h`, and not `d`.
+    HistogramKind(bool),
 }
 
 /// How a matcher takes its text.
@@ -55,7 +76,7 @@ pub(crate) fn header_line(alloc: Global, line: &[u8]) -> Result<Option<HeaderLin
         MatchOption read ((says : text.HeaderLine) → ¬ IsLine line.now (text.Header says))
         (λ says. IsLine line.now (text.Header (header_of says)))) }
 {
-    if let Some((key, value)) = global_line(alloc, line)? {
+    if let Some((key, value)) = label_line(alloc, line, b"global ")? {
         return Ok(Some(HeaderLine::Global(key, value)));
     }
     if let Some((matcher, bounds)) = buckets_for_line(alloc, line)? {
@@ -73,7 +94,50 @@ pub(crate) fn header_line(alloc: Global, line: &[u8]) -> Result<Option<HeaderLin
     if let Some((mask, timeout)) = idle_line(line) {
         return Ok(Some(HeaderLine::Idle(mask, timeout)));
     }
-    Ok(None)
+    if let Some((matcher, factor, max_buckets, threshold)) = native_for_line(alloc, line)? {
+        return Ok(Some(HeaderLine::NativeFor(matcher, factor, max_buckets, threshold)));
+    }
+    match switch_line(line) {
+        Some(switch) => Ok(Some(switch)),
+        None => payload_line(alloc, line),
+    }
+}
+
+/// A header line whose bytes are always the same.
+fn switch_line(line: &[u8]) -> Option<HeaderLine>
+    ensures { option_map header_of result ≡ switch_at line.now }
+{
+    if is_same(line, b"naming on") {
+        Some(HeaderLine::Naming)
+    } else if is_same(line, b"units on") {
+        Some(HeaderLine::Units)
+    } else if is_same(line, b"dsd-mode conservative") {
+        Some(HeaderLine::Mode(false))
+    } else if is_same(line, b"dsd-mode aggressive") {
+        Some(HeaderLine::Mode(true))
+    } else if is_same(line, b"dsd-kind h") {
+        Some(HeaderLine::HistogramKind(true))
+    } else if is_same(line, b"dsd-kind d") {
+        Some(HeaderLine::HistogramKind(false))
+    } else {
+        None
+    }
+}
+
+/// A header line of payloads that is not always the same.
+fn payload_line(alloc: Global, line: &[u8]) -> Result<Option<HeaderLine>, Memory>
+    ensures { IfOk result (λ read. option_map header_of read ≡ payload_line_at line.now) }
+{
+    if let Some((key, value)) = label_line(alloc, line, b"dsd-global ")? {
+        return Ok(Some(HeaderLine::GlobalTag(key, value)));
+    }
+    if let Some(limit) = limit_line(line) {
+        return Ok(Some(HeaderLine::Limit(limit)));
+    }
+    match prefix_line(alloc, line)? {
+        Some(prefix) => Ok(Some(HeaderLine::NamePrefix(prefix))),
+        None => Ok(None),
+    }
 }
 
 /// The values of a quantiles line.
@@ -147,22 +211,42 @@ fn idle_line(line: &[u8]) -> Option<(MetricKindMask, u64)>
     Some((mask, timeout))
 }
 
-/// The key and the value of a global line.
-#[tactic(auto, unfolding(crate::specs::Reading::global_at))]
-fn global_line(alloc: Global, line: &[u8]) -> Result<Option<(String, String)>, Memory>
-    ensures { IfOk result (λ read. option_map label_of read ≡ global_at line.now) }
+/// The matcher and the three numbers of a native-for line.
+#[tactic(auto, unfolding(crate::specs::Reading::native_for_at))]
+fn native_for_line(
+    alloc: Global,
+    line: &[u8],
+) -> Result<Option<(Matcher, Fixed, u32, Fixed)>, Memory>
+    ensures { IfOk result (λ read. option_map native_of read ≡ native_for_at line.now) }
 {
     let mut cursor = Cursor::new(line);
-    let Some(()) = cursor.literal(b"global ") else {
+    let Some(()) = cursor.literal(b"native-for ") else {
+        return Ok(None);
+    };
+    let Some(matcher) = cursor.matcher(alloc)? else {
+        return Ok(None);
+    };
+    match cursor.native_numbers() {
+        Some((factor, max_buckets, threshold)) => {
+            Ok(Some((matcher, factor, max_buckets, threshold)))
+        }
+        None => Ok(None),
+    }
+}
+
+/// The key and the value of a line with a first word, as `global `.
+#[tactic(auto, unfolding(crate::specs::Reading::label_line_at))]
+fn label_line(alloc: Global, line: &[u8], word: &[u8]) -> Result<Option<(String, String)>, Memory>
+    ensures { IfOk result (λ read. option_map label_of read ≡ label_line_at word.now line.now) }
+{
+    let mut cursor = Cursor::new(line);
+    let Some(()) = cursor.literal(word) else {
         return Ok(None);
     };
     let Some(key) = cursor.text(alloc)? else {
         return Ok(None);
     };
-    let Some(()) = cursor.literal(b" ") else {
-        return Ok(None);
-    };
-    let Some(value) = cursor.text(alloc)? else {
+    let Some(value) = cursor.spaced_text(alloc)? else {
         return Ok(None);
     };
     match cursor.end() {
@@ -171,41 +255,85 @@ fn global_line(alloc: Global, line: &[u8]) -> Result<Option<(String, String)>, M
     }
 }
 
-impl Settings {
-    /// Whether a header line may stand behind those that said these settings.
-    pub(crate) fn may_follow(&self, line: &HeaderLine) -> bool
-        ensures { IsTrue result ↔ MayFollow (settings_of self.now) (header_of line.now) }
+/// The limit of a dsd-limit line.
+#[tactic(auto, unfolding(crate::specs::Reading::limit_at))]
+fn limit_line(line: &[u8]) -> Option<u64>
+    ensures { result ≡ limit_at line.now }
+{
+    let mut cursor = Cursor::new(line);
+    cursor.literal(b"dsd-limit ")?;
+    let limit = cursor.number(u64::MAX)?;
+    cursor.end()?;
+    Some(limit)
+}
+
+/// The prefix of a dsd-prefix line.
+#[tactic(auto, unfolding(crate::specs::Reading::prefix_at))]
+fn prefix_line(alloc: Global, line: &[u8]) -> Result<Option<String>, Memory>
+    ensures { IfOk result (λ read. option_map (λ prefix. string_bytes prefix) read ≡ prefix_at line.now) }
+{
+    let mut cursor = Cursor::new(line);
+    let Some(()) = cursor.literal(b"dsd-prefix ") else {
+        return Ok(None);
+    };
+    let Some(prefix) = cursor.text(alloc)? else {
+        return Ok(None);
+    };
+    match cursor.end() {
+        Some(()) => Ok(Some(prefix.into_owned(alloc)?)),
+        None => Ok(None),
+    }
+}
+
+impl HeaderLine {
+    /// The place of its form in the order of header lines.
+    pub(crate) fn place(&self) -> u32
+        ensures { result ≡ place (header_of self.now) }
     {
-        match line {
-            HeaderLine::Quantiles(_) => self.quantiles.is_none() && self.none_from_buckets(),
-            HeaderLine::Buckets(_) => self.none_from_buckets(),
-            HeaderLine::BucketsFor(..) | HeaderLine::Summary(..) => self.none_from_summary(),
-            HeaderLine::Idle(..) => self.none_from_idle(),
-            HeaderLine::Global(..) => true,
+        match self {
+            HeaderLine::Quantiles(_) => 0,
+            HeaderLine::Buckets(_) => 1,
+            HeaderLine::BucketsFor(..) => 2,
+            HeaderLine::NativeFor(..) => 3,
+            HeaderLine::Summary(..) => 4,
+            HeaderLine::Idle(..) => 5,
+            HeaderLine::Naming => 6,
+            HeaderLine::Units => 7,
+            HeaderLine::Global(..) => 8,
+            HeaderLine::Limit(_) => 9,
+            HeaderLine::Mode(_) => 10,
+            HeaderLine::NamePrefix(_) => 11,
+            HeaderLine::GlobalTag(..) => 12,
+            HeaderLine::HistogramKind(_) => 13,
         }
     }
 
-    /// Whether neither buckets nor a form behind them was said.
-    fn none_from_buckets(&self) -> bool
-        ensures { IsTrue result ↔ NoneFromBuckets (settings_of self.now) }
+    /// Whether lines of its form may come again.
+    fn may_repeat(&self) -> bool
+        ensures { result ≡ may_repeat (header_of self.now) }
     {
-        self.buckets.is_none() && self.buckets_for.is_empty() && self.none_from_summary()
+        matches!(
+            self,
+            HeaderLine::BucketsFor(..)
+                | HeaderLine::NativeFor(..)
+                | HeaderLine::Global(..)
+                | HeaderLine::GlobalTag(..)
+        )
     }
 
-    /// Whether neither a summary nor a form behind it was said.
-    fn none_from_summary(&self) -> bool
-        ensures { IsTrue result ↔ NoneFromSummary (settings_of self.now) }
+    /// The least place of a header line behind it.
+    pub(crate) fn least_behind(&self) -> u32
+        ensures { result ≡ least_behind (header_of self.now) }
     {
-        self.summary.is_none() && self.none_from_idle()
+        if self.may_repeat() {
+            self.place()
+        } else {
+            self.place() + 1
+        }
     }
+}
 
-    /// Whether neither an idle timeout nor a global label was said.
-    fn none_from_idle(&self) -> bool
-        ensures { IsTrue result ↔ NoneFromIdle (settings_of self.now) }
-    {
-        self.idle.is_none() && self.globals.is_empty()
-    }
-
+impl Settings {
     /// Adds what one more header line says.
     pub(crate) fn add(&mut self, line: HeaderLine) -> Result<(), Memory>
         ensures { OnOk result (settings_of self.new ≡ with_header (settings_of self.old) (header_of line)) }
@@ -214,9 +342,20 @@ impl Settings {
             HeaderLine::Quantiles(quantiles) => self.quantiles = Some(quantiles),
             HeaderLine::Buckets(bounds) => self.buckets = Some(bounds),
             HeaderLine::BucketsFor(matcher, bounds) => self.buckets_for.push((matcher, bounds))?,
+            HeaderLine::NativeFor(matcher, factor, max_buckets, threshold) => {
+                self.native_for
+                    .push((matcher, factor, max_buckets, threshold))?;
+            }
             HeaderLine::Summary(count, duration) => self.summary = Some((count, duration)),
             HeaderLine::Idle(mask, timeout) => self.idle = Some((mask, timeout)),
+            HeaderLine::Naming => self.naming = true,
+            HeaderLine::Units => self.units = true,
             HeaderLine::Global(key, value) => self.globals.push((key, value))?,
+            HeaderLine::Limit(limit) => self.dsd_limit = Some(limit),
+            HeaderLine::Mode(aggressive) => self.dsd_aggressive = aggressive,
+            HeaderLine::NamePrefix(prefix) => self.dsd_prefix = Some(prefix),
+            HeaderLine::GlobalTag(key, value) => self.dsd_globals.push((key, value))?,
+            HeaderLine::HistogramKind(histograms) => self.dsd_histograms = histograms,
         }
         Ok(())
     }

@@ -115,8 +115,9 @@ impl HeadTable {
             → OnOk result (AreHeadsOf (labels_of globals.now.entries) (keys_by_head self.new.keys.entries) (earlier ++ registrations_in setup.now)) }
     {
         for line in setup {
-            let Setup::Register { kind, key } = line;
-            self.note(alloc, globals, *kind, key)?;
+            if let Setup::Register { kind, key } = line {
+                self.note(alloc, globals, *kind, key)?;
+            }
         }
         Ok(())
     }

@@ -18,7 +18,7 @@ mod recent;
 mod script;
 mod settings;
 
-pub use examples::{basic_example, empty_example, sampled_example};
+pub use examples::{basic_example, empty_example, sampled_example, settings_example};
 pub use facts::{beginnings, lines_say_one_thing, one_first_bad_line, one_reading};
 pub use faults::{DriveFault, SettingFault};
 pub use reader::read_script;

@@ -3,13 +3,13 @@
 ghost use Rattle.std.specs.Prelude.{◌≡◌, Option, Some, None, IfOk, MatchOption};
 ghost use Rattle.std.specs.Option.{option_map};
 ghost use Rattle.drive_script.specs.Script.{ScriptLine, IsLine};
-ghost use Rattle.drive_script.specs.Reading.{round_at, register_at, call_at};
-ghost use Rattle.drive_script.specs.Texts.{call_line_of, registered_of, line_of};
+ghost use Rattle.drive_script.specs.Reading.{round_at, describe_at, register_at, call_at};
+ghost use Rattle.drive_script.specs.Texts.{call_line_of, registered_of, setup_of, line_of};
 
 use crate::cursor::Cursor;
 use crate::headers::{HeaderLine, header_line};
 use crate::recent::Recent;
-use crate::{Act, CallLine};
+use crate::{Act, CallLine, Setup};
 use metrics_core::{Key, KeyName, Memory, MetricKind};
 use std::alloc::Global;
 
@@ -22,8 +22,7 @@ pub(crate) enum Statement {
     Header(HeaderLine),
     /// The moment of a round that begins.
     Round(u64),
-    /// A series that is registered.
-    Register { kind: MetricKind, key: Key },
+    Setup(Setup),
     Call(CallLine),
 }
 
@@ -56,7 +55,10 @@ pub(crate) fn read_line<'a>(
         return Ok(Some(Statement::Round(moment)));
     }
     if let Some((kind, key)) = register_line(alloc, line, recent)? {
-        return Ok(Some(Statement::Register { kind, key }));
+        return Ok(Some(Statement::Setup(Setup::Register { kind, key })));
+    }
+    if let Some(description) = describe_line(alloc, line)? {
+        return Ok(Some(Statement::Setup(description)));
     }
     match header_line(alloc, line)? {
         Some(header) => Ok(Some(Statement::Header(header))),
@@ -98,6 +100,35 @@ fn register_line<'a>(
     };
     let key = Key::from_parts(KeyName::from(name), labels);
     Ok(Some((kind, key)))
+}
+
+/// What a describe line describes.
+#[tactic(auto, unfolding(crate::specs::Reading::describe_at))]
+fn describe_line(alloc: Global, line: &[u8]) -> Result<Option<Setup>, Memory>
+    ensures { IfOk result (λ read. option_map setup_of read ≡ describe_at line.now) }
+{
+    let mut cursor = Cursor::new(line);
+    let Some(kind) = cursor.described_kind() else {
+        return Ok(None);
+    };
+    let Some(name) = cursor.text(alloc)? else {
+        return Ok(None);
+    };
+    let Some(unit) = cursor.spaced_unit() else {
+        return Ok(None);
+    };
+    let Some(text) = cursor.spaced_text(alloc)? else {
+        return Ok(None);
+    };
+    let Some(()) = cursor.end() else {
+        return Ok(None);
+    };
+    Ok(Some(Setup::Describe {
+        kind,
+        name: name.into_owned(alloc)?,
+        unit,
+        text: text.into_owned(alloc)?,
+    }))
 }
 
 /// A call line.

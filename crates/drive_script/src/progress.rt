@@ -1,12 +1,12 @@
 //! What the lines so far say, and whether one more line may stand behind them.
 
-ghost use Rattle.std.specs.Prelude.{◌≡◌, ℕ, List, [], ◌∷◌, ◌++◌, ◌↔◌, IsTrue, IfOk, OnOk, MatchBool};
+ghost use Rattle.std.specs.Prelude.{◌≡◌, ℕ, ◌≤◌, List, length, [], ◌∷◌, ◌++◌, ◌↔◌, IsTrue, IfOk, MatchBool, string_bytes};
 ghost use Rattle.drive_script.specs.Script as text;
 ghost use Rattle.metrics_core.specs.Keys.{KeyText};
 ghost use Rattle.metrics_core.specs.declared.kinds.MetricKind.{MetricKind};
-ghost use Rattle.drive_script.specs.Growth.{IsNext};
-ghost use Rattle.drive_script.specs.Taking.{Takes, MayRegister};
-ghost use Rattle.drive_script.specs.Texts.{call_line_of, header_of, script_of, script_so_far, IsKnown, StandsBehind};
+ghost use Rattle.drive_script.specs.Growth.{SetsUp};
+ghost use Rattle.drive_script.specs.Taking.{Takes, MaySetUp, MayRegister};
+ghost use Rattle.drive_script.specs.Texts.{call_line_of, header_of, setup_of, script_of, script_so_far, IsKnown, StandsBehind};
 ghost use Rattle.drive_script.specs.Valid.{registered, HasHandle, AreValidLines};
 ghost use Rattle.std.specs.List.Sorted.{IsNonDecreasingBy};
 
@@ -15,7 +15,7 @@ use crate::heads::Heads;
 use crate::lines::{Statement, read_line};
 use crate::recent::Recent;
 use crate::{CallLine, Round, Script, Settings, Setup};
-use metrics_core::{Key, Memory, MetricKind};
+use metrics_core::{Key, Memory, MetricKind, Unit};
 use std::alloc::Global;
 
 /// How many register lines a script may have.
@@ -24,8 +24,9 @@ const MAX_REGISTRATIONS: usize = 1_000_000;
 /// How many samples the call lines of a script may record.
 const MAX_SAMPLES: u32 = 16_777_216;
 
-/// The settings and the rounds so far, the kind of each register line in them, which of these print alike, and how many more
-/// samples there is room for. After an `Err` of a method it is of no use.
+/// The settings and the rounds so far, the kind of each register line in them, which of these print alike, how many more
+/// samples there is room for, and the least place of one more header line in their order. After an `Err` of a method it is of
+/// no use.
 #[derive(Drop)]
 pub(crate) struct ScriptSoFar {
     settings: Settings,
@@ -33,6 +34,7 @@ pub(crate) struct ScriptSoFar {
     kinds: Vec<MetricKind>,
     heads: Heads,
     samples_left: u32,
+    least_place: u32,
 }
 
 impl ScriptSoFar {
@@ -46,6 +48,7 @@ impl ScriptSoFar {
             kinds: Vec::new(alloc),
             heads: Heads::new(alloc),
             samples_left: MAX_SAMPLES,
+            least_place: 0,
         }
     }
 
@@ -64,7 +67,7 @@ impl ScriptSoFar {
             None => Ok(false),
             Some(Statement::Header(line)) => self.add_header(alloc, line),
             Some(Statement::Round(moment)) => self.begin_round(alloc, moment),
-            Some(Statement::Register { kind, key }) => self.register(alloc, kind, key),
+            Some(Statement::Setup(setup)) => self.set_up(alloc, setup),
             Some(Statement::Call(call)) => self.call(call),
         }
     }
@@ -83,20 +86,23 @@ impl ScriptSoFar {
 
     /// A header line, if it may stand here.
     fn add_header(&mut self, alloc: Global, line: HeaderLine) -> Result<bool, Memory>
-        ensures next { IsKnown self.old → IfOk result (Takes self.old self.new (text.Header (header_of line))) }
+        ensures next { (said : text.Said) → IsKnown said self.old
+            → IfOk result (Takes said self.old self.new (text.Header (header_of line))) }
     {
-        if !self.rounds.is_empty() || !self.settings.may_follow(&line) {
+        if !self.rounds.is_empty() || line.place() < self.least_place {
             return Ok(false);
         }
         self.heads.add_header(alloc, &line)?;
+        self.least_place = line.least_behind();
         self.settings.add(line)?;
         Ok(true)
     }
 
     /// A round begins, if it may.
     fn begin_round(&mut self, alloc: Global, moment: u64) -> Result<bool, Memory>
-        ensures next { IsKnown self.old → IsNonDecreasingBy (λ round. round.moment) (script_so_far self.old).rounds
-            → IfOk result (Takes self.old self.new (text.Round moment)) }
+        ensures next { (said : text.Said) → IsKnown said self.old
+            → IsNonDecreasingBy (λ round. round.moment) (script_so_far self.old).rounds
+            → IfOk result (Takes said self.old self.new (text.Round moment)) }
     {
         if let Some(last) = self.rounds.last()
             && moment < last.moment
@@ -111,9 +117,55 @@ impl ScriptSoFar {
         Ok(true)
     }
 
+    /// The last round sets up what a line says, if it may.
+    fn set_up(&mut self, alloc: Global, setup: Setup) -> Result<bool, Memory>
+        ensures next { (said : text.Said) → IsKnown said self.old
+            → length (registered (script_so_far self.old)) ≤ 1000000
+            → IfOk result (Takes said self.old self.new (text.Setup (setup_of setup))) }
+    {
+        match setup {
+            Setup::Register { kind, key } => self.register(alloc, kind, key),
+            Setup::Describe {
+                kind,
+                name,
+                unit,
+                text,
+            } => self.describe(kind, name, unit, text),
+        }
+    }
+
+    /// The last round describes a metric, if it may.
+    fn describe(
+        &mut self,
+        kind: MetricKind,
+        name: String,
+        unit: Option<Unit>,
+        description: String,
+    ) -> Result<bool, Memory>
+        ensures next { (said : text.Said) → IsKnown said self.old
+            → length (registered (script_so_far self.old)) ≤ 1000000
+            → IfOk result (Takes said self.old self.new
+            (text.Setup (text.Describe kind (string_bytes name) unit (string_bytes description)))) }
+    {
+        if !self.may_set_up() {
+            return Ok(false);
+        }
+        let Some(round) = self.rounds.last_mut() else {
+            return Ok(false);
+        };
+        round.setup.push(Setup::Describe {
+            kind,
+            name,
+            unit,
+            text: description,
+        })?;
+        Ok(true)
+    }
+
     /// The last round registers a series, if it may.
     fn register(&mut self, alloc: Global, kind: MetricKind, key: Key) -> Result<bool, Memory>
-        ensures next { IsKnown self.old → IfOk result (Takes self.old self.new (text.Setup (text.Register kind key))) }
+        ensures next { (said : text.Said) → IsKnown said self.old
+            → IfOk result (Takes said self.old self.new (text.Setup (text.Register kind key))) }
     {
         if !self.may_register() {
             return Ok(false);
@@ -129,21 +181,30 @@ impl ScriptSoFar {
         Ok(true)
     }
 
-    /// Whether a register line may stand here: in a round, before its calls, as one of the first 1,000,000.
-    fn may_register(&self) -> bool
-        ensures { IsKnown self.now → MatchBool result (MayRegister self.now)
-            ((kind : MetricKind) (key : KeyText) (script : text.ScriptText)
-            → ¬ IsNext (script_so_far self.now) (text.Setup (text.Register kind key)) script) }
+    /// Whether a setup line may stand here: in a round, before its calls.
+    fn may_set_up(&self) -> bool
+        ensures { MatchBool result (MaySetUp self.now)
+            ((setup : text.SetupLine) (script : text.ScriptText) → ¬ SetsUp (script_so_far self.now) setup script) }
     {
         let Some(round) = self.rounds.last() else {
             return false;
         };
-        round.calls.is_empty() && self.kinds.len() < MAX_REGISTRATIONS
+        round.calls.is_empty()
+    }
+
+    /// Whether a register line may stand here: where a setup line may, as one of the first 1,000,000.
+    fn may_register(&self) -> bool
+        ensures { (said : text.Said) → IsKnown said self.now → MatchBool result (MayRegister self.now)
+            ((kind : MetricKind) (key : KeyText) (script : text.ScriptText)
+            → ¬ SetsUp (script_so_far self.now) (text.Register kind key) script) }
+    {
+        self.may_set_up() && self.kinds.len() < MAX_REGISTRATIONS
     }
 
     /// The last round calls, if it may.
     fn call(&mut self, call: CallLine) -> Result<bool, Memory>
-        ensures next { IsKnown self.old → IfOk result (Takes self.old self.new (text.CallOf (call_line_of call))) }
+        ensures next { (said : text.Said) → IsKnown said self.old
+            → IfOk result (Takes said self.old self.new (text.CallOf (call_line_of call))) }
     {
         if !self.has_handle(&call) {
             return Ok(false);
@@ -161,7 +222,7 @@ impl ScriptSoFar {
 
     /// Whether the call's handle is that of a register line, of the call's kind.
     fn has_handle(&self, call: &CallLine) -> bool
-        ensures { IsKnown self.now
+        ensures { (said : text.Said) → IsKnown said self.now
             → IsTrue result ↔ HasHandle (registered (script_so_far self.now)) (call_line_of call.now) }
     {
         match self.kinds.get(call.handle as usize) {

@@ -5,7 +5,7 @@ ghost use Rattle.drive_script.specs.Script.{kind_of, only_globals};
 ghost use Rattle.drive_script.specs.Texts.{act_of, settings_of};
 ghost use Rattle.drive_script.specs.Valid.{sample_count};
 
-use metrics_core::{Fixed, Key, MetricKind};
+use metrics_core::{Fixed, Key, MetricKind, Unit};
 use metrics_registry::MetricKindMask;
 use prom_format::Matcher;
 use std::alloc::Global;
@@ -18,7 +18,7 @@ pub struct Script {
     pub rounds: Vec<Round>,
 }
 
-/// What the header lines of a script say, and no more: a line that isn't there is a none, or no entry of a list.
+/// What the header lines of a script say, and no more: a line that isn't there is a none, a false, or no entry of a list.
 #[derive(Drop)]
 pub struct Settings {
     /// The quantiles of summaries, as they stand.
@@ -27,12 +27,28 @@ pub struct Settings {
     pub buckets: Option<Vec<Fixed>>,
     /// The bounds of histograms with names that match.
     pub buckets_for: Vec<(Matcher, Vec<Fixed>)>,
+    /// The factor, the greatest number of buckets and the threshold of native histograms with names that match, as they stand.
+    pub native_for: Vec<(Matcher, Fixed, u32, Fixed)>,
     /// How many buckets the window of a summary has, and the nanoseconds of each.
     pub summary: Option<(NonZeroU32, u64)>,
     /// The kinds of series that fall idle, and after how many nanoseconds.
     pub idle: Option<(MetricKindMask, u64)>,
+    /// Whether names follow the conventions of Prometheus.
+    pub naming: bool,
+    /// Whether names end with their units.
+    pub units: bool,
     /// The key and the value of each global label.
     pub globals: Vec<(String, String)>,
+    /// How many bytes a payload may have, as it stands.
+    pub dsd_limit: Option<u64>,
+    /// Whether values are aggregated as far as they can be.
+    pub dsd_aggressive: bool,
+    /// What all names in payloads begin with.
+    pub dsd_prefix: Option<String>,
+    /// The key and the value of each tag of all lines in payloads.
+    pub dsd_globals: Vec<(String, String)>,
+    /// Whether the lines of histograms are of the kind `h`, and not `d`.
+    pub dsd_histograms: bool,
 }
 
 impl Settings {
@@ -44,9 +60,17 @@ impl Settings {
             quantiles: None,
             buckets: None,
             buckets_for: Vec::new(alloc),
+            native_for: Vec::new(alloc),
             summary: None,
             idle: None,
+            naming: false,
+            units: false,
             globals: Vec::new(alloc),
+            dsd_limit: None,
+            dsd_aggressive: false,
+            dsd_prefix: None,
+            dsd_globals: Vec::new(alloc),
+            dsd_histograms: false,
         }
     }
 }
@@ -62,8 +86,18 @@ pub struct Round {
 /// What a setup line does on the exporters.
 #[derive(Drop)]
 pub enum Setup {
+    /// Describes the metric of a kind and a name, and may say its unit.
+    Describe {
+        kind: MetricKind,
+        name: String,
+        unit: Option<Unit>,
+        text: String,
+    },
     /// Registers a series of a kind under a key.
-    Register { kind: MetricKind, key: Key },
+    Register {
+        kind: MetricKind,
+        key: Key,
+    },
 }
 
 /// A call of a lane on the series of a register line.

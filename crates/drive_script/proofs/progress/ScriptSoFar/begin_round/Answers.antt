@@ -1,4 +1,4 @@
-use Rattle.std.proofs.Common.{◌≡◌, ◌≤◌, ◌+◌, List, [], map, sym, ap, subst, ◌∙◌, rules}
+use Rattle.std.proofs.Common.{◌≡◌, ◌≤◌, ◌+◌, List, [], map, refl, sym, ap, subst, ◌∙◌, rules}
 use Rattle.std.specs.Prelude.{All, vec_len}
 use Rattle.std.specs.List.Sorted.{IsNonDecreasingBy}
 use Rattle.std.proofs.lemmas.List.{nil_from_length}
@@ -30,17 +30,19 @@ returns-2 c =
     let old = c.args.self.now in
     let round : Round = record { moment = c.args.moment; setup = c.new.result; calls = c.new-2.result } in
     record {
-      next = λ known sorted.
+      next = λ said known sorted.
           let begins : BeginsRound (script_so_far old) c.args.moment (script_with (settings_of old.settings) c.push.new.self.items) =
           subst (λ rs. BeginsRound (script_so_far old) c.args.moment (script_with (settings_of old.settings) rs)) (sym {A = List Round} c.in_ok-push.ensures.items)
           (round_begun (settings_of old.settings) old.rounds.items round c.new.ensures.items c.new-2.ensures.items (not_before c sorted)) in
           let same = round_registered (script_so_far old) (script_with (settings_of old.settings) c.push.new.self.items) c.args.moment begins in (
-            begins,
+            said,
+            (refl, begins),
             record {
               globals = known.globals;
               kinds = known.kinds ∙ ap kinds_of (sym same);
               heads = subst (AreNoted (labels_of old.heads.globals.entries) old.heads.table) (sym same) known.heads;
               samples = ap (λ n. n + old.samples_left) (round_samples (script_so_far old) (script_with (settings_of old.settings) c.push.new.self.items) c.args.moment begins) ∙ known.samples;
+              order = known.order;
             },
           );
     }
