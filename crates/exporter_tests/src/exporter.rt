@@ -147,14 +147,16 @@ fn look_at<R: Wait>(
     }
 }
 
-/// Whether it holds of a new exporter with a global label. Here alone an exporter is dropped.
+/// Whether it holds of a new exporter with a global label. Here alone an exporter is ended.
 fn holds<R: Wait>(rt: &R, alloc: Global, look: Look) -> Result<bool, Fail> {
     let (key, value) = ("a".to_string(alloc)?, "1".to_string(alloc)?);
     let mut exporter = PrometheusBuilder::new(alloc)?
         .add_global_label(alloc, key, value)?
         .idle_timeout(MetricKindMask::COUNTER, Some(5))
         .build_state(alloc)?;
-    look_at(rt, alloc, &mut exporter, look)
+    let held = look_at(rt, alloc, &mut exporter, look);
+    exporter.end(rt);
+    held
 }
 
 #[test]

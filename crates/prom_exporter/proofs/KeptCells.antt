@@ -24,7 +24,7 @@ module _ {X : Type 0} where
   keys_stay (s ∷ live) (suc place) cell = ap (λ l. s.key ∷ l) (keys_stay live place cell)
 
   first_stays : (globals : List LabelText) (live : List (LiveSeries X)) (place : ℕ) (cell : X) (rows : RowsText) → KeepsFirst globals live rows → KeepsFirst globals (with_cell_at live place cell) rows
-  first_stays globals live place cell rows keeps = keeps ∙ ap (λ keys. rows_of globals (take (length rows.heads) keys)) (sym (keys_stay live place cell))
+  first_stays globals live place cell rows keeps = keeps ∙ ap (λ keys. rows_of globals (take (length rows.label_sets) keys)) (sym (keys_stay live place cell))
 
 module _ (settings : ExporterSettings) where
   abbrev HasKind : LiveSeries Sampled → Type 0
@@ -44,7 +44,6 @@ module _ (settings : ExporterSettings) (distributions : DistributionRules) (seri
     counters = first_stays settings.globals series.counters place cell counters kept.counters;
     gauges = kept.gauges;
     histograms = kept.histograms;
-    names = kept.names;
     kinds = kept.kinds;
     sampled = kept.sampled;
   }
@@ -54,7 +53,6 @@ module _ (settings : ExporterSettings) (distributions : DistributionRules) (seri
     counters = kept.counters;
     gauges = first_stays settings.globals series.gauges place cell gauges kept.gauges;
     histograms = kept.histograms;
-    names = kept.names;
     kinds = kept.kinds;
     sampled = kept.sampled;
   }
@@ -66,7 +64,6 @@ module _ (settings : ExporterSettings) (distributions : DistributionRules) (seri
     counters = kept.counters;
     gauges = kept.gauges;
     histograms = first_stays settings.globals series.histograms place new histograms kept.histograms;
-    names = kept.names;
     kinds = kept.kinds;
     sampled = kinds_stay settings series.histograms place cell new got same kept.sampled;
   }

@@ -1,6 +1,6 @@
 -- What is kept for rows: one more series, what leaves it as it is, and the text that it makes.
 use Rattle.std.proofs.Common.{◌≡◌, ℕ, zero, suc, ◌+◌, Bool, true, false, cond, List, [], ◌∷◌, ◌++◌, map, take, length, length-append, ◌≤◌, ◌<◌, None, Some, refl, sym, ap, ◌∙◌, arith, add-zero, add-one, zero-add}
-use Rattle.std.specs.Prelude.{slice_get, option_map, flat_map, ℤ, bytes_eq}
+use Rattle.std.specs.Prelude.{Option, slice_get, option_map, flat_map, ℤ, bytes_eq}
 use Rattle.std.specs.List.{enumerate_from}
 use Rattle.std.proofs.lemmas.List.{map-append, length-map, length-take, take_all, take-append-le}
 use Rattle.std.proofs.lemmas.Option.{slice_get-map, same_Some}
@@ -11,13 +11,14 @@ use Rattle.metrics_registry.specs.Live.{LiveSeries, has_id, with_cell}
 use Rattle.metrics_registry.specs.Places.{with_cell_at}
 use Rattle.prom_format.specs.Names.{sanitized_metric_name}
 use Rattle.metrics_core.specs.Characters.{line}
-use Rattle.prom_format.specs.Pages.{row_text, body_text, type_line_text}
+use Rattle.prom_format.specs.Pages.{row_text, body_text, type_text}
 use Rattle.prom_format.specs.declared.families.FamilyType.{FamilyType}
 use Rattle.distributions.specs.Kinds.{DistributionRules}
 use Rattle.prom_exporter.specs.Exporter.{Cells}
 use Rattle.prom_exporter.specs.Kept.{KeepsFirst, HaveKinds, IsKept}
 use Rattle.prom_exporter.specs.Families.{ExporterSettings, distinct}
-use Rattle.prom_exporter.specs.Rows.{RowsText, head_of, name_at, places_of, rows_of, keys_of, row_at, kept_block}
+use Rattle.prom_exporter.specs.Naming.{NamingText, shown_name, title_text}
+use Rattle.prom_exporter.specs.Rows.{RowsText, label_set_of, name_at, places_of, rows_of, keys_of, row_at, kept_block}
 use Rattle.prom_exporter.specs.Values.{named, grouped, with_member, member_of, metric_name, value_row, value_family, value_families}
 use Rattle.prom_exporter.proofs.Groups.{grouped-push}
 
@@ -40,7 +41,7 @@ module _ {X : Type 0} where
   places-with_member (g ∷ gs) n p = places_step g gs n p (bytes_eq n g.0) refl (places-with_member gs n p)
 
 pub rows-push : (globals : List LabelText) (keys : List KeyText) (key : KeyText) → rows_of globals (keys ++ key ∷ []) ≡ record {
-  heads = map (head_of globals) keys ++ head_of globals key ∷ [];
+  label_sets = map (label_set_of globals) keys ++ label_set_of globals key ∷ [];
   families = with_member (map places_of (grouped name_at (enumerate_from 0 keys))) (sanitized_metric_name key.name) (length keys);
 }
 rows-push globals keys key =
@@ -49,7 +50,7 @@ rows-push globals keys key =
     ∙ ap (map places_of) (grouped-push name_at (enumerate_from 0 keys) (0 + length keys, key))
     ∙ places-with_member groups (sanitized_metric_name key.name) (0 + length keys, key)
     ∙ ap (λ n. with_member (map places_of groups) (sanitized_metric_name key.name) n) (zero-add (length keys)) in
-    (λ j. record { heads = map-append (head_of globals) keys (key ∷ []) j; families = grown j })
+    (λ j. record { label_sets = map-append (label_set_of globals) keys (key ∷ []) j; families = grown j })
 
 -- ---- what the first of some series want
 
@@ -61,10 +62,10 @@ take_next (y ∷ xs) (suc n) x e = ap (λ l. y ∷ l) (take_next xs n x e)
 
 module _ {X : Type 0} where
   -- there are at most as many of them as series
-  pub first_many : (globals : List LabelText) (live : List (LiveSeries X)) (rows : RowsText) → KeepsFirst globals live rows → length rows.heads ≤ length live
+  pub first_many : (globals : List LabelText) (live : List (LiveSeries X)) (rows : RowsText) → KeepsFirst globals live rows → length rows.label_sets ≤ length live
   first_many globals live rows first =
-      let many : length rows.heads ≡ length (take (length rows.heads) (keys_of live)) = ap (λ (r : RowsText). length r.heads) first ∙ length-map (take (length rows.heads) (keys_of live)) (head_of globals) in
-      omega (arith, many, length-take (length rows.heads) (keys_of live), length-map live (λ (series : LiveSeries X). series.key))
+      let many : length rows.label_sets ≡ length (take (length rows.label_sets) (keys_of live)) = ap (λ (r : RowsText). length r.label_sets) first ∙ length-map (take (length rows.label_sets) (keys_of live)) (label_set_of globals) in
+      omega (arith, many, length-take (length rows.label_sets) (keys_of live), length-map live (λ (series : LiveSeries X). series.key))
 
   -- each place within has a key
   pub none_within : (live : List (LiveSeries X)) (n : ℕ) → n < length live → None ≡ option_map (λ (series : LiveSeries X). series.key) (slice_get live n) → ⊥
@@ -74,34 +75,34 @@ module _ {X : Type 0} where
 
   -- one more of them
   pub first_more : (globals : List LabelText) (live : List (LiveSeries X)) (rows more : RowsText) (key : KeyText) → KeepsFirst globals live rows
-      → Some key ≡ option_map (λ (series : LiveSeries X). series.key) (slice_get live (length rows.heads))
-      → ((keys : List KeyText) → rows ≡ rows_of globals keys → more ≡ rows_of globals (keys ++ key ∷ [])) → KeepsFirst globals live more × (length more.heads ≡ length rows.heads + 1)
+      → Some key ≡ option_map (λ (series : LiveSeries X). series.key) (slice_get live (length rows.label_sets))
+      → ((keys : List KeyText) → rows ≡ rows_of globals keys → more ≡ rows_of globals (keys ++ key ∷ [])) → KeepsFirst globals live more × (length more.label_sets ≡ length rows.label_sets + 1)
   first_more globals live rows more key first here pushed =
-      let n = length rows.heads in
+      let n = length rows.label_sets in
       let at : slice_get (keys_of live) n ≡ Some key = slice_get-map (λ (series : LiveSeries X). series.key) live n ∙ sym here in
       let grown : take n (keys_of live) ++ key ∷ [] ≡ take (n + 1) (keys_of live) = sym (rw add-one (take_next (keys_of live) n key at)) in
       let is = pushed (take n (keys_of live)) first ∙ ap (rows_of globals) grown in
-      let many : length more.heads ≡ n + 1 =
-      ap (λ (r : RowsText). length r.heads) (pushed (take n (keys_of live)) first) ∙ length-map (take n (keys_of live) ++ key ∷ []) (head_of globals) ∙ length-append (take n (keys_of live)) (key ∷ [])
-      ∙ ap (λ m. m + 1) (sym (ap (λ (r : RowsText). length r.heads) first ∙ length-map (take n (keys_of live)) (head_of globals))) in
+      let many : length more.label_sets ≡ n + 1 =
+      ap (λ (r : RowsText). length r.label_sets) (pushed (take n (keys_of live)) first) ∙ length-map (take n (keys_of live) ++ key ∷ []) (label_set_of globals) ∙ length-append (take n (keys_of live)) (key ∷ [])
+      ∙ ap (λ m. m + 1) (sym (ap (λ (r : RowsText). length r.label_sets) first ∙ length-map (take n (keys_of live)) (label_set_of globals))) in
       (is ∙ ap (λ m. rows_of globals (take m (keys_of live))) (sym many), many)
 
   -- all of them
-  pub first_all : (globals : List LabelText) (live : List (LiveSeries X)) (rows : RowsText) → KeepsFirst globals live rows → length live ≤ length rows.heads → rows ≡ rows_of globals (keys_of live)
+  pub first_all : (globals : List LabelText) (live : List (LiveSeries X)) (rows : RowsText) → KeepsFirst globals live rows → length live ≤ length rows.label_sets → rows ≡ rows_of globals (keys_of live)
   first_all globals live rows first many =
-      first ∙ ap (rows_of globals) (take_all (length rows.heads) (keys_of live) (omega (arith, many, length-map live (λ (series : LiveSeries X). series.key))))
+      first ∙ ap (rows_of globals) (take_all (length rows.label_sets) (keys_of live) (omega (arith, many, length-map live (λ (series : LiveSeries X). series.key))))
 
   -- series that come last are none of them
   pub first_longer : (globals : List LabelText) (live : List (LiveSeries X)) (series : LiveSeries X) (rows : RowsText) → KeepsFirst globals live rows → KeepsFirst globals (live ++ series ∷ []) rows
   first_longer globals live series rows first =
       first ∙ ap (rows_of globals) (sym (
-      ap (take (length rows.heads)) (map-append (λ (s : LiveSeries X). s.key) live (series ∷ []))
-      ∙ take-append-le (length rows.heads) (keys_of live) (series.key ∷ []) (omega (arith, first_many globals live rows first, length-map live (λ (s : LiveSeries X). s.key)))
+      ap (take (length rows.label_sets)) (map-append (λ (s : LiveSeries X). s.key) live (series ∷ []))
+      ∙ take-append-le (length rows.label_sets) (keys_of live) (series.key ∷ []) (omega (arith, first_many globals live rows first, length-map live (λ (s : LiveSeries X). s.key)))
       ))
 
   -- they stay the first of series with the same keys
   pub first_same : (globals : List LabelText) (old new : List (LiveSeries X)) (rows : RowsText) → KeepsFirst globals old rows → keys_of new ≡ keys_of old → KeepsFirst globals new rows
-  first_same globals old new rows first same = first ∙ ap (λ keys. rows_of globals (take (length rows.heads) keys)) (sym same)
+  first_same globals old new rows first same = first ∙ ap (λ keys. rows_of globals (take (length rows.label_sets) keys)) (sym same)
 
 -- ---- what leaves the keys as they are
 
@@ -127,7 +128,6 @@ kept_same settings distributions old new counters gauges histograms kept same al
   counters = first_same settings.globals old.counters new.counters counters kept.counters same;
   gauges = first_same settings.globals old.gauges new.gauges gauges kept.gauges also;
   histograms = first_same settings.globals old.histograms new.histograms histograms kept.histograms too;
-  names = kept.names;
   kinds = kept.kinds;
   sampled = sampled;
 }
@@ -187,17 +187,17 @@ module _ {X : Type 0} where
   places-placed [] = refl
   places-placed (g ∷ gs) = (λ j. (g.0, first-placed g.1 j) ∷ places-placed gs j)
 
-  module _ (shown : X → ℤ) (globals : List LabelText) (type : FamilyType) (live : List (LiveSeries X)) where
-    abbrev heads : List (List ℕ)
-    heads = map (head_of globals) (keys_of live)
+  module _ (naming : NamingText) (suffix : Option (List ℕ)) (shown : X → ℤ) (globals : List LabelText) (type : FamilyType) (live : List (LiveSeries X)) where
+    abbrev label_sets : List (List ℕ)
+    label_sets = map (label_set_of globals) (keys_of live)
 
     abbrev all_placed : List (ℕ × LiveSeries X)
     all_placed = enumerate_from 0 live
 
-    row-here : (k : ℕ) (s : LiveSeries X) → slice_get live k ≡ Some s → row_at shown heads live k ≡ row_text (value_row shown globals (sanitized_metric_name s.key.name) (member_of s))
-    row-here k s at =
-        let head : slice_get heads k ≡ Some (head_of globals s.key) =
-        slice_get-map (head_of globals) (keys_of live) k ∙ ap (option_map (head_of globals)) (slice_get-map (λ (series : LiveSeries X). series.key) live k ∙ ap (option_map (λ (series : LiveSeries X). series.key)) at) in
+    row-here : (full : List ℕ) (k : ℕ) (s : LiveSeries X) → slice_get live k ≡ Some s → row_at shown full label_sets live k ≡ row_text (value_row shown globals full (member_of s))
+    row-here full k s at =
+        let head : slice_get label_sets k ≡ Some (label_set_of globals s.key) =
+        slice_get-map (label_set_of globals) (keys_of live) k ∙ ap (option_map (label_set_of globals)) (slice_get-map (λ (series : LiveSeries X). series.key) live k ∙ ap (option_map (λ (series : LiveSeries X). series.key)) at) in
         rw (head, at) refl
 
     -- these series stand behind the first k
@@ -205,16 +205,15 @@ module _ {X : Type 0} where
     StandBehind k xs = (j : ℕ) → slice_get live (k + j) ≡ slice_get xs j
 
     rows_step : (n : List ℕ) (k : ℕ) (x : LiveSeries X) (xs : List (LiveSeries X)) (b : Bool) → bytes_eq (sanitized_metric_name x.key.name) n ≡ b → slice_get live k ≡ Some x
-        → flat_map (row_at shown heads live) (map (λ placed. placed.0) (named placed_name (enumerate_from (k + 1) xs) n)) ≡ flat_map row_text (map (value_row shown globals n) (map placed_member (named placed_name (enumerate_from (k + 1) xs) n)))
-        → flat_map (row_at shown heads live) (map (λ placed. placed.0) (named placed_name (enumerate_from k (x ∷ xs)) n)) ≡ flat_map row_text (map (value_row shown globals n) (map placed_member (named placed_name (enumerate_from k (x ∷ xs)) n)))
+        → flat_map (row_at shown (shown_name naming suffix n) label_sets live) (map (λ placed. placed.0) (named placed_name (enumerate_from (k + 1) xs) n)) ≡ flat_map row_text (map (value_row shown globals (shown_name naming suffix n)) (map placed_member (named placed_name (enumerate_from (k + 1) xs) n)))
+        → flat_map (row_at shown (shown_name naming suffix n) label_sets live) (map (λ placed. placed.0) (named placed_name (enumerate_from k (x ∷ xs)) n)) ≡ flat_map row_text (map (value_row shown globals (shown_name naming suffix n)) (map placed_member (named placed_name (enumerate_from k (x ∷ xs)) n)))
     rows_step n k x xs true is at rest =
-        let same : sanitized_metric_name x.key.name ≡ n = (bytes_eq-Decides (sanitized_metric_name x.key.name) n).0 is in
-        let row = row-here k x at ∙ ap (λ m. row_text (value_row shown globals m (member_of x))) same in
+        let row = row-here (shown_name naming suffix n) k x at in
         rw is (λ j. row j ++ rest j)
     rows_step n k x xs false is at rest = rw is rest
 
     rows-named : (n : List ℕ) (k : ℕ) (xs : List (LiveSeries X)) → StandBehind k xs
-        → flat_map (row_at shown heads live) (map (λ placed. placed.0) (named placed_name (enumerate_from k xs) n)) ≡ flat_map row_text (map (value_row shown globals n) (map placed_member (named placed_name (enumerate_from k xs) n)))
+        → flat_map (row_at shown (shown_name naming suffix n) label_sets live) (map (λ placed. placed.0) (named placed_name (enumerate_from k xs) n)) ≡ flat_map row_text (map (value_row shown globals (shown_name naming suffix n)) (map placed_member (named placed_name (enumerate_from k xs) n)))
     rows-named n k [] behind = refl
     rows-named n k (x ∷ xs) behind =
         let here : slice_get live k ≡ Some x = ap (slice_get live) (sym (add-zero k)) ∙ behind 0 in
@@ -222,18 +221,18 @@ module _ {X : Type 0} where
         rows_step n k x xs (bytes_eq (sanitized_metric_name x.key.name) n) refl here (rows-named n (k + 1) xs later)
 
     blocks-named : (ns : List (List ℕ))
-        → flat_map (kept_block shown type heads live) (map places_of (map (λ n. (n, named placed_name all_placed n)) ns))
-        ≡ body_text (map (value_family type shown globals) (map (stood metric_name placed_member) (map (λ n. (n, named placed_name all_placed n)) ns)))
+        → flat_map (kept_block shown naming suffix type label_sets live) (map places_of (map (λ n. (n, named placed_name all_placed n)) ns))
+        ≡ body_text (map (value_family naming suffix type shown globals) (map (stood metric_name placed_member) (map (λ n. (n, named placed_name all_placed n)) ns)))
     blocks-named [] = refl
     blocks-named (n ∷ ns) =
         let rows = rows-named n 0 live (λ j. ap (slice_get live) (zero-add j)) in
-        (λ j. (type_line_text n type ++ rows j ++ line []) ++ blocks-named ns j)
+        (λ j. (title_text naming suffix (type_text type) n ++ rows j ++ line []) ++ blocks-named ns j)
 
     -- the blocks are those of the families of the series
-    pub blocks-kept : flat_map (kept_block shown type heads live) (rows_of globals (keys_of live)).families ≡ body_text (value_families type shown globals live)
+    pub blocks-kept : flat_map (kept_block shown naming suffix type label_sets live) (rows_of globals (keys_of live)).families ≡ body_text (value_families naming suffix type shown globals live)
     blocks-kept =
-        ap (λ l. flat_map (kept_block shown type heads live) (map places_of (grouped name_at l))) (keys-placed 0 live)
-        ∙ ap (λ gs. flat_map (kept_block shown type heads live) (map places_of gs)) (grouped-map name_at placed_key all_placed)
-        ∙ ap (flat_map (kept_block shown type heads live)) (places-placed (grouped placed_name all_placed))
+        ap (λ l. flat_map (kept_block shown naming suffix type label_sets live) (map places_of (grouped name_at l))) (keys-placed 0 live)
+        ∙ ap (λ gs. flat_map (kept_block shown naming suffix type label_sets live) (map places_of gs)) (grouped-map name_at placed_key all_placed)
+        ∙ ap (flat_map (kept_block shown naming suffix type label_sets live)) (places-placed (grouped placed_name all_placed))
         ∙ blocks-named (distinct (map placed_name all_placed))
-        ∙ sym (ap (λ gs. body_text (map (value_family type shown globals) gs)) (ap (grouped metric_name) (members-placed 0 live) ∙ grouped-map metric_name placed_member all_placed))
+        ∙ sym (ap (λ gs. body_text (map (value_family naming suffix type shown globals) gs)) (ap (grouped metric_name) (members-placed 0 live) ∙ grouped-map metric_name placed_member all_placed))

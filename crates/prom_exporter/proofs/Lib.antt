@@ -10,15 +10,17 @@ pub mod Upkeep
 pub mod Stepping
 pub mod PagesAgain
 pub mod LaneThings
+pub mod Crossing
 mod KeptCells
 mod LaneIndices
 mod LaneRounds
 pub mod CallKinds
 pub mod KeptRows
-pub mod HeadTexts
+pub mod PieceTexts
 pub mod Looked
 mod CopiedRules
 mod Written
+mod Titles
 pub mod ValuePages
 pub mod SampledRows
 pub mod SampledPages

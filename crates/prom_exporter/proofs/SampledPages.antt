@@ -11,19 +11,22 @@ use Rattle.metrics_core.specs.Keys.{LabelText}
 use Rattle.metrics_core.specs.declared.kinds.MetricKind.TheVariants as kinds
 use Rattle.metrics_registry.specs.Live.{LiveSeries, RegistryText}
 use Rattle.prom_format.specs.Names.{sanitized_metric_name}
-use Rattle.prom_format.specs.Lines.{type_line, head_text, shown_label_set}
-use Rattle.prom_format.specs.Pages.{Row, Family, row_text, block_text, body_text}
+use Rattle.prom_format.specs.Lines.{shown_label_set}
+use Rattle.prom_format.specs.Pages.{Row, Family, row_text, block_text, body_text, label_set_text}
 use Rattle.distributions.specs.Kinds.{DistributionKind, NativeHistogram, Histogram, Summary, DistributionRules, kind_for}
 use Rattle.prom_exporter.specs.State.{Series, PrometheusState}
 use Rattle.prom_exporter.specs.Families.{ExporterSettings, distinct, names_of_kind, distribution_of, distribution_family, rules_of_settings, histogram_rows, summary_rows}
+use Rattle.metric_descriptions.specs.Descriptions.{DescribedText}
+use Rattle.prom_exporter.specs.Exporter.{with_said}
 use Rattle.prom_exporter.specs.Kept.{FitsSettings}
-use Rattle.prom_exporter.specs.Rows.{RowsText, head_of, name_at, places_of, rows_of, keys_of}
+use Rattle.prom_exporter.specs.Naming.{NamingText, shown_name, title_text}
+use Rattle.prom_exporter.specs.Rows.{RowsText, label_set_of, name_at, places_of, rows_of, keys_of}
 use Rattle.prom_exporter.specs.Sampled.{Sampled, IsTimely, calls_recorded}
-use Rattle.prom_exporter.specs.SampledRows.{sampled_rows, shown_word, lines_if, lines_at, block_under, sampled_block, HasRowsOf, IsNamedAt}
+use Rattle.prom_exporter.specs.SampledRows.{sampled_rows, shown_word, lines_if, lines_at, block_under, sampled_block, HasRowsOf}
 use Rattle.prom_exporter.specs.Shared.{Shared}
 use Rattle.prom_exporter.specs.Values.{named, grouped, series_of, sampled_series, state_recorded}
 use Rattle.prom_exporter.proofs.KeptRows.{placed_key, placed_name, keys-placed, places-placed, grouped-map}
-use Rattle.prom_exporter.proofs.SampledRows.{plain, seen, labels, summary-built, histogram_rows-are, summary_rows-are}
+use Rattle.prom_exporter.proofs.SampledRows.{seen, labels, summary-built, histogram_rows-are, summary_rows-are}
 
 abbrev all_seen : List (LiveSeries Sampled) → List Series
 all_seen live = map series_of (map (sampled_series calls_recorded) live)
@@ -55,32 +58,6 @@ module _ (live : List (LiveSeries Sampled)) where
   stand_later : (k : ℕ) (x : LiveSeries Sampled) (xs : List (LiveSeries Sampled)) → StandBehind k (x ∷ xs) → StandBehind (k + 1) xs
   stand_later k x xs behind j = ap (slice_get live) (let e : k + 1 + j ≡ k + suc j = omega arith in e) ∙ behind (suc j)
 
-  -- ---- names
-
-  places_step : (n : List ℕ) (k : ℕ) (x : LiveSeries Sampled) (xs : List (LiveSeries Sampled)) (b : Bool) → bytes_eq (sanitized_metric_name x.key.name) n ≡ b → slice_get live k ≡ Some x
-      → AllByRecursion (IsNamedAt live n) (map (λ placed. placed.0) (named placed_name (enumerate_from (k + 1) xs) n))
-      → AllByRecursion (IsNamedAt live n) (map (λ placed. placed.0) (named placed_name (enumerate_from k (x ∷ xs)) n))
-  places_step n k x xs true is at rest =
-      let here : IsNamedAt live n k = rw at ((bytes_eq-Decides (sanitized_metric_name x.key.name) n).0 is) in
-      rw is (here, rest)
-  places_step n k x xs false is at rest = rw is rest
-
-  places-named : (n : List ℕ) (k : ℕ) (xs : List (LiveSeries Sampled)) → StandBehind k xs → AllByRecursion (IsNamedAt live n) (map (λ placed. placed.0) (named placed_name (enumerate_from k xs) n))
-  places-named n k [] behind = tt
-  places-named n k (x ∷ xs) behind =
-      places_step n k x xs (bytes_eq (sanitized_metric_name x.key.name) n) refl (stand_here k x xs behind) (places-named n (k + 1) xs (stand_later k x xs behind))
-
-  abbrev pub IsNamedFamily : List ℕ × List ℕ → Type 0
-  IsNamedFamily family = All (IsNamedAt live family.0) family.1
-
-  groups-named : (ns : List (List ℕ)) → AllByRecursion IsNamedFamily (placed_groups ns)
-  groups-named [] = tt
-  groups-named (n ∷ ns) = (All-from_recursion (IsNamedAt live n) _ (places-named n 0 live (λ j. ap (slice_get live) (zero-add j))), groups-named ns)
-
-  -- each family's series have its name
-  pub families-named : (globals : List LabelText) → AllByRecursion IsNamedFamily (rows_of globals (keys_of live)).families
-  families-named globals = rw (families-placed globals) (groups-named (distinct (map placed_name all_placed)))
-
 -- ---- the text
 
 -- the block of a family, if there is one
@@ -100,17 +77,21 @@ names-seen : (k : ℕ) (live : List (LiveSeries Sampled)) → map placed_name (e
 names-seen k [] = refl
 names-seen k (e ∷ live) = ap (λ l. sanitized_metric_name e.key.name ∷ l) (names-seen (k + 1) live)
 
-module _ {C G : Type 0} (settings : ExporterSettings) (t : ℕ) (registry : RegistryText (Shared C) (Shared G) Sampled) where
+module _ {C G : Type 0} (settings : ExporterSettings) (t : ℕ) (said : DescribedText) (registry : RegistryText (Shared C) (Shared G) Sampled) where
   abbrev live : List (LiveSeries Sampled)
   live = registry.histograms
 
   abbrev state : PrometheusState
-  state = state_recorded registry
+  state = with_said said (state_recorded registry)
+
+  -- what names follow from
+  abbrev naming : NamingText
+  naming = record { units = settings.units; published = said.published }
 
   -- each series under a name has these rows
-  module _ (n : List ℕ) (rows : Series → List Row) (one : (e : LiveSeries Sampled) → sanitized_metric_name e.key.name ≡ n → HasKind settings e → rows (seen e) ≡ sampled_rows t n (labels settings state t e) e.cell) where
+  module _ (n : List ℕ) (rows : Series → List Row) (one : (e : LiveSeries Sampled) → sanitized_metric_name e.key.name ≡ n → HasKind settings e → rows (seen e) ≡ sampled_rows t (shown_name naming None n) (labels settings state t e) e.cell) where
     abbrev written : List (ℕ × LiveSeries Sampled) → List ℕ
-    written placed = flat_map (lines_at settings.globals t live n) (map (λ p. p.0) (named placed_name placed n))
+    written placed = flat_map (lines_at settings.globals t live (shown_name naming None n)) (map (λ p. p.0) (named placed_name placed n))
 
     abbrev meant : List (LiveSeries Sampled) → List ℕ
     meant xs = flat_map row_text (flat_map rows (filter (λ series. bytes_eq (metric series) n) (all_seen xs)))
@@ -119,7 +100,7 @@ module _ {C G : Type 0} (settings : ExporterSettings) (t : ℕ) (registry : Regi
         → written (enumerate_from (k + 1) xs) ≡ meant xs → written (enumerate_from k (x ∷ xs)) ≡ meant (x ∷ xs)
     rows_step k x xs true is at kind rest =
         let same : sanitized_metric_name x.key.name ≡ n = (bytes_eq-Decides (sanitized_metric_name x.key.name) n).0 is in
-        let here : lines_at settings.globals t live n k ≡ flat_map row_text (rows (seen x)) = ap (lines_if settings.globals t live n) at ∙ sym (ap (flat_map row_text) (one x same kind)) in
+        let here : lines_at settings.globals t live (shown_name naming None n) k ≡ flat_map row_text (rows (seen x)) = ap (lines_if settings.globals t live (shown_name naming None n)) at ∙ sym (ap (flat_map row_text) (one x same kind)) in
         rw is ((λ j. here j ++ rest j) ∙ sym (flat_map-append row_text (rows (seen x)) (flat_map rows (filter (λ series. bytes_eq (metric series) n) (all_seen xs)))))
     rows_step k x xs false is at kind rest = rw is rest
 
@@ -136,34 +117,34 @@ module _ {C G : Type 0} (settings : ExporterSettings) (t : ℕ) (registry : Regi
     group n = (n, map (λ p. p.0) (named placed_name (all_placed live) n))
 
     block-by : (n : List ℕ) (kind : DistributionKind) → distribution_of settings n ≡ kind
-        → block_under settings.globals t live (shown_word kind) (group n) ≡ text_if (distribution_family (plain settings) state t n kind)
+        → block_under naming settings.globals t live (shown_word kind) (group n) ≡ text_if (distribution_family settings state t n kind)
     block-by n (NativeHistogram config) is = refl
     block-by n (Histogram bounds) is =
         let one = λ (e : LiveSeries Sampled) (same : sanitized_metric_name e.key.name ≡ n) (kind : HasKind settings e).
-        histogram_rows-are settings state t e bounds (kind ∙ ap (distribution_of settings) same ∙ is) ∙ ap (λ m. sampled_rows t m (labels settings state t e) e.cell) same in
-        ap (λ rows. type_line n None None (codes "histogram") ++ rows ++ line []) (all_rows-named n (histogram_rows (plain settings) state bounds) one have)
+        histogram_rows-are settings state t e bounds (kind ∙ ap (distribution_of settings) same ∙ is) ∙ ap (λ m. sampled_rows t (shown_name naming None m) (labels settings state t e) e.cell) same in
+        ap (λ rows. title_text naming None (codes "histogram") n ++ rows ++ line []) (all_rows-named n (histogram_rows settings state bounds) one have)
     block-by n (Summary built) is =
         let from : built ≡ (rules_of_settings settings).summary = summary-built (rules_of_settings settings) n built is in
         let one = λ (e : LiveSeries Sampled) (same : sanitized_metric_name e.key.name ≡ n) (kind : HasKind settings e).
-        summary_rows-are settings state t e built from (kind ∙ ap (distribution_of settings) same ∙ is) ∙ ap (λ m. sampled_rows t m (labels settings state t e) e.cell) same in
-        ap (λ rows. type_line n None None (codes "summary") ++ rows ++ line []) (all_rows-named n (summary_rows (plain settings) state t) one have)
+        summary_rows-are settings state t e built from (kind ∙ ap (distribution_of settings) same ∙ is) ∙ ap (λ m. sampled_rows t (shown_name naming None m) (labels settings state t e) e.cell) same in
+        ap (λ rows. title_text naming None (codes "summary") n ++ rows ++ line []) (all_rows-named n (summary_rows settings state t) one have)
 
-    block-named : (n : List ℕ) → sampled_block settings.globals t live distributions (group n) ≡ text_if (distribution_family (plain settings) state t n (distribution_of settings n))
-    block-named n = ap (λ kind. block_under settings.globals t live (shown_word kind) (group n)) (fits n) ∙ block-by n (distribution_of settings n) refl
+    block-named : (n : List ℕ) → sampled_block naming settings.globals t live distributions (group n) ≡ text_if (distribution_family settings state t n (distribution_of settings n))
+    block-named n = ap (λ kind. block_under naming settings.globals t live (shown_word kind) (group n)) (fits n) ∙ block-by n (distribution_of settings n) refl
 
-    blocks-named : (ns : List (List ℕ)) → flat_map (sampled_block settings.globals t live distributions) (placed_groups live ns)
-        ≡ body_text (filter_map (λ n. distribution_family (plain settings) state t n (distribution_of settings n)) ns)
+    blocks-named : (ns : List (List ℕ)) → flat_map (sampled_block naming settings.globals t live distributions) (placed_groups live ns)
+        ≡ body_text (filter_map (λ n. distribution_family settings state t n (distribution_of settings n)) ns)
     blocks-named [] = refl
     blocks-named (n ∷ ns) =
         (λ j. block-named n j ++ blocks-named ns j)
-        ∙ sym (body-cons (distribution_family (plain settings) state t n (distribution_of settings n)) (filter_map (λ m. distribution_family (plain settings) state t m (distribution_of settings m)) ns))
+        ∙ sym (body-cons (distribution_family settings state t n (distribution_of settings n)) (filter_map (λ m. distribution_family settings state t m (distribution_of settings m)) ns))
 
     -- the blocks are those of the families that a page shows
-    pub blocks-sampled : flat_map (sampled_block settings.globals t live distributions) (rows_of settings.globals (keys_of live)).families
-        ≡ body_text (filter_map (λ n. distribution_family (plain settings) state t n (distribution_of settings n)) (names_of_kind kinds.Histogram state))
+    pub blocks-sampled : flat_map (sampled_block naming settings.globals t live distributions) (rows_of settings.globals (keys_of live)).families
+        ≡ body_text (filter_map (λ n. distribution_family settings state t n (distribution_of settings n)) (names_of_kind kinds.Histogram state))
     blocks-sampled =
-        ap (flat_map (sampled_block settings.globals t live distributions)) (families-placed live settings.globals)
-        ∙ ap (λ names. flat_map (sampled_block settings.globals t live distributions) (placed_groups live (distinct names))) (names-seen 0 live)
+        ap (flat_map (sampled_block naming settings.globals t live distributions)) (families-placed live settings.globals)
+        ∙ ap (λ names. flat_map (sampled_block naming settings.globals t live distributions) (placed_groups live (distinct names))) (names-seen 0 live)
         ∙ blocks-named (distinct (map metric (all_seen live)))
 
 -- ---- the series at a place
@@ -173,45 +154,44 @@ all_at P [] k x all at = absurd cc
 all_at P (y ∷ xs) zero x all at = subst P (same_Some y x at) all.0
 all_at P (y ∷ xs) (suc k) x all at = all_at P xs k x all.1 at
 
--- what is found at a place is a series, whose rows begin with this text
-pub record IsFoundAt (globals : List LabelText) (live : List (LiveSeries Sampled)) (name : List ℕ) (place : ℕ) (head : List ℕ) (cell : Sampled) : Type 0 where
+-- what is found at a place is a series, whose label set is printed so
+pub record IsFoundAt (globals : List LabelText) (live : List (LiveSeries Sampled)) (place : ℕ) (labels : List ℕ) (cell : Sampled) : Type 0 where
   pub series : LiveSeries Sampled
   pub at : slice_get live place ≡ Some series
   pub cell_is : cell ≡ series.cell
-  pub head_is : head ≡ head_text name (shown_label_set globals series.key.labels)
+  pub labels_are : labels ≡ label_set_text (shown_label_set globals series.key.labels)
 
-found-by : (globals : List LabelText) (live : List (LiveSeries Sampled)) (name : List ℕ) (place : ℕ) (head : List ℕ) (cell : Sampled) (o : Option (LiveSeries Sampled)) → slice_get live place ≡ o
-    → slice_get (map (head_of globals) (keys_of live)) place ≡ Some head → Some cell ≡ option_map (λ (s : LiveSeries Sampled). s.cell) o → IfSome o (λ s. sanitized_metric_name s.key.name ≡ name)
-    → IsFoundAt globals live name place head cell
-found-by globals live name place head cell None at head-at cell-at named = absurd cc
-found-by globals live name place head cell (Some s) at head-at cell-at named =
-    let here : slice_get (map (head_of globals) (keys_of live)) place ≡ Some (head_of globals s.key) =
-    slice_get-map (head_of globals) (keys_of live) place ∙ ap (option_map (head_of globals)) (slice_get-map (λ (series : LiveSeries Sampled). series.key) live place ∙ ap (option_map (λ (series : LiveSeries Sampled). series.key)) at) in
+found-by : (globals : List LabelText) (live : List (LiveSeries Sampled)) (place : ℕ) (printed : List ℕ) (cell : Sampled) (o : Option (LiveSeries Sampled)) → slice_get live place ≡ o
+    → slice_get (map (label_set_of globals) (keys_of live)) place ≡ Some printed → Some cell ≡ option_map (λ (s : LiveSeries Sampled). s.cell) o → IsFoundAt globals live place printed cell
+found-by globals live place printed cell None at labels-at cell-at = absurd cc
+found-by globals live place printed cell (Some s) at labels-at cell-at =
+    let here : slice_get (map (label_set_of globals) (keys_of live)) place ≡ Some (label_set_of globals s.key) =
+    slice_get-map (label_set_of globals) (keys_of live) place ∙ ap (option_map (label_set_of globals)) (slice_get-map (λ (series : LiveSeries Sampled). series.key) live place ∙ ap (option_map (λ (series : LiveSeries Sampled). series.key)) at) in
     record {
       series = s;
       at = at;
       cell_is = same_Some cell s.cell cell-at;
-      head_is = same_Some head (head_of globals s.key) (sym head-at ∙ here) ∙ ap (λ n. head_text n (shown_label_set globals s.key.labels)) named;
+      labels_are = same_Some printed (label_set_of globals s.key) (sym labels-at ∙ here);
     }
 
-pub found-at : (globals : List LabelText) (live : List (LiveSeries Sampled)) (rows : RowsText) (name : List ℕ) (place : ℕ) (head : List ℕ) (cell : Sampled) → HasRowsOf globals live rows
-    → slice_get rows.heads place ≡ Some head → Some cell ≡ option_map (λ (s : LiveSeries Sampled). s.cell) (slice_get live place) → IsNamedAt live name place → IsFoundAt globals live name place head cell
-found-at globals live rows name place head cell kept head-at cell-at named =
-    found-by globals live name place head cell (slice_get live place) refl (sym (ap (λ (r : RowsText). slice_get r.heads place) kept) ∙ head-at) cell-at named
+pub found-at : (globals : List LabelText) (live : List (LiveSeries Sampled)) (rows : RowsText) (place : ℕ) (printed : List ℕ) (cell : Sampled) → HasRowsOf globals live rows
+    → slice_get rows.label_sets place ≡ Some printed → Some cell ≡ option_map (λ (s : LiveSeries Sampled). s.cell) (slice_get live place) → IsFoundAt globals live place printed cell
+found-at globals live rows place printed cell kept labels-at cell-at =
+    found-by globals live place printed cell (slice_get live place) refl (sym (ap (λ (r : RowsText). slice_get r.label_sets place) kept) ∙ labels-at) cell-at
 
 -- its lines, and that its samples have their moments in order
-pub found-lines : (globals : List LabelText) (t : ℕ) (live : List (LiveSeries Sampled)) (name : List ℕ) (place : ℕ) (head : List ℕ) (cell : Sampled) (found : IsFoundAt globals live name place head cell)
+pub found-lines : (globals : List LabelText) (t : ℕ) (live : List (LiveSeries Sampled)) (name : List ℕ) (place : ℕ) (printed : List ℕ) (cell : Sampled) (found : IsFoundAt globals live place printed cell)
     → flat_map row_text (sampled_rows t name (shown_label_set globals found.series.key.labels) cell) ≡ lines_at globals t live name place
-found-lines globals t live name place head cell found =
+found-lines globals t live name place printed cell found =
     ap (λ c. flat_map row_text (sampled_rows t name (shown_label_set globals found.series.key.labels) c)) found.cell_is ∙ sym (ap (lines_if globals t live name) found.at)
 
-pub found-timely : (globals : List LabelText) (t : ℕ) (live : List (LiveSeries Sampled)) (name : List ℕ) (place : ℕ) (head : List ℕ) (cell : Sampled) (found : IsFoundAt globals live name place head cell)
+pub found-timely : (globals : List LabelText) (t : ℕ) (live : List (LiveSeries Sampled)) (place : ℕ) (printed : List ℕ) (cell : Sampled) (found : IsFoundAt globals live place printed cell)
     → All (λ (s : LiveSeries Sampled). IsTimely t s.cell) live → IsTimely t cell
-found-timely globals t live name place head cell found all =
+found-timely globals t live place printed cell found all =
     let P : LiveSeries Sampled → Type 0 = λ s. IsTimely t s.cell in
     subst (IsTimely t) (sym found.cell_is) (all_at P live place found.series (recursion_from_All P live all) found.at)
 
--- no head, or no series: no lines
+-- no label set, or no series: no lines
 pub none-found : (globals : List LabelText) (t : ℕ) (live : List (LiveSeries Sampled)) (name : List ℕ) (place : ℕ) → None ≡ option_map (λ (s : LiveSeries Sampled). s.cell) (slice_get live place) → lines_at globals t live name place ≡ []
 none-found globals t live name place none = by (slice_get live place) none
   where
@@ -219,12 +199,12 @@ none-found globals t live name place none = by (slice_get live place) none
     by None e = refl
     by (Some s) e = absurd cc
 
-pub no_head-found : (globals : List LabelText) (t : ℕ) (live : List (LiveSeries Sampled)) (rows : RowsText) (name : List ℕ) (place : ℕ) → HasRowsOf globals live rows → slice_get rows.heads place ≡ None → lines_at globals t live name place ≡ []
-no_head-found globals t live rows name place kept none = by (slice_get live place) refl
+pub no_labels-found : (globals : List LabelText) (t : ℕ) (live : List (LiveSeries Sampled)) (rows : RowsText) (name : List ℕ) (place : ℕ) → HasRowsOf globals live rows → slice_get rows.label_sets place ≡ None → lines_at globals t live name place ≡ []
+no_labels-found globals t live rows name place kept none = by (slice_get live place) refl
   where
     by : (o : Option (LiveSeries Sampled)) → slice_get live place ≡ o → lines_if globals t live name o ≡ []
     by None e = refl
     by (Some s) e =
-        let here : slice_get (map (head_of globals) (keys_of live)) place ≡ Some (head_of globals s.key) =
-        slice_get-map (head_of globals) (keys_of live) place ∙ ap (option_map (head_of globals)) (slice_get-map (λ (series : LiveSeries Sampled). series.key) live place ∙ ap (option_map (λ (series : LiveSeries Sampled). series.key)) e) in
-        absurd (none-some _ (sym none ∙ ap (λ (r : RowsText). slice_get r.heads place) kept ∙ here))
+        let here : slice_get (map (label_set_of globals) (keys_of live)) place ≡ Some (label_set_of globals s.key) =
+        slice_get-map (label_set_of globals) (keys_of live) place ∙ ap (option_map (label_set_of globals)) (slice_get-map (λ (series : LiveSeries Sampled). series.key) live place ∙ ap (option_map (λ (series : LiveSeries Sampled). series.key)) e) in
+        absurd (none-some _ (sym none ∙ ap (λ (r : RowsText). slice_get r.label_sets place) kept ∙ here))

@@ -1,5 +1,5 @@
 -- The rows of a histogram's recorded samples are those of its calls, by the kind that follows from its name.
-use Rattle.std.proofs.Common.{◌≡◌, ℕ, zero, suc, ◌-◌, ◌*◌, ◌≤◌, List, [], ◌∷◌, ◌++◌, map, take, drop, length, ℤ, pos, refl, sym, ap, subst, ◌∙◌, append_assoc, append-nil, None, Some, false}
+use Rattle.std.proofs.Common.{◌≡◌, ℕ, zero, suc, ◌-◌, ◌*◌, ◌≤◌, List, [], ◌∷◌, ◌++◌, map, take, drop, length, ℤ, pos, refl, sym, ap, subst, ◌∙◌, append_assoc, append-nil, None, Some}
 use Rattle.std.specs.Prelude.{replicate, flat_map, Option, All, codes}
 use Rattle.std.specs.List.{AllByRecursion}
 use Rattle.std.proofs.lemmas.Grind.{flat_map-append}
@@ -21,13 +21,13 @@ use Rattle.histogram_series.specs.Series.{recorded, recorded_samples, all_sample
 use Rattle.histogram_series.specs.Rows.{RowMaker, bucket_row, last_bucket_row, sum_and_count_rows, value_row, sample_rows}
 use Rattle.sample_queue.specs.Queues.{popped}
 use Rattle.prom_format.specs.Matchers.{MatcherText, rule_for}
-use Rattle.prom_format.specs.Names.{sanitized_metric_name}
+use Rattle.prom_format.specs.Names.{sanitized_metric_name, full_name}
 use Rattle.prom_format.specs.Lines.{shown_label_set}
 use Rattle.native_histograms.specs.Native.{NativeText}
 use Rattle.prom_format.specs.Pages.{Row}
 use Rattle.distribution_rows.specs.Series.{series_row}
 use Rattle.prom_exporter.specs.State.{Series, PrometheusState}
-use Rattle.prom_exporter.specs.Families.{ExporterSettings, rules_of_settings, distribution_of, histogram_rows, summary_rows}
+use Rattle.prom_exporter.specs.Families.{ExporterSettings, rules_of_settings, distribution_of, shown_unit, histogram_rows, summary_rows}
 use Rattle.prom_exporter.specs.Sampled.{Sampled, IsTimely, calls_recorded}
 use Rattle.prom_exporter.specs.SampledRows.{sampled_rows}
 use Rattle.prom_exporter.specs.Values.{series_of, sampled_series}
@@ -101,10 +101,6 @@ summary-built rules name built e =
 
 -- ---- rows
 
--- the settings with names as they are
-abbrev pub plain : ExporterSettings → ExporterSettings
-plain settings = record settings { units = false; total_suffix = false }
-
 abbrev pub seen : LiveSeries Sampled → Series
 seen e = series_of (sampled_series calls_recorded e)
 
@@ -119,8 +115,12 @@ module _ (settings : ExporterSettings) (s : PrometheusState) (t : ℕ) (e : Live
   abbrev recorded_here : List Sample
   recorded_here = recorded_samples e.cell.series
 
+  -- the full name of its family
+  abbrev pub full_name_of : List ℕ
+  full_name_of = full_name (sanitized_metric_name e.key.name) (shown_unit settings s (sanitized_metric_name e.key.name)) None
+
   abbrev row : RowMaker
-  row = series_row (sanitized_metric_name e.key.name) labels
+  row = series_row full_name_of labels
 
   abbrev entries_here : List TimedEntry
   entries_here = recorded e.cell.series
@@ -129,13 +129,13 @@ module _ (settings : ExporterSettings) (s : PrometheusState) (t : ℕ) (e : Live
   ends values = sum_and_count_rows row (sample_sum values) (sample_count values)
 
   pub histogram_rows-are : (bounds : List ℤ) → e.cell.series.kind ≡ Histogram bounds
-      → histogram_rows (plain settings) s bounds (seen e) ≡ sampled_rows t (sanitized_metric_name e.key.name) labels e.cell
+      → histogram_rows settings s bounds (seen e) ≡ sampled_rows t full_name_of labels e.cell
   histogram_rows-are bounds kind =
       ap (λ values. map (λ bound. bucket_row row bound (bucket_count bound values)) bounds ++ last_bucket_row row (sample_count values) ∷ ends values) (values-recorded entries_here)
       ∙ sym (ap (λ (k : DistributionKind). sample_rows row t k recorded_here) kind)
 
   pub summary_rows-are : (built : SummaryText) → built ≡ (rules_of_settings settings).summary → e.cell.series.kind ≡ Summary built
-      → summary_rows (plain settings) s t (seen e) ≡ sampled_rows t (sanitized_metric_name e.key.name) labels e.cell
+      → summary_rows settings s t (seen e) ≡ sampled_rows t full_name_of labels e.cell
   summary_rows-are built is kind =
       let width = settings.bucket_duration in
       let span = settings.bucket_count * settings.bucket_duration in

@@ -12,6 +12,8 @@ use Rattle.metrics_core.proofs.KindTests.{kind_eq-refl}
 use Rattle.metrics_core.specs.Keys.{KeyText, key_eq}
 use Rattle.metrics_registry.specs.Live.{LiveSeries, RegistryText, has_id, has_key, id_of_key, cell_of, with_cell, IsBelowAll, Rises, AreOf}
 use Rattle.prom_exporter.specs.State.{Series, PrometheusState, live, with_live, no_series, live_series, number_given, register}
+use Rattle.metric_descriptions.specs.Descriptions.{DescribedText}
+use Rattle.prom_exporter.specs.Exporter.{with_said}
 use Rattle.prom_exporter.specs.Values.{SeenCell, series_of, state_of}
 
 abbrev Cell : Type 0
@@ -100,6 +102,23 @@ module _ (kind : MetricKind) (key : KeyText) (registry : Registry) where
   pub register-new : id_of_key key (of_kind kind registry) ≡ None → registry.made ≢ no_series
       → register kind key (state_of registry) ≡ record (with_live kind (live kind (state_of registry) ++ series_of (new_series kind registry.made key) ∷ []) (state_of registry)) { made = registry.made + 1 }
   register-new none room = rw (some_found, none, ne_eqb registry.made no_series room) refl
+
+-- what is said of metrics has no part in registering
+register_said : (kind : MetricKind) (key : KeyText) (said : DescribedText) (s : PrometheusState) → with_said said (register kind key s) ≡ register kind key (with_said said s)
+register_said kind key said s = of_kind_said kind
+  where
+    by : (b c : Bool) (new : PrometheusState) → with_said said (cond b s (cond c s new)) ≡ cond b (with_said said s) (cond c (with_said said s) (with_said said new))
+    by true c new = refl
+    by false true new = refl
+    by false false new = refl
+
+    of_kind_said : (k : MetricKind) → with_said said (register k key s) ≡ register k key (with_said said s)
+    of_kind_said kinds.Counter = by (is_some (live_series kinds.Counter key s)) (s.made == no_series) _
+    of_kind_said kinds.Gauge = by (is_some (live_series kinds.Gauge key s)) (s.made == no_series) _
+    of_kind_said kinds.Histogram = by (is_some (live_series kinds.Histogram key s)) (s.made == no_series) _
+
+pub registered_said : (kind : MetricKind) (key : KeyText) (said : DescribedText) (old new : PrometheusState) → new ≡ register kind key old → with_said said new ≡ register kind key (with_said said old)
+registered_said kind key said old new is = ap (with_said said) is ∙ register_said kind key said old
 
 -- ---- a cell that is put back
 

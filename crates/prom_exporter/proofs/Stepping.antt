@@ -20,13 +20,14 @@ use Rattle.metrics_registry.specs.Live.{LiveSeries}
 use Rattle.metrics_registry.specs.Recency.{Idle, note_left}
 use Rattle.metrics_registry.specs.Retained.{AskedAt, Retains}
 use Rattle.prom_format.specs.Pages.{body_text}
-use Rattle.prom_exporter.specs.State.{Series, kept_at, page_step}
+use Rattle.prom_exporter.specs.State.{Series, kept_at, page_step, publish as publish_state}
 use Rattle.prom_exporter.specs.Families.{families_at}
 use Rattle.prom_exporter.specs.Rows.{keys_of}
 use Rattle.prom_exporter.specs.Shared.{Shared, IsHome, calls_seen}
 use Rattle.prom_exporter.specs.Values.{series_of, seen_series}
+use Rattle.metric_descriptions.specs.Descriptions.{DescribedText, publish}
 use Rattle.prom_exporter.specs.Exporter.{Exporter, AllHome, AreTimely, state_of, state_shown, page_body, shown_body}
-use Rattle.prom_exporter.specs.Stepped.{IsNoted, AreNoted, AreCounted, DrainsInPart, DrainsWhole, AreDrained, DrainsEach, Steps}
+use Rattle.prom_exporter.specs.Stepped.{IsNoted, AreNoted, AreCounted, DrainsInPart, DrainsWhole, AreDrained, DrainsEach, KeepsUp, Steps}
 use Rattle.prom_exporter.proofs.Home.{looks-home}
 use Rattle.prom_exporter.proofs.Drained.{AreWhole, drained-rest, drained-timely, drained-known, drained-whole, whole-parts}
 use Rattle.prom_exporter.proofs.Counted.{all_known, fewer_step, keys_step, counted-rest, counted-whole, counted-timely, counted-known, whole-shown}
@@ -152,8 +153,34 @@ module _ (old new : Exporter) (home : AllHome old) (drains : DrainsEach DrainsIn
 pub drains_less : (old new : Exporter) → DrainsEach DrainsWhole old new → DrainsEach DrainsInPart old new
 drains_less old new drains = (whole-parts old.series.histograms new.series.histograms drains.0, drains.1)
 
+-- what waits is published after the histograms were drained
+pub keeps_made : (old drained new : Exporter) (said : DescribedText) → DrainsEach DrainsWhole old drained → new ≡ record drained { said = said } → said ≡ publish drained.said → KeepsUp old new
+keeps_made old drained new said drains is published = (
+  subst (λ (e : Exporter). AreDrained DrainsWhole old.series.histograms e.series.histograms) (sym is) drains.0,
+  is
+      ∙ ap (λ (e : Exporter). record e { said = said }) drains.1
+      ∙ (λ j. record old { series = record old.series { histograms = ap (λ (e : Exporter). e.series.histograms) (sym is) j }; said = (published ∙ ap (λ (e : Exporter). publish e.said) drains.1) j }),
+)
+
+-- those that were drained whole, where what waited was published
+module _ (old new : Exporter) (home : AllHome old) (keeps : KeepsUp old new) where
+  abbrev drained_only : Exporter
+  drained_only = record old { series = record old.series { histograms = new.series.histograms } }
+
+  drained_parts : DrainsEach DrainsInPart old drained_only
+  drained_parts = (whole-parts old.series.histograms new.series.histograms keeps.0, refl)
+
+  pub keeps_home : AllHome new
+  keeps_home = subst AllHome (sym keeps.1) (drains_home old drained_only home drained_parts)
+
+  pub keeps_timely : (t : ℕ) → AreTimely t old → AreTimely t new
+  keeps_timely t timely = subst (AreTimely t) (sym keeps.1) (drains_timely old drained_only home drained_parts t timely)
+
+  pub keeps_state : state_of new ≡ publish_state (state_of old)
+  keeps_state = ap state_of keeps.1 ∙ ap publish_state (drains_state old drained_only home drained_parts)
+
 -- the page step is made of its parts: the histograms are drained, and then each kind in turn
-module _ (moment : ℕ) (old drained counted gauged new : Exporter) (drains : DrainsEach DrainsWhole old drained)
+module _ (moment : ℕ) (old drained counted gauged new : Exporter) (drains : KeepsUp old drained)
     (counters : AreNoted drained.settings.idle moment kinds.Counter drained.series.counters counted.series.counters) (counted_is : counted ≡ record drained { series = record drained.series { counters = counted.series.counters } })
     (gauges : AreNoted counted.settings.idle moment kinds.Gauge counted.series.gauges gauged.series.gauges) (gauged_is : gauged ≡ record counted { series = record counted.series { gauges = gauged.series.gauges } })
     (histograms : AreCounted gauged.settings.idle moment gauged.series.histograms new.series.histograms) (new_is : new ≡ record gauged { series = record gauged.series { histograms = new.series.histograms } }) where
@@ -163,13 +190,13 @@ module _ (moment : ℕ) (old drained counted gauged new : Exporter) (drains : Dr
   abbrev with_gauges : Exporter → Exporter
   with_gauges e = record e { series = record e.series { gauges = gauged.series.gauges } }
 
-  from_counted : counted ≡ with_counters (record old { series = record old.series { histograms = drained.series.histograms } })
+  from_counted : counted ≡ with_counters (record old { series = record old.series { histograms = drained.series.histograms }; said = publish old.said })
   from_counted = counted_is ∙ ap with_counters drains.1
 
-  from_gauged : gauged ≡ with_gauges (with_counters (record old { series = record old.series { histograms = drained.series.histograms } }))
+  from_gauged : gauged ≡ with_gauges (with_counters (record old { series = record old.series { histograms = drained.series.histograms }; said = publish old.said }))
   from_gauged = gauged_is ∙ ap with_gauges from_counted
 
-  from_new : new ≡ record (with_gauges (with_counters old)) { series = record (with_gauges (with_counters old)).series { histograms = new.series.histograms } }
+  from_new : new ≡ record (with_gauges (with_counters old)) { series = record (with_gauges (with_counters old)).series { histograms = new.series.histograms }; said = publish old.said }
   from_new = new_is ∙ ap (λ (e : Exporter). record e { series = record e.series { histograms = new.series.histograms } }) from_gauged
 
   pub steps_made : Steps moment old new
@@ -183,6 +210,7 @@ module _ (moment : ℕ) (old drained counted gauged new : Exporter) (drains : Dr
     drains = drains.0;
     histograms = subst (λ (e : Exporter). AreCounted e.settings.idle moment e.series.histograms new.series.histograms) from_gauged histograms;
     made = ap (λ (e : Exporter). e.series.made) from_new;
+    said = ap (λ (e : Exporter). e.said) from_new;
   }
 
 module _ (moment : ℕ) (old new : Exporter) (home : AllHome old) (steps : Steps moment old new) where
@@ -218,8 +246,8 @@ module _ (moment : ℕ) (old new : Exporter) (home : AllHome old) (steps : Steps
         gauges = sym (noted_shown idle moment kinds.Gauge (λ made. refl) old.series.gauges new.series.gauges home.1 steps.gauges) j;
         histograms = sym sampled j;
         made = steps.made j;
-        published = [];
-        pending = [];
+        published = (steps.said j).published;
+        pending = (steps.said j).pending;
       })
 
   -- a page shows all of it: each sample is recorded

@@ -1,6 +1,7 @@
 -- An exporter whose histograms change: what it keeps stays right.
 use Rattle.std.proofs.Common.{◌≡◌, ℕ, ◌+◌, ◌≤◌, List, [], ◌∷◌, ◌++◌, length, Option, Some, refl, sym, ap, subst, ◌∙◌}
 use Rattle.std.proofs.lemmas.List.Elements.{All-nil, All-cons, All-append}
+use Rattle.metric_descriptions.specs.Descriptions.{DescribedText}
 use Rattle.metrics_core.specs.Keys.{KeyText}
 use Rattle.metrics_core.specs.declared.kinds.SeriesId.{SeriesId}
 use Rattle.metrics_registry.specs.Live.{LiveSeries, cell_of, with_cell, IsNumbered}
@@ -62,7 +63,6 @@ module _ (settings : ExporterSettings) (distributions : DistributionRules) (old 
         counters = kept.counters;
         gauges = kept.gauges;
         histograms = first_longer settings.globals old.histograms new histograms kept.histograms;
-        names = kept.names;
         kinds = kept.kinds;
         sampled = All-append (λ (s : LiveSeries Sampled). s.cell.series.kind ≡ distribution_of settings (sanitized_metric_name s.key.name)) old.histograms (new ∷ []) kept.sampled
             (All-cons (λ (s : LiveSeries Sampled). s.cell.series.kind ≡ distribution_of settings (sanitized_metric_name s.key.name)) new [] kind (All-nil _));
@@ -78,18 +78,17 @@ module _ (settings : ExporterSettings) (distributions : DistributionRules) (old 
       (counted-kinds idle moment settings old.histograms now.histograms counted kept.sampled)
 
   -- their updates were counted, and what is kept of their rows was let go
-  pub kept-emptied : (now : Cells) (idle : Option Idle) (moment : ℕ) (rows : RowsText) → rows ≡ record { heads = []; families = [] } → AreCounted idle moment old.histograms now.histograms
+  pub kept-emptied : (now : Cells) (idle : Option Idle) (moment : ℕ) (rows : RowsText) → rows ≡ record { label_sets = []; families = [] } → AreCounted idle moment old.histograms now.histograms
       → now ≡ record old { histograms = now.histograms } → IsKept settings distributions now counters gauges rows
   kept-emptied now idle moment rows empty counted others = record {
     counters = first_same settings.globals old.counters now.counters counters kept.counters (ap (λ (cells : Cells). keys_of cells.counters) others);
     gauges = first_same settings.globals old.gauges now.gauges gauges kept.gauges (ap (λ (cells : Cells). keys_of cells.gauges) others);
     histograms = rw empty refl;
-    names = kept.names;
     kinds = kept.kinds;
     sampled = counted-kinds idle moment settings old.histograms now.histograms counted kept.sampled;
   }
 
 -- a new histogram is of the kind that follows from its name, by the settings that an exporter has
-pub made_by : (exporter : Exporter) (settings : ExporterSettings) (series : Cells) (cell : Sampled) (name : List ℕ) → record { settings = settings; series = series } ≡ exporter
+pub made_by : (exporter : Exporter) (settings : ExporterSettings) (series : Cells) (said : DescribedText) (cell : Sampled) (name : List ℕ) → record { settings = settings; series = series; said = said } ≡ exporter
     → cell ≡ unsampled (distribution_of exporter.settings name) cell.series.cell → cell ≡ unsampled (distribution_of settings name) cell.series.cell
-made_by exporter settings series cell name is made = made ∙ ap (λ (e : Exporter). unsampled (distribution_of e.settings name) cell.series.cell) (sym is)
+made_by exporter settings series said cell name is made = made ∙ ap (λ (e : Exporter). unsampled (distribution_of e.settings name) cell.series.cell) (sym is)

@@ -22,16 +22,16 @@ prefix_of_more a b some rest whole is prefix = subst (GrewByPrefix a b) (sym is)
 -- ---- a row
 
 module _ {X : Type 0} (shown : X → ℤ) where
-  row_found : (head : List ℕ) (cell : X) (o : Option (LiveSeries X)) → Some cell ≡ option_map (λ (s : LiveSeries X). s.cell) o → row_if shown (Some head) o ≡ kept_row shown head cell
-  row_found head cell None e = cc
-  row_found head cell (Some s) e = ap (kept_row shown head) (sym (same_Some cell s.cell e))
+  row_found : (name labels : List ℕ) (cell : X) (o : Option (LiveSeries X)) → Some cell ≡ option_map (λ (s : LiveSeries X). s.cell) o → row_if shown name (Some labels) o ≡ kept_row shown name labels cell
+  row_found name labels cell None e = cc
+  row_found name labels cell (Some s) e = ap (kept_row shown name labels) (sym (same_Some cell s.cell e))
 
-  pub row_at-found : (heads : List (List ℕ)) (live : List (LiveSeries X)) (place : ℕ) (head : List ℕ) (cell : X) → slice_get heads place ≡ Some head → Some cell ≡ option_map (λ (s : LiveSeries X). s.cell) (slice_get live place)
-      → row_at shown heads live place ≡ kept_row shown head cell
-  row_at-found heads live place head cell at found = ap (λ o. row_if shown o (slice_get live place)) at ∙ row_found head cell (slice_get live place) found
+  pub row_at-found : (name : List ℕ) (label_sets : List (List ℕ)) (live : List (LiveSeries X)) (place : ℕ) (labels : List ℕ) (cell : X) → slice_get label_sets place ≡ Some labels → Some cell ≡ option_map (λ (s : LiveSeries X). s.cell) (slice_get live place)
+      → row_at shown name label_sets live place ≡ kept_row shown name labels cell
+  row_at-found name label_sets live place labels cell at found = ap (λ o. row_if shown name o (slice_get live place)) at ∙ row_found name labels cell (slice_get live place) found
 
-pub row_pushed : (b h s n e : List ℕ) → (((b ++ h) ++ s) ++ n) ++ e ≡ b ++ (((h ++ s) ++ n) ++ e)
-row_pushed b h s n e = simp append_assoc
+pub row_pushed : (b f h s n e : List ℕ) → ((((b ++ f) ++ h) ++ s) ++ n) ++ e ≡ b ++ ((((f ++ h) ++ s) ++ n) ++ e)
+row_pushed b f h s n e = simp append_assoc
 
 -- ---- rows, one place after another
 

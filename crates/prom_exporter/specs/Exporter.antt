@@ -1,4 +1,4 @@
--- An exporter as its contracts see it: what it was built with, and its live series with their cells.
+-- An exporter as its contracts see it: what it was built with, its live series with their cells, and what is said of metrics.
 use Rattle.std.specs.Prelude.{◌≡◌, ℕ, ◌+◌, List, [], ◌∷◌, ◌++◌, map, pos, None, false, Some, All}
 use Rattle.metrics_core.specs.Keys.{LabelText, KeyText}
 use Rattle.metrics_core.specs.declared.kinds.MetricKind.TheVariants as kinds
@@ -9,6 +9,7 @@ use Rattle.series_cells.specs.declared.gauge.PromGauge.{PromGauge}
 use Rattle.histogram_series.specs.Entries.{TimedQueue}
 use Rattle.prom_format.specs.Names.{sanitized_metric_name}
 use Rattle.prom_format.specs.Pages.{Family, body_text}
+use Rattle.metric_descriptions.specs.Descriptions.{DescribedText}
 use Rattle.prom_exporter.specs.State.{PrometheusState, page_step}
 use Rattle.prom_exporter.specs.Families.{ExporterSettings, families_at, distribution_of}
 use Rattle.prom_exporter.specs.Shared.{Shared, IsHome, unused}
@@ -22,18 +23,23 @@ Cells = RegistryText (Shared PromCounter) (Shared PromGauge) Sampled
 pub record Exporter : Type 0 where
   pub settings : ExporterSettings
   pub series : Cells
+  pub said : DescribedText
 
 -- no series
 abbrev pub no_cells : Cells
 no_cells = record { counters = []; gauges = []; histograms = []; made = 0 }
 
+-- a state with what is said of metrics
+abbrev pub with_said : DescribedText → PrometheusState → PrometheusState
+with_said said s = record s { published = said.published; pending = said.pending }
+
 -- the sequential state that the exporter has seen
 abbrev pub state_of : Exporter → PrometheusState
-state_of exporter = state_seen exporter.series
+state_of exporter = with_said exporter.said (state_seen exporter.series)
 
 -- the same as far as a page shows it, which has the samples that are recorded
 abbrev pub state_shown : Exporter → PrometheusState
-state_shown exporter = state_recorded exporter.series
+state_shown exporter = with_said exporter.said (state_recorded exporter.series)
 
 -- the settings of a new builder: quantiles 0, 0.5, 0.9, 0.95, 0.99, 0.999 and 1, three buckets of 20 seconds
 abbrev pub default_settings : ExporterSettings

@@ -13,7 +13,8 @@ use Rattle.prom_format.specs.Pages.{Row, Family}
 use Rattle.prom_format.specs.Matchers.{MatcherText}
 use Rattle.prom_format.specs.declared.families.FamilyType.{FamilyType}
 use Rattle.prom_format.specs.declared.families.FamilyType.TheVariants as types
-use Rattle.prom_exporter.specs.State.{Series, PrometheusState, live, description_of}
+use Rattle.metric_descriptions.specs.Descriptions.{description_of}
+use Rattle.prom_exporter.specs.State.{Series, PrometheusState, live}
 use Rattle.metrics_registry.specs.Recency.{Idle}
 use Rattle.metrics_registry.specs.Quantiles.{clamped, quantile_of}
 use Rattle.metrics_registry.specs.Cumulative.{bucket_count, sample_count, sample_sum}

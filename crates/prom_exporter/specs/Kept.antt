@@ -1,5 +1,5 @@
 -- That what the exporter keeps for its rows is what its series want, and what it keeps of its settings.
-use Rattle.std.specs.Prelude.{◌≡◌, ℕ, List, take, length, false, All}
+use Rattle.std.specs.Prelude.{◌≡◌, ℕ, List, take, length, All}
 use Rattle.metrics_core.specs.Keys.{LabelText}
 use Rattle.metrics_registry.specs.Live.{LiveSeries, RegistryText}
 use Rattle.distributions.specs.Kinds.{DistributionRules, kind_for}
@@ -8,14 +8,9 @@ use Rattle.prom_format.specs.Names.{sanitized_metric_name}
 use Rattle.prom_exporter.specs.Rows.{RowsText, rows_of, keys_of}
 use Rattle.prom_exporter.specs.Sampled.{Sampled}
 
--- what is kept for the rows of some series is what the first of them want: how many these are the kept beginnings tell. A page keeps the rest
+-- what is kept for the rows of some series is what the first of them want: how many these are the kept label sets tell. A page keeps the rest
 abbrev pub KeepsFirst : {X : Type 0} → List LabelText → List (LiveSeries X) → RowsText → Type 0
-KeepsFirst globals live rows = rows ≡ rows_of globals (take (length rows.heads) (keys_of live))
-
--- names have neither a unit nor the suffix of counters
-pub record NamesAsTheyAre (settings : ExporterSettings) : Type 0 where
-  pub units : settings.units ≡ false
-  pub total_suffix : settings.total_suffix ≡ false
+KeepsFirst globals live rows = rows ≡ rows_of globals (take (length rows.label_sets) (keys_of live))
 
 -- distributions are of the kinds that follow from the settings
 abbrev pub FitsSettings : ExporterSettings → DistributionRules → Type 0
@@ -29,6 +24,5 @@ pub record IsKept {C G : Type 0} (settings : ExporterSettings) (distributions : 
   pub counters : KeepsFirst settings.globals series.counters counter_rows
   pub gauges : KeepsFirst settings.globals series.gauges gauge_rows
   pub histograms : KeepsFirst settings.globals series.histograms histogram_rows
-  pub names : NamesAsTheyAre settings
   pub kinds : FitsSettings settings distributions
   pub sampled : HaveKinds settings series.histograms

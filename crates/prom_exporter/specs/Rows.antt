@@ -1,4 +1,4 @@
--- What is kept of series for the rows of pages: of each the text that its rows begin with, and the places of the series of each family.
+-- What is kept of series for the rows of pages: of each its printed label set, and the places of the series of each family.
 use Rattle.std.specs.Prelude.{ℕ, List, [], ◌++◌, map, flat_map, slice_get, ℤ, Option, Some, None, codes, string_bytes}
 use Rattle.std.specs.List.{enumerate_from}
 use Rattle.std.specs.declared.string.String.{String}
@@ -9,19 +9,20 @@ use Rattle.metrics_core.specs.Numbers.{page_number}
 use Rattle.metrics_core.specs.Keys.{KeyText, LabelText}
 use Rattle.metrics_registry.specs.Live.{LiveSeries}
 use Rattle.prom_format.specs.Names.{sanitized_metric_name}
-use Rattle.prom_format.specs.Lines.{shown_label_set, head_text}
-use Rattle.prom_format.specs.Pages.{type_line_text}
+use Rattle.prom_format.specs.Lines.{shown_label_set}
+use Rattle.prom_format.specs.Pages.{label_set_text, type_text}
 use Rattle.prom_format.specs.declared.families.FamilyType.{FamilyType}
+use Rattle.prom_exporter.specs.Naming.{NamingText, shown_name, title_text}
 use Rattle.prom_exporter.specs.Values.{grouped}
 
--- of each series what its rows begin with, and of each family its metric name and the places of its series
+-- of each series its label set, as it is printed, and of each family its metric name and the places of its series
 pub record RowsText : Type 0 where
-  pub heads : List (List ℕ)
+  pub label_sets : List (List ℕ)
   pub families : List (List ℕ × List ℕ)
 
--- what each row of a series begins with: its metric name and its label set
-abbrev pub head_of : List LabelText → KeyText → List ℕ
-head_of globals key = head_text (sanitized_metric_name key.name) (shown_label_set globals key.labels)
+-- the label set of a series, as it is printed
+abbrev pub label_set_of : List LabelText → KeyText → List ℕ
+label_set_of globals key = label_set_text (shown_label_set globals key.labels)
 
 -- the metric name of a series, given with its place
 abbrev pub name_at : ℕ × KeyText → List ℕ
@@ -34,7 +35,7 @@ places_of group = (group.0, map (λ placed. placed.0) group.1)
 -- what is kept of series with these keys
 abbrev pub rows_of : List LabelText → List KeyText → RowsText
 rows_of globals keys = record {
-  heads = map (head_of globals) keys;
+  label_sets = map (label_set_of globals) keys;
   families = map places_of (grouped name_at (enumerate_from 0 keys));
 }
 
@@ -48,19 +49,20 @@ family_kept entry = (string_bytes entry.0, entry.1.items)
 -- ---- the lines that are written of what is kept
 
 module _ {X : Type 0} (shown : X → ℤ) where
-  -- a row: what it begins with, a space and the value
-  abbrev pub kept_row : List ℕ → X → List ℕ
-  kept_row head cell = line (head ++ codes " " ++ page_number (shown cell))
+  -- a row: the full name of its family, the label set, a space and the value
+  abbrev pub kept_row : List ℕ → List ℕ → X → List ℕ
+  kept_row name labels cell = line (name ++ labels ++ codes " " ++ page_number (shown cell))
 
   -- the row of the series at a place, if there is one
-  abbrev pub row_if : Option (List ℕ) → Option (LiveSeries X) → List ℕ
-  row_if (Some head) (Some series) = kept_row head series.cell
-  row_if (Some head) None = []
-  row_if None series = []
+  abbrev pub row_if : List ℕ → Option (List ℕ) → Option (LiveSeries X) → List ℕ
+  row_if name (Some labels) (Some series) = kept_row name labels series.cell
+  row_if name (Some labels) None = []
+  row_if name None series = []
 
-  abbrev pub row_at : List (List ℕ) → List (LiveSeries X) → ℕ → List ℕ
-  row_at heads live place = row_if (slice_get heads place) (slice_get live place)
+  abbrev pub row_at : List ℕ → List (List ℕ) → List (LiveSeries X) → ℕ → List ℕ
+  row_at name label_sets live place = row_if name (slice_get label_sets place) (slice_get live place)
 
   -- the block of a family
-  abbrev pub kept_block : FamilyType → List (List ℕ) → List (LiveSeries X) → List ℕ × List ℕ → List ℕ
-  kept_block type heads live family = type_line_text family.0 type ++ flat_map (row_at heads live) family.1 ++ line []
+  abbrev pub kept_block : NamingText → Option (List ℕ) → FamilyType → List (List ℕ) → List (LiveSeries X) → List ℕ × List ℕ → List ℕ
+  kept_block naming suffix type label_sets live family =
+      title_text naming suffix (type_text type) family.0 ++ flat_map (row_at (shown_name naming suffix family.0) label_sets live) family.1 ++ line []

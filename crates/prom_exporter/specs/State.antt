@@ -1,5 +1,5 @@
 -- The state of the Prometheus exporter, and the steps of registering, describing, calling and rendering.
-use Rattle.std.specs.Prelude.{ℕ, ◌+◌, ◌-◌, ◌^◌, Bool, ◌==◌, List, [], ◌∷◌, ◌++◌, map, Option, None, find, filter_map, is_some, option_map, unwrap_or, bytes_eq, if◌then◌else◌}
+use Rattle.std.specs.Prelude.{ℕ, ◌+◌, ◌-◌, ◌^◌, Bool, ◌==◌, List, [], ◌∷◌, ◌++◌, map, Option, None, find, filter_map, is_some, option_map, unwrap_or, if◌then◌else◌}
 use Rattle.std.specs.List.{list_any}
 use Rattle.metrics_core.specs.declared.kinds.MetricKind.{MetricKind}
 use Rattle.metrics_core.specs.declared.kinds.MetricKind.TheVariants as kinds
@@ -8,6 +8,7 @@ use Rattle.metrics_core.specs.Numbers.{in_64_bits}
 use Rattle.metrics_core.specs.Keys.{KeyText, key_eq}
 use Rattle.metrics_core.specs.Calls.{Call, update_count}
 use Rattle.metrics_registry.specs.Recency.{Idle, note_left}
+use Rattle.metric_descriptions.specs.Descriptions.{Description, description_of, put_description}
 use Rattle.prom_format.specs.Names.{sanitized_metric_name}
 
 -- one live series: its number and key, all calls on it, and what the last page noted of it
@@ -16,12 +17,6 @@ pub record Series : Type 0 where
   pub key : KeyText
   pub calls : List Call
   pub note : Option (ℕ × ℕ)  -- count of updates, moment
-
--- what is said of a metric name
-pub record Description : Type 0 where
-  pub name : List ℕ
-  pub text : List ℕ
-  pub unit : Option UnitOf
 
 -- the live series of each kind in order of registration, how many series were ever made, and the descriptions by metric name
 pub record PrometheusState : Type 0 where
@@ -70,14 +65,6 @@ register kind key s =
 
 -- ---- describing
 
-abbrev pub description_of : List Description → List ℕ → Option Description
-description_of ds name = find (λ d. bytes_eq d.name name) ds
-
--- a description put into a list: in the place of the one with its name, or else last
-abbrev pub put_description : List Description → Description → List Description
-put_description [] d = d ∷ []
-put_description (first ∷ ds) d = if bytes_eq first.name d.name then d ∷ ds else first ∷ put_description ds d
-
 -- describing changes nothing where the metric name is published; otherwise the text waits for the next page
 abbrev pub describe : List ℕ → Option UnitOf → List ℕ → PrometheusState → PrometheusState
 describe name unit text s =
@@ -96,6 +83,10 @@ call_on kind number call s = with_live kind (map (with_call number call) (live k
 -- whether a series of the kind with the number is live
 abbrev pub is_live : MetricKind → ℕ → PrometheusState → Bool
 is_live kind number s = list_any (λ series. series.number == number) (live kind s)
+
+-- what waits is published, behind what was published before
+abbrev pub publish : PrometheusState → PrometheusState
+publish s = record s { published = s.published ++ s.pending; pending = [] }
 
 -- ---- rendering
 

@@ -12,6 +12,7 @@ use Rattle.histogram_series.specs.Series.{entries, recorded}
 use Rattle.histogram_series.specs.Drains.{Drains, Grows, FoundEmpty}
 use Rattle.prom_exporter.specs.Shared.{Shared, Looks}
 use Rattle.prom_exporter.specs.Sampled.{Sampled, IsAtRest, updates_of}
+use Rattle.metric_descriptions.specs.Descriptions.{publish}
 use Rattle.prom_exporter.specs.Exporter.{Exporter}
 
 module _ (idle : Option Idle) (moment : ℕ) (kind : MetricKind) {F : Type 0} where
@@ -74,7 +75,13 @@ DrainsEach changes old new =
     AreDrained changes old.series.histograms new.series.histograms
     × (new ≡ record old { series = record old.series { histograms = new.series.histograms } })
 
--- the page step at a moment was made of an exporter: all histograms were drained first
+-- the histograms were drained whole, and what waited was published
+abbrev pub KeepsUp : Exporter → Exporter → Type 0
+KeepsUp old new =
+    AreDrained DrainsWhole old.series.histograms new.series.histograms
+    × (new ≡ record old { series = record old.series { histograms = new.series.histograms }; said = publish old.said })
+
+-- the page step at a moment was made of an exporter: all histograms were drained first, and what waited was published
 pub record Steps (moment : ℕ) (old new : Exporter) : Type 0 where
   pub settings : new.settings ≡ old.settings
   pub counters : AreNoted old.settings.idle moment kinds.Counter old.series.counters new.series.counters
@@ -83,3 +90,4 @@ pub record Steps (moment : ℕ) (old new : Exporter) : Type 0 where
   pub drains : AreDrained DrainsWhole old.series.histograms drained
   pub histograms : AreCounted old.settings.idle moment drained new.series.histograms
   pub made : new.series.made ≡ old.series.made
+  pub said : new.said ≡ publish old.said

@@ -10,6 +10,7 @@ use Rattle.prom_format.specs.Pages.{Row, Family}
 use Rattle.prom_format.specs.declared.families.FamilyType.{FamilyType}
 use Rattle.prom_exporter.specs.State.{Series, PrometheusState}
 use Rattle.prom_exporter.specs.Families.{distinct}
+use Rattle.prom_exporter.specs.Naming.{NamingText, help_in, shown_name}
 use Rattle.prom_exporter.specs.Shared.{Shared, calls_seen}
 use Rattle.prom_exporter.specs.Sampled.{Sampled, calls_known, calls_recorded}
 
@@ -24,7 +25,7 @@ pub record SeenCell : Type 0 where
 abbrev pub series_of : LiveSeries SeenCell → Series
 series_of series = record { number = series.id.number; key = series.key; calls = series.cell.calls; note = series.cell.note }
 
--- the state of a registry, where nothing was described
+-- the state of a registry, as if nothing were described
 abbrev pub state_of : RegistryText SeenCell SeenCell SeenCell → PrometheusState
 state_of registry = record {
   counters = map series_of registry.counters;
@@ -92,13 +93,19 @@ member_of series = (series.key, series.cell)
 abbrev pub metric_name : {X : Type 0} → KeyText × X → List ℕ
 metric_name member = sanitized_metric_name member.0.name
 
--- the row of a series under a metric name, where a page shows so much of its cell
+-- the row of a series in a family of a name, where a page shows so much of its cell
 abbrev pub value_row : {X : Type 0} → (X → ℤ) → List LabelText → List ℕ → KeyText × X → Row
 value_row shown globals name member = record { name = name; labels = shown_label_set globals member.0.labels; value = shown member.1 }
 
--- the family of the series under a metric name
-abbrev pub value_family : {X : Type 0} → FamilyType → (X → ℤ) → List LabelText → List ℕ × List (KeyText × X) → Family
-value_family type shown globals group = record { help = None; name = group.0; type = type; rows = map (value_row shown globals group.0) group.1 }
+module _ {X : Type 0} (naming : NamingText) (suffix : Option (List ℕ)) (type : FamilyType) (shown : X → ℤ) (globals : List LabelText) where
+  -- the family of the series under a metric name
+  abbrev pub value_family : List ℕ × List (KeyText × X) → Family
+  value_family group = record {
+    help = help_in naming group.0;
+    name = shown_name naming suffix group.0;
+    type = type;
+    rows = map (value_row shown globals (shown_name naming suffix group.0)) group.1;
+  }
 
-abbrev pub value_families : {X : Type 0} → FamilyType → (X → ℤ) → List LabelText → List (LiveSeries X) → List Family
-value_families type shown globals live = map (value_family type shown globals) (grouped metric_name (map member_of live))
+  abbrev pub value_families : List (LiveSeries X) → List Family
+  value_families live = map value_family (grouped metric_name (map member_of live))

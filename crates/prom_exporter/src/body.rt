@@ -7,6 +7,7 @@ ghost use Rattle.prom_exporter.specs.Exporter.{AreTimely, shown_body};
 
 use crate::BuildError;
 use crate::distribution_pages::write_distributions;
+use crate::naming::Naming;
 use crate::pages::write_families;
 use crate::state::PrometheusState;
 use metrics_core::{Sink, write_whole};
@@ -40,12 +41,32 @@ impl PrometheusState {
         self.histogram_rows
             .catch_up(alloc, &histograms, histogram_count, &self.globals)?;
         let mut buffer = String::new(alloc);
-        let rows = &self.counter_rows;
-        write_families(FamilyType::Counter, rows, &counters, &mut buffer, sink)?;
+        let naming = Naming {
+            units: self.settings.units(),
+            descriptions: &self.descriptions,
+        };
+        let (suffix, rows) = (self.settings.counter_suffix(), &self.counter_rows);
+        write_families(
+            &naming,
+            suffix,
+            FamilyType::Counter,
+            rows,
+            &counters,
+            &mut buffer,
+            sink,
+        )?;
         let rows = &self.gauge_rows;
-        write_families(FamilyType::Gauge, rows, &gauges, &mut buffer, sink)?;
+        write_families(
+            &naming,
+            None,
+            FamilyType::Gauge,
+            rows,
+            &gauges,
+            &mut buffer,
+            sink,
+        )?;
         let (kinds, rows) = (&self.distributions, &self.histogram_rows);
-        write_distributions(kinds, moment, rows, &histograms, &mut buffer, sink)?;
+        write_distributions(&naming, kinds, moment, rows, &histograms, &mut buffer, sink)?;
         write_whole(sink, buffer.as_bytes())?;
         Ok(())
     }

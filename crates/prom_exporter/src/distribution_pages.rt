@@ -1,17 +1,18 @@
 //! The blocks of the histograms' families, written to a sink (Prometheus text exposition format, version 0.0.4).
 
-ghost use Rattle.std.specs.Prelude.{◌≡◌, ◌≤◌, ◌++◌, List, flat_map, slice_get, ◌⊎◌, All, IfErr, OnOk, OnErr, string_bytes};
+ghost use Rattle.std.specs.Prelude.{◌≡◌, ◌≤◌, ◌++◌, List, flat_map, ◌⊎◌, IfErr, OnOk, OnErr, string_bytes};
 ghost use Rattle.std.specs.Option.{option_copied};
 ghost use Rattle.metrics_core.specs.Keys.{LabelText};
 ghost use Rattle.metrics_core.specs.Outside.{Rose};
-ghost use Rattle.prom_format.specs.Lines.{head_text};
-ghost use Rattle.prom_format.specs.Pages.{row_text};
+ghost use Rattle.prom_format.specs.Pages.{row_text, label_set_text};
+ghost use Rattle.prom_format.specs.PrintedRows.{IsPrintedSet};
 ghost use Rattle.distributions.specs.Kinds.{kind_for};
 ghost use Rattle.prom_exporter.specs.Sampled.{IsTimely};
-ghost use Rattle.prom_exporter.specs.SampledRows.{sampled_rows, shown_word, lines_at, block_under, sampled_block, HasRowsOf, IsNamedAt, AreShown};
+ghost use Rattle.prom_exporter.specs.SampledRows.{sampled_rows, shown_word, lines_at, block_under, sampled_block, HasRowsOf, AreShown};
 ghost use Rattle.prom_exporter.specs.Sending.{SendsMore, SendsPrefix};
 
 use crate::BuildError;
+use crate::naming::Naming;
 use crate::pages::{end_block, send_full};
 use crate::rows::Rows;
 use crate::sampled::HistogramCell;
@@ -20,11 +21,11 @@ use distributions::DistributionBuilder;
 use histogram_series::laws::distributions_show_samples;
 use metrics_core::{Memory, Sink};
 use metrics_registry::SeriesIter;
-use prom_format::write_type_line;
 
 /// Appends the blocks of the histograms' families at a moment, in nanoseconds, of which this is kept; native histograms have
 /// none. What fills a piece goes to the sink. Where the sink or the memory fails a prefix of them was written.
 pub(crate) fn write_distributions<K: Sink>(
+    naming: &Naming<'_>,
     distributions: &DistributionBuilder,
     moment: u64,
     rows: &Rows,
@@ -35,19 +36,20 @@ pub(crate) fn write_distributions<K: Sink>(
     requires kept { (globals : List LabelText) × HasRowsOf globals series.now rows.now }
     ensures sent { OnOk result ((globals : List LabelText) → AreShown globals moment series.now rows.now
         → SendsMore (K.written sink.old) (K.written sink.new) (string_bytes buffer.old) (string_bytes buffer.new)
-        (flat_map (sampled_block globals moment series.now distributions.now) rows.now.families)) }
+        (flat_map (sampled_block naming.now globals moment series.now distributions.now) rows.now.families)) }
     ensures prefix { OnErr result ((globals : List LabelText) → AreShown globals moment series.now rows.now
         → SendsPrefix (K.written sink.old) (K.written sink.new) (string_bytes buffer.old)
-        (flat_map (sampled_block globals moment series.now distributions.now) rows.now.families)) }
+        (flat_map (sampled_block naming.now globals moment series.now distributions.now) rows.now.families)) }
     ensures errors { IfErr result (λ error. (error ≡ BuildError.WriteFault) ⊎ (error ≡ BuildError.Memory)) }
     ensures cause { result ≡ Err BuildError.WriteFault → Rose (K.faults sink.old) (K.faults sink.new) }
     ensures never_falls { K.faults sink.old ≤ K.faults sink.new }
 {
     for (name, places) in rows.families.iter() {
-        let family = name.as_str();
+        let word = type_word(distributions, name.as_str());
         let places = places.as_slice();
-        let word = type_word(distributions, family);
-        write_family(word, moment, family, places, rows, series, buffer, sink)?;
+        write_family(
+            naming, word, moment, name, places, rows, series, buffer, sink,
+        )?;
     }
     Ok(())
 }
@@ -66,9 +68,10 @@ fn type_word(distributions: &DistributionBuilder, name: &str) -> Option<&'static
 
 /// Appends the block of a family under a word for its type, and nothing without a word. What fills a piece goes to the sink.
 fn write_family<K: Sink>(
+    naming: &Naming<'_>,
     word: Option<&'static str>,
     moment: u64,
-    name: &str,
+    name: &String,
     places: &[usize],
     rows: &Rows,
     series: &SeriesIter<'_, HistogramCell>,
@@ -76,13 +79,12 @@ fn write_family<K: Sink>(
     sink: &mut K,
 ) -> Result<(), BuildError>
     requires kept { (globals : List LabelText) × HasRowsOf globals series.now rows.now }
-    requires named { All (IsNamedAt series.now name.now) places.now }
     ensures sent { OnOk result ((globals : List LabelText) → AreShown globals moment series.now rows.now
         → SendsMore (K.written sink.old) (K.written sink.new) (string_bytes buffer.old) (string_bytes buffer.new)
-        (block_under globals moment series.now (option_copied word.entry) (name.now, places.now))) }
+        (block_under naming.now globals moment series.now (option_copied word.entry) (string_bytes name.now, places.now))) }
     ensures prefix { OnErr result ((globals : List LabelText) → AreShown globals moment series.now rows.now
         → SendsPrefix (K.written sink.old) (K.written sink.new) (string_bytes buffer.old)
-        (block_under globals moment series.now (option_copied word.entry) (name.now, places.now))) }
+        (block_under naming.now globals moment series.now (option_copied word.entry) (string_bytes name.now, places.now))) }
     ensures errors { IfErr result (λ error. (error ≡ BuildError.WriteFault) ⊎ (error ≡ BuildError.Memory)) }
     ensures cause { result ≡ Err BuildError.WriteFault → Rose (K.faults sink.old) (K.faults sink.new) }
     ensures never_falls { K.faults sink.old ≤ K.faults sink.new }
@@ -90,13 +92,14 @@ fn write_family<K: Sink>(
     let Some(word) = word else {
         return Ok(());
     };
-    write_type_line(buffer, name, None, None, word)?;
-    write_series(moment, name, places, rows, series, buffer, sink)?;
+    let mut full = String::new(*buffer.allocator());
+    naming.write_title(name, None, word, &mut full, buffer)?;
+    write_series(moment, full.as_str(), places, rows, series, buffer, sink)?;
     end_block(buffer)?;
     Ok(())
 }
 
-/// Appends the rows of the series at these places, all under one metric name. What fills a piece goes to the sink.
+/// Appends the rows of the series at these places, in a family of this full name. What fills a piece goes to the sink.
 fn write_series<K: Sink>(
     moment: u64,
     name: &str,
@@ -107,7 +110,6 @@ fn write_series<K: Sink>(
     sink: &mut K,
 ) -> Result<(), BuildError>
     requires kept { (globals : List LabelText) × HasRowsOf globals series.now rows.now }
-    requires named { All (IsNamedAt series.now name.now) places.now }
     ensures sent { OnOk result ((globals : List LabelText) → AreShown globals moment series.now rows.now
         → SendsMore (K.written sink.old) (K.written sink.new) (string_bytes buffer.old) (string_bytes buffer.new)
         (flat_map (lines_at globals moment series.now name.now) places.now)) }
@@ -125,7 +127,7 @@ fn write_series<K: Sink>(
     Ok(())
 }
 
-/// Appends the rows of the series at a place, if there is one. A refused call may leave a part of them.
+/// Appends the rows of the series at a place, if there is one, in a family of this full name. A refused call may leave a part of them.
 fn push_series(
     moment: u64,
     name: &str,
@@ -135,34 +137,31 @@ fn push_series(
     buffer: &mut String,
 ) -> Result<(), Memory>
     requires kept { (globals : List LabelText) × HasRowsOf globals series.now rows.now }
-    requires named { IsNamedAt series.now name.now place }
     ensures { OnOk result ((globals : List LabelText) → AreShown globals moment series.now rows.now
         → string_bytes buffer.new ≡ string_bytes buffer.old ++ lines_at globals moment series.now name.now place) }
 {
-    let Some(head) = rows.heads.get(place) else {
+    let Some(labels) = rows.label_sets.get(place) else {
         return Ok(());
     };
     let Some(cell) = series.cell(place) else {
         return Ok(());
     };
-    push_cell(moment, name, head, cell, buffer)
+    push_cell(moment, name, labels, cell, buffer)
 }
 
-/// Appends the rows of a histogram, from its metric name and the text that begins with it. A refused call may leave a part of
-/// them.
+/// Appends the rows of a histogram, from the full name of its family and its label set. A refused call may leave a part of them.
 fn push_cell(
     moment: u64,
     name: &str,
-    head: &str,
+    labels: &str,
     cell: &HistogramCell,
     buffer: &mut String,
 ) -> Result<(), Memory>
-    requires head { (labels : List LabelText) × (head.now ≡ head_text name.now labels) }
-    ensures { OnOk result ((labels : List LabelText) → head.now ≡ head_text name.now labels → IsTimely moment cell.now
-        → string_bytes buffer.new ≡ string_bytes buffer.old ++ flat_map row_text (sampled_rows moment name.now labels cell.now)) }
+    requires labels { IsPrintedSet labels.now }
+    ensures { OnOk result ((set : List LabelText) → labels.now ≡ label_set_text set → IsTimely moment cell.now
+        → string_bytes buffer.new ≡ string_bytes buffer.old ++ flat_map row_text (sampled_rows moment name.now set cell.now)) }
 {
-    // The law is called for the proof. The labels stand behind the name, as they are printed.
+    // The law is called for the proof.
     distributions_show_samples();
-    let labels = &head[name.len()..];
     push_rows(buffer, name, labels, cell.distribution(), moment)
 }

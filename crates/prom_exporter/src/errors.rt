@@ -7,7 +7,7 @@ use metrics_core::{Failed, Memory};
 use thiserror::Error;
 
 /// A refusal of the exporter.
-#[derive(Clone, Copy, Debug, PartialEq, Eq, Error)]
+#[derive(Debug, Drop, PartialEq, Eq, Error)]
 pub enum BuildError {
     /// Bounds or quantiles were set of which there are none.
     #[error("bucket bounds/quantiles cannot be empty")]
@@ -18,6 +18,15 @@ pub enum BuildError {
     /// The buckets of a summary's window together are longer than 64 bits of nanoseconds.
     #[error("bucket durations exceed 64 bits of nanoseconds")]
     SpanTooLong,
+    /// The settings of a native histogram are refused, for this reason.
+    #[error("{0}")]
+    Native(&'static str),
+    /// A text, which is this one, writes no address and no network.
+    #[error("failed to parse address as a valid IP address/subnet: {0}")]
+    InvalidAllowlistAddress(String),
+    /// The listener failed.
+    #[error("failed to create HTTP listener")]
+    FailedToCreateHTTPListener,
     /// The sink failed.
     #[error("write failed")]
     WriteFault,

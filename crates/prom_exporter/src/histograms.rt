@@ -1,6 +1,6 @@
 //! What the exporter does with its histograms: it registers, lends and drains them.
 
-ghost use Rattle.std.specs.Prelude.{◌≡◌, ◌⊎◌, ℕ, [], IfOk, OnErr, OnOk, None, unwrap_or};
+ghost use Rattle.std.specs.Prelude.{◌≡◌, ◌⊎◌, [], IfOk, OnErr, OnOk, None, unwrap_or};
 ghost use Rattle.metrics_core.specs.declared.kinds.MetricKind.TheVariants.{Histogram};
 ghost use Rattle.distributions.specs.Recording.{StandsFor};
 ghost use Rattle.prom_format.specs.Names.{sanitized_metric_name};
@@ -10,7 +10,7 @@ ghost use Rattle.prom_exporter.specs.State.{register, number_given};
 ghost use Rattle.prom_exporter.specs.Stepped.{AreCounted, DrainsEach, DrainsInPart, DrainsWhole, IsCounted};
 ghost use Rattle.prom_exporter.specs.Families.{distribution_of};
 ghost use Rattle.prom_exporter.specs.Sampled.{unsampled};
-ghost use Rattle.prom_exporter.specs.Exporter.{state_of, AllHome, AreTimely, AddsHistogram, ChangesHistogram};
+ghost use Rattle.prom_exporter.specs.Exporter.{state_of, AllHome, AddsHistogram, ChangesHistogram};
 ghost use Rattle.prom_exporter.specs.Lending.{LendsHistogram, LentHistogram, HasNoHistogram};
 
 use crate::lent::Lent;
@@ -128,14 +128,11 @@ impl PrometheusState {
         }
     }
 
-    /// Drains all histograms, as a page does before it shows them, so that samples don't wait for one. Where memory is refused, the
-    /// samples that are not drained wait for the next call, in the same order.
-    pub fn run_upkeep<R: Wait>(&mut self, rt: &R, alloc: Global) -> Result<(), Memory>
+    /// Drains all histograms. Where memory is refused, the samples that are not drained wait for the next call, in the same
+    /// order.
+    pub(crate) fn drain_histograms<R: Wait>(&mut self, rt: &R, alloc: Global) -> Result<(), Memory>
         ensures drained { OnOk result (DrainsEach DrainsWhole self.old self.new) }
         ensures refused { OnErr result (DrainsEach DrainsInPart self.old self.new) }
-        ensures home { AllHome self.old → AllHome self.new }
-        ensures same { AllHome self.old → state_of self.new ≡ state_of self.old }
-        ensures timely { (t : ℕ) → AllHome self.old → AreTimely t self.old → AreTimely t self.new }
     {
         for place in 0..self.series.histogram_count() {
             self.series.histogram_at(place).drain(rt, alloc)?;

@@ -7,18 +7,23 @@
 //!     exporter.render_to_write(rt, alloc, moment, &mut sink)?;
 #![tactic(auto)]
 
+mod allowed;
 mod body;
 mod builder;
 mod cells;
+mod descriptions;
+mod destination;
 mod distribution_pages;
 mod errors;
-mod heads;
 mod histograms;
 mod indices;
+mod label_sets;
 mod lane_laws;
 mod lanes;
 mod laws;
 mod lent;
+mod naming;
+mod natives;
 mod pages;
 mod rows;
 mod sampled;
@@ -26,6 +31,7 @@ mod settings;
 mod state;
 
 pub use builder::PrometheusBuilder;
+pub use destination::ListenDestination;
 pub use errors::BuildError;
 pub use lane_laws::{
     a_round_leaves_the_calls_of_a_value, a_round_leaves_the_pushes_of_a_histogram,

@@ -9,7 +9,7 @@ ghost use Rattle.prom_exporter.specs.Rows.{family_kept, keys_of, rows_of};
 ghost use Rattle.prom_format.specs.Names.{sanitized_metric_name};
 ghost use Rattle.prom_exporter.specs.Values.{with_member};
 
-use crate::heads::Heads;
+use crate::label_sets::LabelSets;
 use indexmap::IndexMap;
 use metrics_core::{Key, Memory};
 use metrics_registry::SeriesIter;
@@ -17,11 +17,11 @@ use prom_format::{is_metric_name, sanitize_metric_name};
 use std::alloc::Global;
 use std::marker::Model;
 
-/// Of each series of a kind, in order of registration, the text that its rows begin with; and by metric name the places of
+/// Of each series of a kind, in order of registration, its printed label set; and by metric name the places of
 /// the series of each family.
 #[derive(Drop)]
 pub(crate) struct Rows {
-    pub(crate) heads: Heads,
+    pub(crate) label_sets: LabelSets,
     pub(crate) families: IndexMap<String, Vec<usize>>,
 }
 
@@ -31,16 +31,16 @@ impl Model for Rows {
 
     ghost Value = { RowsText };
 
-    ghost view = { λ rows. record { heads = rows.heads; families = map family_kept rows.families.entries } };
+    ghost view = { λ rows. record { label_sets = rows.label_sets; families = map family_kept rows.families.entries } };
 }
 
 impl Rows {
     /// Nothing, of no series.
     pub(crate) fn new(alloc: Global) -> Rows
-        ensures { result ≡ record { heads = []; families = [] } }
+        ensures { result ≡ record { label_sets = []; families = [] } }
     {
         Rows {
-            heads: Heads::new(alloc),
+            label_sets: LabelSets::new(alloc),
             families: IndexMap::new(alloc),
         }
     }
@@ -59,7 +59,7 @@ impl Rows {
         ensures all { OnOk result (self.new ≡ rows_of (labels_of globals.now.entries) (keys_of series.now)) }
         ensures first { KeepsFirst (labels_of globals.now.entries) series.now self.new }
     {
-        for place in self.heads.len()..count {
+        for place in self.label_sets.len()..count {
             if let Some(key) = series.key(place) {
                 self.add(alloc, key, globals)?;
             }
@@ -69,9 +69,9 @@ impl Rows {
 
     /// Lets all go.
     pub(crate) fn clear(&mut self)
-        ensures { self.new ≡ record { heads = []; families = [] } }
+        ensures { self.new ≡ record { label_sets = []; families = [] } }
     {
-        self.heads.clear();
+        self.label_sets.clear();
         self.families.clear();
     }
 
@@ -86,10 +86,10 @@ impl Rows {
             → self.new ≡ rows_of (labels_of globals.now.entries) (keys ++ key.now ∷ [])) }
         ensures refused { OnErr result (self.new ≡ self.old) }
     {
-        let place = self.heads.len();
-        self.heads.push(key, globals)?;
+        let place = self.label_sets.len();
+        self.label_sets.push(key, globals)?;
         if let Err(refused) = add_place(alloc, &mut self.families, key.name(), place) {
-            self.heads.truncate(place);
+            self.label_sets.truncate(place);
             return Err(refused);
         }
         Ok(())

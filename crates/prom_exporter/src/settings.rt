@@ -1,6 +1,6 @@
 //! What an exporter is built with, but for its global labels, and the rules for its distributions that follow.
 
-ghost use Rattle.std.specs.Prelude.{◌≡◌, ◌<◌, ◌↔◌, ◌++◌, ◌∷◌, [], ℕ, List, Option, length, map, true, IfOk, IsOk, OnOk, OnErr, IsTrue, Err, unwrap_or};
+ghost use Rattle.std.specs.Prelude.{◌≡◌, ◌<◌, ◌↔◌, ◌++◌, ◌∷◌, [], ℕ, List, Option, length, map, option_copied, IfOk, IsOk, OnOk, OnErr, IsTrue, Err, unwrap_or};
 ghost use Rattle.std.specs.Int.NonZero.{non_zero_u32_get};
 ghost use Rattle.metrics_registry.specs.Masks.{idle_of};
 ghost use Rattle.metrics_registry.specs.Quantiles.{clamped};
@@ -8,13 +8,15 @@ ghost use Rattle.metrics_registry.specs.Recency.{note_left};
 ghost use Rattle.prom_format.specs.Matchers.{sanitized_matcher};
 ghost use Rattle.prom_format.specs.MatcherTexts.{matcher_text};
 ghost use Rattle.distributions.specs.Kinds.{kind_for};
+ghost use Rattle.distributions.specs.Rules.{rules_of};
 ghost use Rattle.prom_exporter.specs.Builder.{billionths_of, rule_text, SpanIsTooLong};
-ghost use Rattle.prom_exporter.specs.Families.{distribution_of};
+ghost use Rattle.prom_exporter.specs.Families.{counter_suffix, distribution_of};
 
 use crate::BuildError;
 use distributions::DistributionBuilder;
 use metrics_core::{Fixed, Memory, MetricKind};
 use metrics_registry::{MetricKindMask, Quantile, Recency};
+use native_histograms::NativeHistogramConfig;
 use prom_format::Matcher;
 use std::alloc::Global;
 use std::marker::Model;
@@ -40,14 +42,17 @@ pub(crate) struct Settings {
     quantiles: Vec<Fixed>,
     buckets: Option<Vec<Fixed>>,
     buckets_for: Vec<(Matcher, Vec<Fixed>)>,
+    native_for: Vec<(Matcher, NativeHistogramConfig)>,
     bucket_count: NonZeroU32,
     bucket_duration: u64,
     mask: MetricKindMask,
     idle_timeout: Option<u64>,
+    units: bool,
+    total_suffix: bool,
 }
 
 impl Model for Settings {
-    ghost use Rattle.std.specs.Prelude.{◌<◌, ◌≡◌, [], true, false, option_map, IfSome};
+    ghost use Rattle.std.specs.Prelude.{◌<◌, ◌≡◌, [], true, option_map, IfSome};
     ghost use Rattle.std.specs.Int.NonZero.{non_zero_u32_get};
     ghost use Rattle.metrics_registry.specs.Masks.{idle_of};
     ghost use Rattle.distributions.specs.Builders.{bounds_of, has_bound, all_have_bounds};
@@ -61,12 +66,12 @@ impl Model for Settings {
       quantiles = billionths_of s.quantiles.items;
       buckets = option_map bounds_of s.buckets;
       buckets_for = saying bounds_of (rules_of s.buckets_for.items);
-      native_for = [];
+      native_for = rules_of s.native_for.items;
       bucket_count = non_zero_u32_get s.bucket_count;
       bucket_duration = s.bucket_duration;
       idle = idle_of s.mask s.idle_timeout;
-      units = false;
-      total_suffix = false;
+      units = s.units;
+      total_suffix = s.total_suffix;
       globals = [];
     } };
 
@@ -84,10 +89,13 @@ impl Settings {
             quantiles: Vec::from_array(alloc, DEFAULT_QUANTILES)?,
             buckets: None,
             buckets_for: Vec::new(alloc),
+            native_for: Vec::new(alloc),
             bucket_count: NonZeroU32::MIN.saturating_add(2),
             bucket_duration: DEFAULT_BUCKET_DURATION,
             mask: MetricKindMask::NONE,
             idle_timeout: None,
+            units: false,
+            total_suffix: false,
         })
     }
 
@@ -135,6 +143,21 @@ impl Settings {
         }
     }
 
+    /// Makes the series whose names a matcher fits native histograms. The matcher is sanitized first. Of equal matchers the
+    /// last counts.
+    pub(crate) fn set_native_for(
+        &mut self,
+        alloc: Global,
+        matcher: Matcher,
+        config: NativeHistogramConfig,
+    ) -> Result<(), Memory>
+        ensures { OnOk result (self.new ≡ record self.old { native_for = self.old.native_for ++ (sanitized_matcher (matcher_text matcher), config) ∷ [] }) }
+    {
+        let matcher = matcher.sanitized(alloc)?;
+        self.native_for.push((matcher, config))?;
+        Ok(())
+    }
+
     /// Sets how long a bucket of a summary's window lasts, in nanoseconds.
     pub(crate) fn set_bucket_duration(&mut self, duration: u64) -> Result<(), BuildError>
         ensures set { OnOk result (self.new ≡ record self.old { bucket_duration = duration }) }
@@ -161,6 +184,39 @@ impl Settings {
     {
         self.mask = mask;
         self.idle_timeout = timeout;
+    }
+
+    /// Sets whether names end with units, and whether those of counters end with `total`.
+    pub(crate) fn set_suffixes(&mut self, units: bool, total_suffix: bool)
+        ensures { self.new ≡ record self.old { units = units; total_suffix = total_suffix } }
+    {
+        self.units = units;
+        self.total_suffix = total_suffix;
+    }
+
+    /// Whether names end with the units of their descriptions.
+    pub(crate) fn units(&self) -> bool
+        ensures { result ≡ self.now.units }
+    {
+        self.units
+    }
+
+    /// Whether the names of counters end with `total`.
+    pub(crate) fn total_suffix(&self) -> bool
+        ensures { result ≡ self.now.total_suffix }
+    {
+        self.total_suffix
+    }
+
+    /// What the names of counters end with.
+    pub(crate) fn counter_suffix(&self) -> Option<&'static str>
+        ensures { option_copied result ≡ counter_suffix self.now }
+    {
+        if self.total_suffix {
+            Some("total")
+        } else {
+            None
+        }
     }
 
     /// The rule by which series of a kind fall idle; none where series of this kind never do, and their updates need not be
@@ -202,7 +258,7 @@ impl Settings {
             buckets,
             Some(self.bucket_count),
             copied_rules(alloc, self.buckets_for.as_slice())?,
-            Vec::new(alloc),
+            copied_native_rules(alloc, self.native_for.as_slice())?,
         )
     }
 }
@@ -244,6 +300,20 @@ fn copied_rules(
     for (matcher, bounds) in rules {
         let bounds = Vec::from_slice(alloc, bounds.as_slice())?;
         copied.push((copied_matcher(matcher)?, bounds))?;
+    }
+    Ok(copied)
+}
+
+/// A copy of rules on native histograms.
+fn copied_native_rules(
+    alloc: Global,
+    rules: &[(Matcher, NativeHistogramConfig)],
+) -> Result<Vec<(Matcher, NativeHistogramConfig)>, Memory>
+    ensures { IfOk result (λ copied. rules_of copied.items ≡ rules_of rules.now) }
+{
+    let mut copied = Vec::new(alloc);
+    for (matcher, config) in rules {
+        copied.push((copied_matcher(matcher)?, *config))?;
     }
     Ok(copied)
 }

@@ -5,10 +5,10 @@ ghost use Rattle.metrics_core.specs.declared.kinds.MetricKind.TheVariants.{Count
 ghost use Rattle.metrics_core.specs.Outside.{Rose, GrewBy, GrewByPrefix};
 ghost use Rattle.prom_format.specs.LabelSets.{labels_of};
 ghost use Rattle.series_cells.specs.Pass.{view_of};
+ghost use Rattle.metric_descriptions.specs.Descriptions.{nothing_described};
 ghost use Rattle.prom_exporter.specs.State.{register, number_given, page_step};
 ghost use Rattle.prom_exporter.specs.Shared.{TakesBack};
 ghost use Rattle.prom_exporter.specs.Builder.{with_globals, SpanIsTooLong};
-ghost use Rattle.prom_exporter.specs.Kept.{NamesAsTheyAre};
 ghost use Rattle.prom_exporter.specs.Stepped.{IsNoted, AreNoted, Steps, DrainsEach, DrainsInPart};
 ghost use Rattle.prom_exporter.specs.Exporter.{Exporter, state_of, no_cells, AllHome, AddsCounter, AddsGauge, AreTimely, ChangesCounter, ChangesGauge, page_body, shown_body};
 ghost use Rattle.prom_exporter.specs.Lending.{LendsCounter, LendsGauge, LentCounter, LentGauge, HasNoCounter, HasNoGauge};
@@ -21,6 +21,7 @@ use crate::sampled::HistogramCell;
 use crate::settings::Settings;
 use distributions::DistributionBuilder;
 use indexmap::IndexMap;
+use metric_descriptions::Descriptions;
 use metrics_core::{Key, Memory, MetricKind, SeriesId, Sink};
 use metrics_facade as facade;
 use metrics_registry::Registry;
@@ -29,9 +30,9 @@ use std::alloc::Global;
 use std::marker::Model;
 use std::sync::Wait;
 
-/// The exporter: what it was built with, and its series. Each counter and each gauge is a cell that threads share, and each
-/// histogram a queue; the exporter has the root pass of each, lends passes of it and takes them back.
-#[derive(Drop)]
+/// The exporter: what it was built with, its series, and what is said of metrics. Each counter and each gauge is a cell that threads
+/// share, and each histogram a queue; the exporter has the root pass of each, lends passes of it and takes them back. It can't be let
+/// go: end it by `end`.
 pub struct PrometheusState {
     pub(crate) globals: IndexMap<String, String>,
     pub(crate) settings: Settings,
@@ -40,6 +41,7 @@ pub struct PrometheusState {
     pub(crate) counter_rows: Rows,
     pub(crate) gauge_rows: Rows,
     pub(crate) histogram_rows: Rows,
+    pub(crate) descriptions: Descriptions,
 }
 
 impl Model for PrometheusState {
@@ -49,7 +51,7 @@ impl Model for PrometheusState {
 
     ghost Value = { Exporter };
 
-    ghost view = { λ s. record { settings = with_globals s.settings (labels_of s.globals.entries); series = s.series } };
+    ghost view = { λ s. record { settings = with_globals s.settings (labels_of s.globals.entries); series = s.series; said = s.descriptions } };
 
     ghost use Rattle.prom_exporter.specs.Kept.{IsKept};
 
@@ -64,18 +66,19 @@ impl PrometheusState {
         settings: Settings,
     ) -> Result<PrometheusState, Memory>
         requires span { SpanIsTooLong settings → ⊥ }
-        requires names { NamesAsTheyAre settings }
-        ensures made { IfOk result (λ exporter. exporter ≡ record { settings = with_globals settings (labels_of globals.entries); series = no_cells }) }
+        ensures made { IfOk result (λ exporter. exporter ≡ record { settings = with_globals settings (labels_of globals.entries); series = no_cells; said = nothing_described }) }
     {
         let distributions = settings.distributions(alloc)?;
+        let series = Registry::new(alloc)?;
         Ok(PrometheusState {
             globals,
             settings,
             distributions,
-            series: Registry::new(alloc)?,
+            series,
             counter_rows: Rows::new(alloc),
             gauge_rows: Rows::new(alloc),
             histogram_rows: Rows::new(alloc),
+            descriptions: Descriptions::new(),
         })
     }
 
@@ -84,8 +87,8 @@ impl PrometheusState {
         ensures same { self.new ≡ self.old }
     {
         self.series.reserve(counters, gauges)?;
-        self.counter_rows.heads.reserve(counters)?;
-        self.gauge_rows.heads.reserve(gauges)
+        self.counter_rows.label_sets.reserve(counters)?;
+        self.gauge_rows.label_sets.reserve(gauges)
     }
 
     /// Registers a counter. Where one with an equal key is live its id is given, and nothing changes; otherwise a new
@@ -247,7 +250,7 @@ impl PrometheusState {
         }
     }
 
-    /// Makes the page step at a moment, in nanoseconds: drains the histograms, reads the other series, notes how many updates those
+    /// Makes the page step at a moment, in nanoseconds: drains the histograms, publishes what is said of metrics, reads the other series, notes how many updates those
     /// have that may fall idle, and removes those that are idle. Where memory is refused histograms were drained in part, and nothing
     /// else was done.
     fn step<R: Wait>(&mut self, rt: &R, alloc: Global, moment: u64) -> Result<(), Memory>
@@ -296,7 +299,7 @@ impl PrometheusState {
     }
 
     /// Makes the page step at a moment, in nanoseconds, and writes the page's body (Prometheus text exposition format, version
-    /// 0.0.4). It shows each series that stays after a beginning of its cell's history that has all that the exporter had seen, and of
+    /// 0.0.4). Descriptions that wait are published first. It shows each series that stays after a beginning of its cell's history that has all that the exporter had seen, and of
     /// a histogram the samples that are recorded; where no pass is out, after all calls ever made. Where an idle timeout is set, a
     /// series without an update for longer goes, and passes of it that are out reach nothing of the exporter any more.
     ///

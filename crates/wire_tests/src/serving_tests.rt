@@ -38,10 +38,12 @@ fn answer_all<R: Net<Listener = TcpListener, Stream = TcpStream> + Wait>(
     count: u32,
 ) -> Result<Result<Served, ServeError>, Fail> {
     let mut state = PrometheusBuilder::new(alloc)?.build_state(alloc)?;
-    match Network::from_text("127.0.0.0/8") {
-        Some(network) => Ok(serve(rt, alloc, Some(&[network]), &mut state, 0, listener, count)),
-        None => Ok(Err(ServeError::Memory)),
-    }
+    let served = match Network::from_text("127.0.0.0/8") {
+        Some(network) => serve(rt, alloc, Some(&[network]), &mut state, 0, listener, count),
+        None => Err(ServeError::Memory),
+    };
+    state.end(rt);
+    Ok(served)
 }
 
 /// Whether the connection that was given back last took this and was answered so.

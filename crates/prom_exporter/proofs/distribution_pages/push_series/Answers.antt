@@ -10,9 +10,9 @@ pub push_cell-requires : goal.push_cell-requires
 push_cell-requires c =
     let rows = c.args.rows.now in
     let place = c.args.place in
-    let at : slice_get rows.heads place ≡ Some c.in-Some.head.now = ap (λ (r : RowsText). slice_get r.heads place) (sym c.rows.view_is) ∙ sym c.in-Some.ensures in
-    let found = found-at c.requires.kept.0 c.args.series.now rows c.args.name.now place c.in-Some.head.now c.in-Some-cell.cell.now c.requires.kept.1 at c.in-Some-cell.ensures c.requires.named in
-    record { head = (shown_label_set c.requires.kept.0 found.series.key.labels, found.head_is) }
+    let at : slice_get rows.label_sets place ≡ Some c.in-Some.labels.now = ap (λ (r : RowsText). slice_get r.label_sets place) (sym c.rows.view_is) ∙ sym c.in-Some.ensures in
+    let found = found-at c.requires.kept.0 c.args.series.now rows place c.in-Some.labels.now c.in-Some-cell.cell.now c.requires.kept.1 at c.in-Some-cell.ensures in
+    record { labels = (shown_label_set c.requires.kept.0 found.series.key.labels, found.labels_are) }
 
 pub returns : goal.returns
 returns c =
@@ -20,12 +20,12 @@ returns c =
     let live = c.args.series.now in
     let name = c.args.name.now in
     let place = c.args.place in
-    let head = c.in-Some.head.now in
+    let labels = c.in-Some.labels.now in
     let cell = c.in-Some-cell.cell.now in
-    let at : slice_get rows.heads place ≡ Some head = ap (λ (r : RowsText). slice_get r.heads place) (sym c.rows.view_is) ∙ sym c.in-Some.ensures in
+    let at : slice_get rows.label_sets place ≡ Some labels = ap (λ (r : RowsText). slice_get r.label_sets place) (sym c.rows.view_is) ∙ sym c.in-Some.ensures in
     on_ok_weaker c.push_cell.result
     (λ is globals shown.
-    (let found = found-at globals live rows name place head cell shown.kept at c.in-Some-cell.ensures c.requires.named in
-    is (shown_label_set globals found.series.key.labels) found.head_is (found-timely globals c.args.moment live name place head cell found shown.timely)
-    ∙ ap (λ l. string_bytes c.args.buffer.now ++ l) (found-lines globals c.args.moment live name place head cell found)))
+    (let found = found-at globals live rows place labels cell shown.kept at c.in-Some-cell.ensures in
+    is (shown_label_set globals found.series.key.labels) found.labels_are (found-timely globals c.args.moment live place labels cell found shown.timely)
+    ∙ ap (λ l. string_bytes c.args.buffer.now ++ l) (found-lines globals c.args.moment live name place labels cell found)))
     c.push_cell.ensures

@@ -12,6 +12,6 @@ use Rattle.prom_exporter.proofs.distribution_pages.write_distributions.Given as 
 abbrev pub invariant-loop-name : goal.invariant-loop-name
 invariant-loop-name g l = record {
   sent : (globals : List LabelText) → AreShown globals l.moment l.series l.rows
-      → SendsMore (g.K.Sink.written l.initial.sink) (g.K.Sink.written l.sink) (string_bytes l.initial.buffer) (string_bytes l.buffer) (blocks (sampled_block globals l.moment l.series l.distributions) family_kept (map deref_pair l.yielded));
+      → SendsMore (g.K.Sink.written l.initial.sink) (g.K.Sink.written l.sink) (string_bytes l.initial.buffer) (string_bytes l.buffer) (blocks (sampled_block l.naming globals l.moment l.series l.distributions) family_kept (map deref_pair l.yielded));
   never_falls : g.K.Sink.faults l.initial.sink ≤ g.K.Sink.faults l.sink;
 }

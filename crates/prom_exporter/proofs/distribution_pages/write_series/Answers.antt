@@ -1,19 +1,15 @@
 use Rattle.std.proofs.Common.{◌+◌, [], ℕ, List, take, drop, get_or, sym, ap, subst, arith}
 use Rattle.std.specs.Prelude.{flat_map, string_bytes}
 use Rattle.std.proofs.lemmas.List.{take_all}
-use Rattle.std.proofs.lemmas.List.Elements.{All-get_or}
 use Rattle.std.proofs.lemmas.Result.{err_from_is_err_and}
 use Rattle.metrics_core.specs.Keys.{LabelText}
-use Rattle.prom_exporter.specs.SampledRows.{lines_at, IsNamedAt, AreShown}
+use Rattle.prom_exporter.specs.SampledRows.{lines_at, AreShown}
 use Rattle.prom_exporter.specs.Sending.{SendsMore, SendsPrefix}
 use Rattle.prom_exporter.proofs.Progress.{sends_grown, sends_behind, sends_stopped, sends_prefix_more}
 use Rattle.prom_exporter.proofs.Written.{rows-more, rows-rest}
 use Rattle.prom_exporter.proofs.distribution_pages.write_series.Goals as goal
 use Rattle.prom_exporter.proofs.distribution_pages.write_series.Given.{Over}
 use Rattle.prom_exporter.proofs.distribution_pages.write_series.Goals.{In_ok-push_series}
-
-pub push_series-requires-clause-named : goal.push_series-requires-clause-named
-push_series-requires-clause-named g c = All-get_or (IsNamedAt c.args.series.now c.args.name.now) c.args.places.now c.loop-place.place-index 0 (omega arith) c.requires.named
 
 -- the rows of one more series wait
 pushed : (g : Over) (c : In_ok-push_series g) (globals : List LabelText) → AreShown globals c.args.moment c.args.series.now c.args.rows.now

@@ -11,14 +11,15 @@ unfolding encode_utf8
 returns g c =
     let shown = g.C.Shown.shown in
     let buffer = string_bytes c.args.buffer.now in
-    let head = c.in-Some.head.now in
+    let name = c.args.name.now in
+    let labels = c.in-Some.labels.now in
     let number = page_number (shown c.in-Some-cell.cell.now) in
     let live = c.args.series.now in
-    let at : slice_get c.args.rows.now.heads c.args.place ≡ Some head = ap (λ (r : RowsText). slice_get r.heads c.args.place) (sym c.rows.view_is) ∙ sym c.in-Some.ensures in
-    let text : string_bytes c.push-2.new.self ≡ (((buffer ++ head) ++ 32 ∷ []) ++ number) ++ 10 ∷ [] =
+    let at : slice_get c.args.rows.now.label_sets c.args.place ≡ Some labels = ap (λ (r : RowsText). slice_get r.label_sets c.args.place) (sym c.rows.view_is) ∙ sym c.in-Some.ensures in
+    let text : string_bytes c.push-2.new.self ≡ ((((buffer ++ name) ++ labels) ++ 32 ∷ []) ++ number) ++ 10 ∷ [] =
     c.in_ok-push-2.ensures.bytes
     ∙ ap (λ l. l ++ 10 ∷ [])
     (c.in_ok-push_value.ensures
-    ∙ ap (λ l. l ++ number) (c.in_ok-push.ensures.bytes ∙ ap (λ l. l ++ 32 ∷ []) c.in_ok-push_str.ensures.bytes)) in
-    text ∙ row_pushed buffer head (32 ∷ []) number (10 ∷ [])
-    ∙ ap (λ l. buffer ++ l) (sym (row_at-found shown c.args.rows.now.heads live c.args.place head c.in-Some-cell.cell.now at c.in-Some-cell.ensures))
+    ∙ ap (λ l. l ++ number) (c.in_ok-push.ensures.bytes ∙ ap (λ l. l ++ 32 ∷ []) (c.in_ok-push_str-2.ensures.bytes ∙ ap (λ l. l ++ labels) c.in_ok-push_str.ensures.bytes))) in
+    text ∙ row_pushed buffer name labels (32 ∷ []) number (10 ∷ [])
+    ∙ ap (λ l. buffer ++ l) (sym (row_at-found shown name c.args.rows.now.label_sets live c.args.place labels c.in-Some-cell.cell.now at c.in-Some-cell.ensures))

@@ -8,6 +8,6 @@ use Rattle.prom_exporter.proofs.pages.write_rows.Given as goal
 abbrev pub invariant-loop-place : goal.invariant-loop-place
 invariant-loop-place g l = record {
   sent : (start : Option (List ℕ)) (bytes : List ℕ) → IsSent start (g.K.Sink.written l.initial.sink) (string_bytes l.initial.buffer) bytes
-      → IsSent start (g.K.Sink.written l.sink) (string_bytes l.buffer) (bytes ++ flat_map (row_at g.C.Shown.shown l.rows.heads l.series) (take l.place-index l.places));
+      → IsSent start (g.K.Sink.written l.sink) (string_bytes l.buffer) (bytes ++ flat_map (row_at g.C.Shown.shown l.name l.rows.label_sets l.series) (take l.place-index l.places));
   never_falls : g.K.Sink.faults l.initial.sink ≤ g.K.Sink.faults l.sink;
 }

@@ -2,7 +2,7 @@ use Rattle.std.proofs.Common.{◌≡◌, [], ◌∷◌, ◌++◌, map, length, s
 use Rattle.std.proofs.lemmas.List.{length-map}
 use Rattle.prom_format.specs.LabelSets.{labels_of}
 use Rattle.prom_format.specs.Names.{sanitized_metric_name}
-use Rattle.prom_exporter.specs.Rows.{RowsText, head_of}
+use Rattle.prom_exporter.specs.Rows.{RowsText, label_set_of}
 use Rattle.prom_exporter.specs.Values.{with_member}
 use Rattle.prom_exporter.proofs.KeptRows.{rows-push}
 use Rattle.prom_exporter.proofs.rows.Rows.add.Goals as goal
@@ -12,11 +12,11 @@ returns-clause-added c keys is =
     let globals = labels_of c.args.globals.now.entries in
     let key = c.args.key.now in
     let kept = c.self.view_is ∙ is in
-    let heads = ap (λ (r : RowsText). r.heads) kept in
+    let label_sets = ap (λ (r : RowsText). r.label_sets) kept in
     let families = ap (λ (r : RowsText). r.families) kept in
-    let place : c.len-place.result ≡ length keys = c.len-place.ensures ∙ ap length heads ∙ length-map keys (head_of globals) in
-    let head_more : c.push.new.self ≡ map (head_of globals) keys ++ head_of globals key ∷ [] =
-    c.in_ok-push.ensures.pushed ∙ ap (λ l. l ++ head_of globals key ∷ []) heads in
+    let place : c.len-place.result ≡ length keys = c.len-place.ensures ∙ ap length label_sets ∙ length-map keys (label_set_of globals) in
+    let head_more : c.push.new.self ≡ map (label_set_of globals) keys ++ label_set_of globals key ∷ [] =
+    c.in_ok-push.ensures.pushed ∙ ap (λ l. l ++ label_set_of globals key ∷ []) label_sets in
     let name = ap sanitized_metric_name c.name.ensures.text in
     let family_more = c.in_default.ensures.added ∙ (λ j. with_member (families j) (name j) (place j)) in
-    (λ j. record { heads = head_more j; families = family_more j }) ∙ sym (rows-push globals keys key)
+    (λ j. record { label_sets = head_more j; families = family_more j }) ∙ sym (rows-push globals keys key)

@@ -7,5 +7,5 @@ use Rattle.prom_exporter.proofs.rows.Rows.catch_up.Given as goal
 abbrev pub invariant-loop-place : goal.invariant-loop-place
 invariant-loop-place g l = record {
   first : KeepsFirst (labels_of l.globals.entries) l.series l.self;
-  many : length l.self.heads ≡ l.place;
+  many : length l.self.label_sets ≡ l.place;
 }

@@ -14,7 +14,7 @@ returns-in_err-cell-clause-refused c =
     let series = c.self.inside.series in
     let numbered = c.in-Some.ensures.numbered in
     rw refusal.1 (
-    ap (λ es. record { settings = with_globals c.self.inside.settings (labels_of c.self.inside.globals.entries); series = record series { counters = es } })
+    ap (λ es. record { settings = with_globals c.self.inside.settings (labels_of c.self.inside.globals.entries); series = record series { counters = es }; said = c.self.inside.descriptions })
     (ap (λ cell. with_cell c.args.id series.counters cell) c.in_err-cell.ensures.refused
     ∙ kept c.args.id series.counters series.made c.in-Some.counter.now numbered.counters.0 (of_counters c.args.id c.in-Some.counter.now series.counters series.made numbered.counters.1 (sym c.in-Some.ensures.value)) (sym c.in-Some.ensures.value))
     ∙ c.self.view_is)

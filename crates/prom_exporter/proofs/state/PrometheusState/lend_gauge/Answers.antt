@@ -14,7 +14,7 @@ returns-in_err-cell-clause-refused c =
     let series = c.self.inside.series in
     let numbered = c.in-Some.ensures.numbered in
     rw refusal.1 (
-    ap (λ es. record { settings = with_globals c.self.inside.settings (labels_of c.self.inside.globals.entries); series = record series { gauges = es } })
+    ap (λ es. record { settings = with_globals c.self.inside.settings (labels_of c.self.inside.globals.entries); series = record series { gauges = es }; said = c.self.inside.descriptions })
     (ap (λ cell. with_cell c.args.id series.gauges cell) c.in_err-cell.ensures.refused
     ∙ kept c.args.id series.gauges series.made c.in-Some.gauge.now numbered.gauges.0 (of_gauges c.args.id c.in-Some.gauge.now series.gauges series.made numbered.gauges.1 (sym c.in-Some.ensures.value)) (sym c.in-Some.ensures.value))
     ∙ c.self.view_is)

@@ -15,7 +15,7 @@ returns-in_err-queue-clause-refused c =
     let series = c.self.inside.series in
     let numbered = c.in-Some.ensures.numbered in
     rw refusal.1 (
-    ap (λ es. record { settings = with_globals c.self.inside.settings (labels_of c.self.inside.globals.entries); series = record series { histograms = es } })
+    ap (λ es. record { settings = with_globals c.self.inside.settings (labels_of c.self.inside.globals.entries); series = record series { histograms = es }; said = c.self.inside.descriptions })
     (ap (λ cell. with_cell c.args.id series.histograms cell) c.in_err-queue.ensures.refused
     ∙ kept c.args.id series.histograms series.made c.in-Some.histogram.now numbered.histograms.0 (of_histograms c.args.id c.in-Some.histogram.now series.histograms series.made numbered.histograms.1 (sym c.in-Some.ensures.value)) (sym c.in-Some.ensures.value))
     ∙ c.self.view_is)

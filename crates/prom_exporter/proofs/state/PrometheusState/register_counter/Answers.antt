@@ -3,17 +3,17 @@ use Rattle.std.specs.Prelude.{OnOk}
 use Rattle.metrics_core.specs.Keys.{KeyText}
 use Rattle.metrics_core.specs.declared.kinds.MetricKind.TheVariants.{Counter}
 use Rattle.prom_exporter.specs.Exporter.{AddsCounter}
-use Rattle.prom_exporter.specs.Values.{seen_registry}
+use Rattle.prom_exporter.specs.Values.{seen_registry, state_seen}
 use Rattle.prom_exporter.specs.Sampled.{calls_known}
 use Rattle.prom_exporter.proofs.Seen.{id_of_key-seen, is_numbered-seen}
-use Rattle.prom_exporter.proofs.States.{register-live, id-live}
+use Rattle.prom_exporter.proofs.States.{register-live, id-live, registered_said}
 use Rattle.prom_exporter.proofs.state.PrometheusState.register_counter.Goals as goal
 
 pub returns-in-Some-clause-registered : goal.returns-in-Some-clause-registered
 returns-in-Some-clause-registered c =
     let series = c.self.inside.series in
     let found = id_of_key-seen c.args.key.now series.counters ∙ sym c.in-Some.ensures in
-    rw (← c.self.view_is) (sym (register-live Counter c.args.key.now (seen_registry calls_known series) c.in-Some.id found))
+    rw (← c.self.view_is) (registered_said Counter c.args.key.now c.self.inside.descriptions (state_seen series) (state_seen series) (sym (register-live Counter c.args.key.now (seen_registry calls_known series) c.in-Some.id found)))
 
 pub returns-in-Some-clause-id : goal.returns-in-Some-clause-id
 returns-in-Some-clause-id c =

@@ -12,14 +12,14 @@ use Rattle.prom_exporter.proofs.Home.{adds_histogram-home, histogram_added}
 use Rattle.prom_exporter.specs.Values.{series_of, sampled_series, seen_registry, state_seen}
 use Rattle.prom_exporter.specs.Sampled.{Sampled, calls_known, unsampled}
 use Rattle.prom_exporter.proofs.Seen.{id_of_key-sampled, is_numbered-seen}
-use Rattle.prom_exporter.proofs.States.{register-live, id-live, number-new, register-new}
+use Rattle.prom_exporter.proofs.States.{register-live, id-live, number-new, register-new, registered_said}
 use Rattle.prom_exporter.proofs.state.PrometheusState.register_owned_histogram.Goals as goal
 
 pub returns-in-Some-clause-registered : goal.returns-in-Some-clause-registered
 returns-in-Some-clause-registered c =
     let series = c.self.inside.series in
     let found = id_of_key-sampled calls_known c.args.key series.histograms ∙ sym c.in-Some.ensures in
-    rw (← c.self.view_is) (sym (register-live Histogram c.args.key (seen_registry calls_known series) c.in-Some.id found))
+    rw (← c.self.view_is) (registered_said Histogram c.args.key c.self.inside.descriptions (state_seen series) (state_seen series) (sym (register-live Histogram c.args.key (seen_registry calls_known series) c.in-Some.id found)))
 
 pub returns-in-Some-clause-id : goal.returns-in-Some-clause-id
 returns-in-Some-clause-id c =
@@ -40,12 +40,12 @@ returns-clause-registered c =
     let none = id_of_key-sampled calls_known key series.histograms ∙ sym c.in_default.ensures in
     let kind : DistributionKind = distribution_of (with_globals c.self.inside.settings (labels_of c.self.inside.globals.entries)) (sanitized_metric_name key.name) in
     let new : LiveSeries Sampled = record { id = record { kind = Histogram; number = series.made }; key = key; cell = unsampled kind c.in_ok-cell.cell.series.cell } in
-    let fresh = made_by c.args.self.now (with_globals c.self.inside.settings (labels_of c.self.inside.globals.entries)) c.self.inside.series c.in_ok-cell.cell (sanitized_metric_name c.args.key.name) c.self.view_is c.in_ok-cell.ensures in
+    let fresh = made_by c.args.self.now (with_globals c.self.inside.settings (labels_of c.self.inside.globals.entries)) c.self.inside.series c.self.inside.descriptions c.in_ok-cell.cell (sanitized_metric_name c.args.key.name) c.self.view_is c.in_ok-cell.ensures in
     let grown : state_seen c.add_histogram.new.self ≡ state_seen (record series { histograms = series.histograms ++ new ∷ []; made = series.made + 1 }) =
     ap state_seen (c.in-Ok.ensures.added ∙ (λ j. record series { histograms = series.histograms ++ record { id = c.in-Ok.ensures.id j; key = key; cell = fresh j } ∷ []; made = series.made + 1 })) in
     let pushed = ap (λ l. record (state_seen series) { histograms = l; made = series.made + 1 }) (ap (map series_of) (map_push (sampled_series calls_known) series.histograms new) ∙ map_push series_of (map (sampled_series calls_known) series.histograms) (sampled_series calls_known new)) in
     let room = register-new Histogram key (seen_registry calls_known series) none (λ full. c.if-number.false (c.made-number.ensures.made ∙ full)) in
-    rw (← c.self.view_is) (grown ∙ pushed ∙ sym room)
+    rw (← c.self.view_is) (registered_said Histogram key c.self.inside.descriptions (state_seen series) (state_seen c.add_histogram.new.self) (grown ∙ pushed ∙ sym room))
 
 pub returns-clause-id : goal.returns-clause-id
 returns-clause-id c =
@@ -54,10 +54,10 @@ returns-clause-id c =
     rw (← c.self.view_is) (c.in-Ok.ensures.id ∙ ap (λ n. record { kind = Histogram; number = n }) (sym (number-new Histogram c.args.key (seen_registry calls_known series) none)))
 
 pub returns-clause-cells : goal.returns-clause-cells
-returns-clause-cells c = inr (histogram_added c.args.self.now (with_globals c.self.inside.settings (labels_of c.self.inside.globals.entries)) c.self.inside.series c.add_histogram.new.self c.args.key c.args.key c.in-Ok.id c.in_ok-cell.cell c.self.view_is c.in-Ok.ensures.added c.in-Ok.ensures.id refl (made_by c.args.self.now (with_globals c.self.inside.settings (labels_of c.self.inside.globals.entries)) c.self.inside.series c.in_ok-cell.cell (sanitized_metric_name c.args.key.name) c.self.view_is c.in_ok-cell.ensures))
+returns-clause-cells c = inr (histogram_added c.args.self.now (with_globals c.self.inside.settings (labels_of c.self.inside.globals.entries)) c.self.inside.series c.self.inside.descriptions c.add_histogram.new.self c.args.key c.args.key c.in-Ok.id c.in_ok-cell.cell c.self.view_is c.in-Ok.ensures.added c.in-Ok.ensures.id refl (made_by c.args.self.now (with_globals c.self.inside.settings (labels_of c.self.inside.globals.entries)) c.self.inside.series c.self.inside.descriptions c.in_ok-cell.cell (sanitized_metric_name c.args.key.name) c.self.view_is c.in_ok-cell.ensures))
 
 pub returns-clause-home : goal.returns-clause-home
-returns-clause-home c = adds_histogram-home c.args.key c.args.self.now _ (histogram_added c.args.self.now (with_globals c.self.inside.settings (labels_of c.self.inside.globals.entries)) c.self.inside.series c.add_histogram.new.self c.args.key c.args.key c.in-Ok.id c.in_ok-cell.cell c.self.view_is c.in-Ok.ensures.added c.in-Ok.ensures.id refl (made_by c.args.self.now (with_globals c.self.inside.settings (labels_of c.self.inside.globals.entries)) c.self.inside.series c.in_ok-cell.cell (sanitized_metric_name c.args.key.name) c.self.view_is c.in_ok-cell.ensures))
+returns-clause-home c = adds_histogram-home c.args.key c.args.self.now _ (histogram_added c.args.self.now (with_globals c.self.inside.settings (labels_of c.self.inside.globals.entries)) c.self.inside.series c.self.inside.descriptions c.add_histogram.new.self c.args.key c.args.key c.in-Ok.id c.in_ok-cell.cell c.self.view_is c.in-Ok.ensures.added c.in-Ok.ensures.id refl (made_by c.args.self.now (with_globals c.self.inside.settings (labels_of c.self.inside.globals.entries)) c.self.inside.series c.self.inside.descriptions c.in_ok-cell.cell (sanitized_metric_name c.args.key.name) c.self.view_is c.in_ok-cell.ensures))
 
 pub returns-in_default-add_histogram-clause-home : goal.returns-in_default-add_histogram-clause-home
 returns-in_default-add_histogram-clause-home c = rw (c.in_default-add_histogram.ensures.refused, ← c.self.view_is) (λ home. home)
@@ -67,4 +67,4 @@ invariant_of-self c = rw c.in_default-add_histogram.ensures.refused c.self.invar
 
 pub invariant_of-self-2 : goal.invariant_of-self-2
 invariant_of-self-2 c =
-    kept-added _ _ c.self.inside.series _ _ _ c.self.invariant c.add_histogram.new.self c.in-Ok.id c.args.key c.in_ok-cell.cell c.in-Ok.ensures.added (ap (λ (s : Sampled). s.series.kind) (made_by c.args.self.now (with_globals c.self.inside.settings (labels_of c.self.inside.globals.entries)) c.self.inside.series c.in_ok-cell.cell (sanitized_metric_name c.args.key.name) c.self.view_is c.in_ok-cell.ensures))
+    kept-added _ _ c.self.inside.series _ _ _ c.self.invariant c.add_histogram.new.self c.in-Ok.id c.args.key c.in_ok-cell.cell c.in-Ok.ensures.added (ap (λ (s : Sampled). s.series.kind) (made_by c.args.self.now (with_globals c.self.inside.settings (labels_of c.self.inside.globals.entries)) c.self.inside.series c.self.inside.descriptions c.in_ok-cell.cell (sanitized_metric_name c.args.key.name) c.self.view_is c.in_ok-cell.ensures))

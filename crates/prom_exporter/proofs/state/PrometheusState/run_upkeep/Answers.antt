@@ -1,80 +1,46 @@
-use Rattle.std.proofs.Common.{ap, arith}
-use Rattle.std.proofs.lemmas.Result.{err_from_is_err_and}
-use Rattle.metrics_registry.specs.Places.{with_cell_at}
-use Rattle.prom_exporter.specs.declared.state.PrometheusState.TheInside.{Inside}
-use Rattle.prom_exporter.specs.Stepped.{DrainsInPart, DrainsWhole}
-use Rattle.prom_exporter.proofs.Drained.{drained_to-many, drained_to-parts, drained_to-part, drained_to-next, drained_to-all}
-use Rattle.prom_exporter.proofs.Upkeep.{with_histograms, upkeep_kept, upkeep_each}
-use Rattle.prom_exporter.proofs.Stepping.{drains_home, drains_state, drains_timely}
+use Rattle.std.proofs.Common.{sym, ap, subst, ◌∙◌}
+use Rattle.std.proofs.lemmas.Result.{err_from_is_err_and, on_ok_weaker, on_err_weaker}
+use Rattle.metric_descriptions.specs.Descriptions.{publish}
+use Rattle.prom_exporter.specs.contracts.state.PrometheusState.{the_view}
+use Rattle.prom_exporter.specs.Exporter.{Exporter, AllHome, AreTimely, state_of}
+use Rattle.prom_exporter.specs.Stepped.{DrainsEach, DrainsInPart}
+use Rattle.prom_exporter.proofs.Stepping.{drains_home, drains_state, drains_timely, drains_less, keeps_made, keeps_state}
 use Rattle.prom_exporter.proofs.state.PrometheusState.run_upkeep.Goals as goal
 
-pub histogram_at-requires : goal.histogram_at-requires
-histogram_at-requires g c =
-    (let many = drained_to-many c.loop-place.place c.self.inside.series.histograms c.loop-place.self-inside.series.histograms c.loop-place.invariant.drained in
-    let within = c.loop-place-test.true in
-    omega (arith, many, within, c.histogram_count-place-end.ensures))
+pub returns-in_err-drain_histograms-clause-home : goal.returns-in_err-drain_histograms-clause-home
+returns-in_err-drain_histograms-clause-home g c = λ home. drains_home c.args.self.now c.drain_histograms.new.self home c.in_err-drain_histograms.ensures.refused
 
-pub invariant_of-self : goal.invariant_of-self
-invariant_of-self g c = upkeep_kept c.self.inside c.loop-place.self-inside _ c.loop-place.invariant.others (drained_to-parts c.loop-place.place _ _ c.loop-place.invariant.drained) c.self.invariant
-
-pub invariant_of-self-in_err-drain : goal.invariant_of-self-in_err-drain
-invariant_of-self-in_err-drain g c =
-    let live = c.loop-place.self-inside.series.histograms in
-    upkeep_kept c.self.inside _ _ (ap (λ (i : Inside). with_histograms i (with_cell_at live c.loop-place.place c.drain.new.self)) c.loop-place.invariant.others)
-    (drained_to-part c.loop-place.place _ live c.histogram_at.result.now c.drain.new.self c.loop-place.invariant.drained c.histogram_at.ensures.value c.in_err-drain.ensures.in_part) c.self.invariant
-
-pub returns-in_err-drain-clause-refused : goal.returns-in_err-drain-clause-refused
-returns-in_err-drain-clause-refused g c =
+pub returns-in_err-drain_histograms-clause-same : goal.returns-in_err-drain_histograms-clause-same
+returns-in_err-drain_histograms-clause-same g c =
     let refusal = err_from_is_err_and c.from_residual.result c.from_residual.ensures.1 in
-    let live = c.loop-place.self-inside.series.histograms in
-    rw refusal.1 (upkeep_each DrainsInPart c.args.self.now c.self.inside _ _ c.self.view_is
-    (ap (λ (i : Inside). with_histograms i (with_cell_at live c.loop-place.place c.drain.new.self)) c.loop-place.invariant.others)
-    (drained_to-part c.loop-place.place _ live c.histogram_at.result.now c.drain.new.self c.loop-place.invariant.drained c.histogram_at.ensures.value c.in_err-drain.ensures.in_part))
+    rw refusal.1 (λ home. drains_state c.args.self.now c.drain_histograms.new.self home c.in_err-drain_histograms.ensures.refused)
 
-pub returns-in_err-drain-clause-home : goal.returns-in_err-drain-clause-home
-returns-in_err-drain-clause-home g c = λ home.
-    let live = c.loop-place.self-inside.series.histograms in
-    drains_home c.args.self.now _ home (upkeep_each DrainsInPart c.args.self.now c.self.inside _ _ c.self.view_is
-    (ap (λ (i : Inside). with_histograms i (with_cell_at live c.loop-place.place c.drain.new.self)) c.loop-place.invariant.others)
-    (drained_to-part c.loop-place.place _ live c.histogram_at.result.now c.drain.new.self c.loop-place.invariant.drained c.histogram_at.ensures.value c.in_err-drain.ensures.in_part))
+pub returns-in_err-drain_histograms-clause-timely : goal.returns-in_err-drain_histograms-clause-timely
+returns-in_err-drain_histograms-clause-timely g c = λ t home. drains_timely c.args.self.now c.drain_histograms.new.self home c.in_err-drain_histograms.ensures.refused t
 
-pub returns-in_err-drain-clause-same : goal.returns-in_err-drain-clause-same
-returns-in_err-drain-clause-same g c = λ home.
-    let live = c.loop-place.self-inside.series.histograms in
-    drains_state c.args.self.now _ home (upkeep_each DrainsInPart c.args.self.now c.self.inside _ _ c.self.view_is
-    (ap (λ (i : Inside). with_histograms i (with_cell_at live c.loop-place.place c.drain.new.self)) c.loop-place.invariant.others)
-    (drained_to-part c.loop-place.place _ live c.histogram_at.result.now c.drain.new.self c.loop-place.invariant.drained c.histogram_at.ensures.value c.in_err-drain.ensures.in_part))
-
-pub returns-in_err-drain-clause-timely : goal.returns-in_err-drain-clause-timely
-returns-in_err-drain-clause-timely g c = λ t home.
-    let live = c.loop-place.self-inside.series.histograms in
-    drains_timely c.args.self.now _ home (upkeep_each DrainsInPart c.args.self.now c.self.inside _ _ c.self.view_is
-    (ap (λ (i : Inside). with_histograms i (with_cell_at live c.loop-place.place c.drain.new.self)) c.loop-place.invariant.others)
-    (drained_to-part c.loop-place.place _ live c.histogram_at.result.now c.drain.new.self c.loop-place.invariant.drained c.histogram_at.ensures.value c.in_err-drain.ensures.in_part)) t
-
-pub loop-place-preserved : goal.loop-place-preserved
-loop-place-preserved g c =
-    let live = c.loop-place.self-inside.series.histograms in
-    record {
-      drained = drained_to-next c.loop-place.place _ live c.histogram_at.result.now c.drain.new.self c.loop-place.invariant.drained c.histogram_at.ensures.value c.in_ok-drain.ensures.whole;
-      others = ap (λ (i : Inside). with_histograms i (with_cell_at live c.loop-place.place c.drain.new.self)) c.loop-place.invariant.others;
-    }
-
-pub returns-clause-drained : goal.returns-clause-drained
-returns-clause-drained g c =
-    (let past = c.loop-place-test.false in
-    let most = c.loop-place.auto.place-end in
-    upkeep_each DrainsWhole c.args.self.now c.self.inside c.loop-place.self-inside _ c.self.view_is c.loop-place.invariant.others
-    (drained_to-all c.loop-place.place _ _ (omega (arith, past, most, c.histogram_count-place-end.ensures)) c.loop-place.invariant.drained))
+pub returns-clause-refused : goal.returns-clause-refused
+returns-clause-refused g c =
+    let drained = drains_less c.args.self.now c.drain_histograms.new.self c.in_ok-drain_histograms.ensures.drained in
+    on_err_weaker c.publish.result
+    (λ same. subst (DrainsEach DrainsInPart c.args.self.now) (sym (ap (λ d. the_view (record c.self.inside { descriptions = d })) same ∙ c.self.view_is)) drained) c.publish.ensures.refused
 
 pub returns-clause-home : goal.returns-clause-home
 returns-clause-home g c = λ home.
-    drains_home c.args.self.now _ home (upkeep_each DrainsInPart c.args.self.now c.self.inside c.loop-place.self-inside _ c.self.view_is c.loop-place.invariant.others (drained_to-parts c.loop-place.place _ _ c.loop-place.invariant.drained))
+    subst AllHome (sym c.self.view_is) (drains_home c.args.self.now c.drain_histograms.new.self home (drains_less c.args.self.now c.drain_histograms.new.self c.in_ok-drain_histograms.ensures.drained))
+
+pub returns-clause-published : goal.returns-clause-published
+returns-clause-published g c =
+    on_ok_weaker c.publish.result
+    (λ is home. keeps_state c.args.self.now _ home
+    (keeps_made c.args.self.now c.drain_histograms.new.self (the_view (record c.self.inside { descriptions = c.publish.new.self })) c.publish.new.self c.in_ok-drain_histograms.ensures.drained
+    (ap (λ (e : Exporter). record e { said = c.publish.new.self }) c.self.view_is) (is ∙ ap (λ (e : Exporter). publish e.said) c.self.view_is))) c.publish.ensures.published
 
 pub returns-clause-same : goal.returns-clause-same
-returns-clause-same g c = λ home.
-    drains_state c.args.self.now _ home (upkeep_each DrainsInPart c.args.self.now c.self.inside c.loop-place.self-inside _ c.self.view_is c.loop-place.invariant.others (drained_to-parts c.loop-place.place _ _ c.loop-place.invariant.drained))
+returns-clause-same g c =
+    let drained = drains_less c.args.self.now c.drain_histograms.new.self c.in_ok-drain_histograms.ensures.drained in
+    on_err_weaker c.publish.result
+    (λ same home. ap state_of (ap (λ d. the_view (record c.self.inside { descriptions = d })) same ∙ c.self.view_is) ∙ drains_state c.args.self.now c.drain_histograms.new.self home drained) c.publish.ensures.refused
 
 pub returns-clause-timely : goal.returns-clause-timely
-returns-clause-timely g c = λ t home.
-    drains_timely c.args.self.now _ home (upkeep_each DrainsInPart c.args.self.now c.self.inside c.loop-place.self-inside _ c.self.view_is c.loop-place.invariant.others (drained_to-parts c.loop-place.place _ _ c.loop-place.invariant.drained)) t
+returns-clause-timely g c = λ t home timely.
+    subst (AreTimely t) (sym c.self.view_is) (drains_timely c.args.self.now c.drain_histograms.new.self home (drains_less c.args.self.now c.drain_histograms.new.self c.in_ok-drain_histograms.ensures.drained) t timely)

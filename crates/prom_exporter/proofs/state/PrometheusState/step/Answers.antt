@@ -13,4 +13,4 @@ returns-clause-steps g c =
     let gauged = c.step_gauges.ensures in
     let sampled = c.step_histograms.ensures in
     steps_made c.args.moment c.args.self.now c.run_upkeep.new.self c.step_counters.new.self c.step_gauges.new.self c.step_histograms.new.self
-    c.in_ok-run_upkeep.ensures.drained counted.noted counted.others gauged.noted gauged.others sampled.counted sampled.others
+    c.in_ok-run_upkeep.ensures.kept_up counted.noted counted.others gauged.noted gauged.others sampled.counted sampled.others

@@ -1,5 +1,6 @@
-use Rattle.std.proofs.Common.{◌≡◌, ℕ, List, [], ◌++◌, refl, sym, ap, subst, ◌∙◌, append-nil}
-use Rattle.std.specs.Prelude.{flat_map, All, Option, string_bytes}
+use Rattle.std.proofs.Common.{◌≡◌, ℕ, Bool, List, [], ◌++◌, refl, sym, ap, subst, ◌∙◌, append-nil}
+use Rattle.std.specs.Prelude.{flat_map, All, Option, None, string_bytes}
+use Rattle.std.specs.Option.{option_copied}
 use Rattle.std.proofs.lemmas.List.Elements.{recursion_from_All}
 use Rattle.std.proofs.lemmas.Result.{err_from_is_err_and}
 use Rattle.metrics_core.specs.Keys.{LabelText}
@@ -13,8 +14,10 @@ use Rattle.series_cells.specs.declared.gauge.PromGauge.{PromGauge}
 use Rattle.prom_format.specs.declared.families.FamilyType.TheVariants as types
 use Rattle.distributions.specs.Kinds.{DistributionRules}
 use Rattle.prom_exporter.specs.Builder.{with_globals}
-use Rattle.prom_exporter.specs.Families.{ExporterSettings}
-use Rattle.prom_exporter.specs.Kept.{NamesAsTheyAre, FitsSettings, HaveKinds}
+use Rattle.metric_descriptions.specs.Descriptions.{DescribedText}
+use Rattle.prom_exporter.specs.Naming.{NamingText}
+use Rattle.prom_exporter.specs.Families.{ExporterSettings, counter_suffix}
+use Rattle.prom_exporter.specs.Kept.{FitsSettings, HaveKinds}
 use Rattle.prom_exporter.specs.Exporter.{Exporter, Cells, AreTimely, shown_body}
 use Rattle.prom_exporter.specs.Rows.{RowsText, kept_block, keys_of, rows_of}
 use Rattle.prom_exporter.specs.Sampled.{Sampled, IsTimely}
@@ -25,36 +28,38 @@ use Rattle.prom_exporter.specs.Values.{counter_shown, gauge_shown, value_familie
 use Rattle.prom_exporter.proofs.KeptRows.{blocks-kept}
 use Rattle.prom_exporter.proofs.Progress.{sent_none, sent_all, sent_prefix}
 use Rattle.prom_exporter.proofs.SampledPages.{HasKind, blocks-sampled}
-use Rattle.prom_exporter.proofs.ValuePages.{body-values, sampled_families}
+use Rattle.prom_exporter.proofs.ValuePages.{body-values, naming_of, counter_families, gauge_families, sampled_families}
 use Rattle.prom_exporter.proofs.Written.{prefix_of_more}
 use Rattle.prom_exporter.proofs.state.PrometheusState.write_body.Goals as goal
 
 -- the page is the blocks of what is kept for the counters, for the gauges and for the histograms
-page_is : (moment : ℕ) (settings : ExporterSettings) (series : Cells) (exporter : Exporter) (counters gauges sampled : List ℕ) → record { settings = settings; series = series } ≡ exporter → NamesAsTheyAre settings
-    → counters ≡ body_text (value_families types.Counter counter_shown settings.globals series.counters) → gauges ≡ body_text (value_families types.Gauge gauge_shown settings.globals series.gauges)
-    → sampled ≡ body_text (sampled_families settings moment series) → shown_body moment exporter ≡ (counters ++ gauges) ++ sampled
-page_is moment settings series exporter counters gauges sampled is names counted gauged drawn =
-    ap (shown_body moment) (sym is) ∙ body-values settings moment series names ∙ sym (λ j. (counted j ++ gauged j) ++ drawn j)
+page_is : (moment : ℕ) (settings : ExporterSettings) (series : Cells) (said : DescribedText) (exporter : Exporter) (counters gauges sampled : List ℕ) → record { settings = settings; series = series; said = said } ≡ exporter
+    → counters ≡ body_text (counter_families settings moment said series) → gauges ≡ body_text (gauge_families settings moment said series)
+    → sampled ≡ body_text (sampled_families settings moment said series) → shown_body moment exporter ≡ (counters ++ gauges) ++ sampled
+page_is moment settings series said exporter counters gauges sampled is counted gauged drawn =
+    ap (shown_body moment) (sym is) ∙ body-values settings moment said series ∙ sym (λ j. (counted j ++ gauged j) ++ drawn j)
 
-counter_blocks : (globals : List LabelText) (rows : RowsText) (live found : List (LiveSeries (Shared PromCounter))) → rows ≡ rows_of globals (keys_of live) → found ≡ live
-    → flat_map (kept_block counter_shown types.Counter rows.heads found) rows.families ≡ body_text (value_families types.Counter counter_shown globals live)
-counter_blocks globals rows live found kept same = (λ j. flat_map (kept_block counter_shown types.Counter (kept j).heads (same j)) (kept j).families) ∙ blocks-kept counter_shown globals types.Counter live
+counter_blocks : (naming used : NamingText) (suffix lent : Option (List ℕ)) (globals : List LabelText) (rows : RowsText) (live found : List (LiveSeries (Shared PromCounter))) → used ≡ naming → lent ≡ suffix → rows ≡ rows_of globals (keys_of live) → found ≡ live
+    → flat_map (kept_block counter_shown used lent types.Counter rows.label_sets found) rows.families ≡ body_text (value_families naming suffix types.Counter counter_shown globals live)
+counter_blocks naming used suffix lent globals rows live found named given kept same =
+    (λ j. flat_map (kept_block counter_shown (named j) (given j) types.Counter (kept j).label_sets (same j)) (kept j).families) ∙ blocks-kept naming suffix counter_shown globals types.Counter live
 
-gauge_blocks : (globals : List LabelText) (rows : RowsText) (live found : List (LiveSeries (Shared PromGauge))) → rows ≡ rows_of globals (keys_of live) → found ≡ live
-    → flat_map (kept_block gauge_shown types.Gauge rows.heads found) rows.families ≡ body_text (value_families types.Gauge gauge_shown globals live)
-gauge_blocks globals rows live found kept same = (λ j. flat_map (kept_block gauge_shown types.Gauge (kept j).heads (same j)) (kept j).families) ∙ blocks-kept gauge_shown globals types.Gauge live
+gauge_blocks : (naming used : NamingText) (globals : List LabelText) (rows : RowsText) (live found : List (LiveSeries (Shared PromGauge))) → used ≡ naming → rows ≡ rows_of globals (keys_of live) → found ≡ live
+    → flat_map (kept_block gauge_shown used None types.Gauge rows.label_sets found) rows.families ≡ body_text (value_families naming None types.Gauge gauge_shown globals live)
+gauge_blocks naming used globals rows live found named kept same =
+    (λ j. flat_map (kept_block gauge_shown (named j) None types.Gauge (kept j).label_sets (same j)) (kept j).families) ∙ blocks-kept naming None gauge_shown globals types.Gauge live
 
-sampled_blocks : (settings : ExporterSettings) (moment : ℕ) (series : Cells) (distributions : DistributionRules) (rows : RowsText) (found : List (LiveSeries Sampled)) → FitsSettings settings distributions → HaveKinds settings series.histograms
+sampled_blocks : (settings : ExporterSettings) (used : NamingText) (moment : ℕ) (said : DescribedText) (series : Cells) (distributions : DistributionRules) (rows : RowsText) (found : List (LiveSeries Sampled)) → used ≡ naming_of settings moment said series → FitsSettings settings distributions → HaveKinds settings series.histograms
     → HasRowsOf settings.globals found rows → found ≡ series.histograms
-    → flat_map (sampled_block settings.globals moment found distributions) rows.families ≡ body_text (sampled_families settings moment series)
-sampled_blocks settings moment series distributions rows found fits kinds kept same =
-    (λ j. flat_map (sampled_block settings.globals moment (same j) distributions) (kept j).families)
-    ∙ ap (λ live. flat_map (sampled_block settings.globals moment series.histograms distributions) (rows_of settings.globals (keys_of live)).families) same
-    ∙ blocks-sampled settings moment series distributions fits (recursion_from_All (HasKind settings) series.histograms kinds)
+    → flat_map (sampled_block used settings.globals moment found distributions) rows.families ≡ body_text (sampled_families settings moment said series)
+sampled_blocks settings used moment said series distributions rows found named fits kinds kept same =
+    (λ j. flat_map (sampled_block (named j) settings.globals moment (same j) distributions) (kept j).families)
+    ∙ ap (λ live. flat_map (sampled_block (naming_of settings moment said series) settings.globals moment series.histograms distributions) (rows_of settings.globals (keys_of live)).families) same
+    ∙ blocks-sampled settings moment said series distributions fits (recursion_from_All (HasKind settings) series.histograms kinds)
 
-shown_here : (globals : List LabelText) (moment : ℕ) (settings : ExporterSettings) (series : Cells) (exporter : Exporter) (found : List (LiveSeries Sampled)) (rows : RowsText) → record { settings = settings; series = series } ≡ exporter
+shown_here : (globals : List LabelText) (moment : ℕ) (settings : ExporterSettings) (series : Cells) (said : DescribedText) (exporter : Exporter) (found : List (LiveSeries Sampled)) (rows : RowsText) → record { settings = settings; series = series; said = said } ≡ exporter
     → HasRowsOf globals found rows → found ≡ series.histograms → AreTimely moment exporter → AreShown globals moment found rows
-shown_here globals moment settings series exporter found rows is kept same timely =
+shown_here globals moment settings series said exporter found rows is kept same timely =
     let P : LiveSeries Sampled → Type 0 = λ s. IsTimely moment s.cell in
     record { kept = kept; timely = subst (All P) (sym (same ∙ ap (λ (e : Exporter). e.series.histograms) is)) timely }
 
@@ -86,9 +91,12 @@ returns-in_err-write_families-clause-prefix g c =
     let globals = labels_of c.self.inside.globals.entries in
     let settings = with_globals c.self.inside.settings globals in
     let series = c.self.inside.series in
+    let naming = naming_of settings c.args.moment c.self.inside.descriptions series in
+    let used : NamingText = record { units = c.units.result; published = c.self.inside.descriptions.published } in
+    let named : used ≡ naming = ap (λ (u : Bool). record { units = u; published = c.self.inside.descriptions.published }) c.units.ensures in
     let told = g.K.Sink.written c.args.sink.now in
-    let counted = counter_blocks globals c.catch_up.new.self series.counters c.counters-counters.result (c.in_ok-catch_up.ensures.all ∙ ap (λ l. rows_of globals (keys_of l)) c.counters-counters.ensures) c.counters-counters.ensures in
-    let page = (page_is c.args.moment settings series c.args.self.now _ _ _ c.self.view_is c.self.invariant.names counted refl refl) in
+    let counted = counter_blocks naming used (counter_suffix settings) (option_copied c.counter_suffix-suffix.result) globals c.catch_up.new.self series.counters c.counters-counters.result named c.counter_suffix-suffix.ensures (c.in_ok-catch_up.ensures.all ∙ ap (λ l. rows_of globals (keys_of l)) c.counters-counters.ensures) c.counters-counters.ensures in
+    let page = (page_is c.args.moment settings series c.self.inside.descriptions c.args.self.now _ _ _ c.self.view_is counted refl refl) in
     let P : List ℕ → Type 0 = GrewByPrefix told (g.K.Sink.written c.write_families.new.sink) in
     let blocks = c.in_err-write_families.ensures.prefix told [] (starts told _ c.new-buffer.ensures.bytes) in
     rw refusal.1 (λ timely. subst P (sym page) (prefix_longer told _ _ _ (prefix_longer told _ _ _ blocks)))
@@ -99,10 +107,13 @@ returns-in_err-write_families-2-clause-prefix g c =
     let globals = labels_of c.self.inside.globals.entries in
     let settings = with_globals c.self.inside.settings globals in
     let series = c.self.inside.series in
+    let naming = naming_of settings c.args.moment c.self.inside.descriptions series in
+    let used : NamingText = record { units = c.units.result; published = c.self.inside.descriptions.published } in
+    let named : used ≡ naming = ap (λ (u : Bool). record { units = u; published = c.self.inside.descriptions.published }) c.units.ensures in
     let told = g.K.Sink.written c.args.sink.now in
-    let counted = counter_blocks globals c.catch_up.new.self series.counters c.counters-counters.result (c.in_ok-catch_up.ensures.all ∙ ap (λ l. rows_of globals (keys_of l)) c.counters-counters.ensures) c.counters-counters.ensures in
-    let gauged = gauge_blocks globals c.catch_up-2.new.self series.gauges c.gauges-gauges.result (c.in_ok-catch_up-2.ensures.all ∙ ap (λ l. rows_of globals (keys_of l)) c.gauges-gauges.ensures) c.gauges-gauges.ensures in
-    let page = (page_is c.args.moment settings series c.args.self.now _ _ _ c.self.view_is c.self.invariant.names counted gauged refl) in
+    let counted = counter_blocks naming used (counter_suffix settings) (option_copied c.counter_suffix-suffix.result) globals c.catch_up.new.self series.counters c.counters-counters.result named c.counter_suffix-suffix.ensures (c.in_ok-catch_up.ensures.all ∙ ap (λ l. rows_of globals (keys_of l)) c.counters-counters.ensures) c.counters-counters.ensures in
+    let gauged = gauge_blocks naming used globals c.catch_up-2.new.self series.gauges c.gauges-gauges.result named (c.in_ok-catch_up-2.ensures.all ∙ ap (λ l. rows_of globals (keys_of l)) c.gauges-gauges.ensures) c.gauges-gauges.ensures in
+    let page = (page_is c.args.moment settings series c.self.inside.descriptions c.args.self.now _ _ _ c.self.view_is counted gauged refl) in
     let P : List ℕ → Type 0 = GrewByPrefix told (g.K.Sink.written c.write_families-2.new.sink) in
     let sent = c.in_ok-write_families.ensures.sent told [] (starts told _ c.new-buffer.ensures.bytes) in
     let blocks = c.in_err-write_families-2.ensures.prefix told _ sent in
@@ -114,12 +125,15 @@ returns-in_err-write_distributions-clause-prefix g c =
     let globals = labels_of c.self.inside.globals.entries in
     let settings = with_globals c.self.inside.settings globals in
     let series = c.self.inside.series in
+    let naming = naming_of settings c.args.moment c.self.inside.descriptions series in
+    let used : NamingText = record { units = c.units.result; published = c.self.inside.descriptions.published } in
+    let named : used ≡ naming = ap (λ (u : Bool). record { units = u; published = c.self.inside.descriptions.published }) c.units.ensures in
     let told = g.K.Sink.written c.args.sink.now in
-    let counted = counter_blocks globals c.catch_up.new.self series.counters c.counters-counters.result (c.in_ok-catch_up.ensures.all ∙ ap (λ l. rows_of globals (keys_of l)) c.counters-counters.ensures) c.counters-counters.ensures in
-    let gauged = gauge_blocks globals c.catch_up-2.new.self series.gauges c.gauges-gauges.result (c.in_ok-catch_up-2.ensures.all ∙ ap (λ l. rows_of globals (keys_of l)) c.gauges-gauges.ensures) c.gauges-gauges.ensures in
-    let drawn = sampled_blocks settings c.args.moment series c.self.inside.distributions c.catch_up-3.new.self c.histograms-histograms.result c.self.invariant.kinds c.self.invariant.sampled c.in_ok-catch_up-3.ensures.all c.histograms-histograms.ensures in
-    let shown = λ (timely : AreTimely c.args.moment c.args.self.now). shown_here globals c.args.moment settings series c.args.self.now c.histograms-histograms.result c.catch_up-3.new.self c.self.view_is c.in_ok-catch_up-3.ensures.all c.histograms-histograms.ensures timely in
-    let page = (page_is c.args.moment settings series c.args.self.now _ _ _ c.self.view_is c.self.invariant.names counted gauged drawn) in
+    let counted = counter_blocks naming used (counter_suffix settings) (option_copied c.counter_suffix-suffix.result) globals c.catch_up.new.self series.counters c.counters-counters.result named c.counter_suffix-suffix.ensures (c.in_ok-catch_up.ensures.all ∙ ap (λ l. rows_of globals (keys_of l)) c.counters-counters.ensures) c.counters-counters.ensures in
+    let gauged = gauge_blocks naming used globals c.catch_up-2.new.self series.gauges c.gauges-gauges.result named (c.in_ok-catch_up-2.ensures.all ∙ ap (λ l. rows_of globals (keys_of l)) c.gauges-gauges.ensures) c.gauges-gauges.ensures in
+    let drawn = sampled_blocks settings used c.args.moment c.self.inside.descriptions series c.self.inside.distributions c.catch_up-3.new.self c.histograms-histograms.result named c.self.invariant.kinds c.self.invariant.sampled c.in_ok-catch_up-3.ensures.all c.histograms-histograms.ensures in
+    let shown = λ (timely : AreTimely c.args.moment c.args.self.now). shown_here globals c.args.moment settings series c.self.inside.descriptions c.args.self.now c.histograms-histograms.result c.catch_up-3.new.self c.self.view_is c.in_ok-catch_up-3.ensures.all c.histograms-histograms.ensures timely in
+    let page = (page_is c.args.moment settings series c.self.inside.descriptions c.args.self.now _ _ _ c.self.view_is counted gauged drawn) in
     let P : List ℕ → Type 0 = GrewByPrefix told (g.K.Sink.written c.write_distributions.new.sink) in
     let sent = c.in_ok-write_families-2.ensures.sent told _ (c.in_ok-write_families.ensures.sent told [] (starts told _ c.new-buffer.ensures.bytes)) in
     rw refusal.1 (λ timely. subst P (sym page) (c.in_err-write_distributions.ensures.prefix globals (shown timely) told _ sent))
@@ -130,12 +144,15 @@ returns-in_err-write_whole-clause-prefix g c =
     let globals = labels_of c.self.inside.globals.entries in
     let settings = with_globals c.self.inside.settings globals in
     let series = c.self.inside.series in
+    let naming = naming_of settings c.args.moment c.self.inside.descriptions series in
+    let used : NamingText = record { units = c.units.result; published = c.self.inside.descriptions.published } in
+    let named : used ≡ naming = ap (λ (u : Bool). record { units = u; published = c.self.inside.descriptions.published }) c.units.ensures in
     let told = g.K.Sink.written c.args.sink.now in
-    let counted = counter_blocks globals c.catch_up.new.self series.counters c.counters-counters.result (c.in_ok-catch_up.ensures.all ∙ ap (λ l. rows_of globals (keys_of l)) c.counters-counters.ensures) c.counters-counters.ensures in
-    let gauged = gauge_blocks globals c.catch_up-2.new.self series.gauges c.gauges-gauges.result (c.in_ok-catch_up-2.ensures.all ∙ ap (λ l. rows_of globals (keys_of l)) c.gauges-gauges.ensures) c.gauges-gauges.ensures in
-    let drawn = sampled_blocks settings c.args.moment series c.self.inside.distributions c.catch_up-3.new.self c.histograms-histograms.result c.self.invariant.kinds c.self.invariant.sampled c.in_ok-catch_up-3.ensures.all c.histograms-histograms.ensures in
-    let shown = λ (timely : AreTimely c.args.moment c.args.self.now). shown_here globals c.args.moment settings series c.args.self.now c.histograms-histograms.result c.catch_up-3.new.self c.self.view_is c.in_ok-catch_up-3.ensures.all c.histograms-histograms.ensures timely in
-    let page = (page_is c.args.moment settings series c.args.self.now _ _ _ c.self.view_is c.self.invariant.names counted gauged drawn) in
+    let counted = counter_blocks naming used (counter_suffix settings) (option_copied c.counter_suffix-suffix.result) globals c.catch_up.new.self series.counters c.counters-counters.result named c.counter_suffix-suffix.ensures (c.in_ok-catch_up.ensures.all ∙ ap (λ l. rows_of globals (keys_of l)) c.counters-counters.ensures) c.counters-counters.ensures in
+    let gauged = gauge_blocks naming used globals c.catch_up-2.new.self series.gauges c.gauges-gauges.result named (c.in_ok-catch_up-2.ensures.all ∙ ap (λ l. rows_of globals (keys_of l)) c.gauges-gauges.ensures) c.gauges-gauges.ensures in
+    let drawn = sampled_blocks settings used c.args.moment c.self.inside.descriptions series c.self.inside.distributions c.catch_up-3.new.self c.histograms-histograms.result named c.self.invariant.kinds c.self.invariant.sampled c.in_ok-catch_up-3.ensures.all c.histograms-histograms.ensures in
+    let shown = λ (timely : AreTimely c.args.moment c.args.self.now). shown_here globals c.args.moment settings series c.self.inside.descriptions c.args.self.now c.histograms-histograms.result c.catch_up-3.new.self c.self.view_is c.in_ok-catch_up-3.ensures.all c.histograms-histograms.ensures timely in
+    let page = (page_is c.args.moment settings series c.self.inside.descriptions c.args.self.now _ _ _ c.self.view_is counted gauged drawn) in
     let P : List ℕ → Type 0 = GrewByPrefix told (g.K.Sink.written c.write_whole.new.sink) in
     let sent = c.in_ok-write_families-2.ensures.sent told _ (c.in_ok-write_families.ensures.sent told [] (starts told _ c.new-buffer.ensures.bytes)) in
     let last : GrewByPrefix (g.K.Sink.written c.write_distributions.new.sink) (g.K.Sink.written c.write_whole.new.sink) (string_bytes c.write_distributions.new.buffer) = rw (← c.as_bytes.ensures.value) c.in_err-write_whole.ensures.prefix in
@@ -146,12 +163,15 @@ returns-clause-body g c =
     let globals = labels_of c.self.inside.globals.entries in
     let settings = with_globals c.self.inside.settings globals in
     let series = c.self.inside.series in
+    let naming = naming_of settings c.args.moment c.self.inside.descriptions series in
+    let used : NamingText = record { units = c.units.result; published = c.self.inside.descriptions.published } in
+    let named : used ≡ naming = ap (λ (u : Bool). record { units = u; published = c.self.inside.descriptions.published }) c.units.ensures in
     let told = g.K.Sink.written c.args.sink.now in
-    let counted = counter_blocks globals c.catch_up.new.self series.counters c.counters-counters.result (c.in_ok-catch_up.ensures.all ∙ ap (λ l. rows_of globals (keys_of l)) c.counters-counters.ensures) c.counters-counters.ensures in
-    let gauged = gauge_blocks globals c.catch_up-2.new.self series.gauges c.gauges-gauges.result (c.in_ok-catch_up-2.ensures.all ∙ ap (λ l. rows_of globals (keys_of l)) c.gauges-gauges.ensures) c.gauges-gauges.ensures in
-    let drawn = sampled_blocks settings c.args.moment series c.self.inside.distributions c.catch_up-3.new.self c.histograms-histograms.result c.self.invariant.kinds c.self.invariant.sampled c.in_ok-catch_up-3.ensures.all c.histograms-histograms.ensures in
-    let shown = λ (timely : AreTimely c.args.moment c.args.self.now). shown_here globals c.args.moment settings series c.args.self.now c.histograms-histograms.result c.catch_up-3.new.self c.self.view_is c.in_ok-catch_up-3.ensures.all c.histograms-histograms.ensures timely in
-    let page = (page_is c.args.moment settings series c.args.self.now _ _ _ c.self.view_is c.self.invariant.names counted gauged drawn) in
+    let counted = counter_blocks naming used (counter_suffix settings) (option_copied c.counter_suffix-suffix.result) globals c.catch_up.new.self series.counters c.counters-counters.result named c.counter_suffix-suffix.ensures (c.in_ok-catch_up.ensures.all ∙ ap (λ l. rows_of globals (keys_of l)) c.counters-counters.ensures) c.counters-counters.ensures in
+    let gauged = gauge_blocks naming used globals c.catch_up-2.new.self series.gauges c.gauges-gauges.result named (c.in_ok-catch_up-2.ensures.all ∙ ap (λ l. rows_of globals (keys_of l)) c.gauges-gauges.ensures) c.gauges-gauges.ensures in
+    let drawn = sampled_blocks settings used c.args.moment c.self.inside.descriptions series c.self.inside.distributions c.catch_up-3.new.self c.histograms-histograms.result named c.self.invariant.kinds c.self.invariant.sampled c.in_ok-catch_up-3.ensures.all c.histograms-histograms.ensures in
+    let shown = λ (timely : AreTimely c.args.moment c.args.self.now). shown_here globals c.args.moment settings series c.self.inside.descriptions c.args.self.now c.histograms-histograms.result c.catch_up-3.new.self c.self.view_is c.in_ok-catch_up-3.ensures.all c.histograms-histograms.ensures timely in
+    let page = (page_is c.args.moment settings series c.self.inside.descriptions c.args.self.now _ _ _ c.self.view_is counted gauged drawn) in
     let P : List ℕ → Type 0 = GrewBy told (g.K.Sink.written c.write_whole.new.sink) in
     let sent = c.in_ok-write_families-2.ensures.sent told _ (c.in_ok-write_families.ensures.sent told [] (starts told _ c.new-buffer.ensures.bytes)) in
     let last : GrewBy (g.K.Sink.written c.write_distributions.new.sink) (g.K.Sink.written c.write_whole.new.sink) (string_bytes c.write_distributions.new.buffer) = rw (← c.as_bytes.ensures.value) c.in_ok-write_whole.ensures.whole in

@@ -8,7 +8,7 @@ use Rattle.std.proofs.lemmas.List.{length-take-le, drop-append-le, take-append-l
 use Rattle.std.proofs.lemmas.Bool.Decides.{nat_tests}
 use Rattle.std.proofs.lemmas.Option.{none-some, same_Some, slice_get-get_or, slice_get_past}
 use Rattle.std.proofs.lemmas.Str.{IsCharBoundary-at_seam, IsCharBoundary-end, IsCharBoundary-start}
-use Rattle.prom_exporter.specs.Heads.{pieces, AreCuts}
+use Rattle.prom_exporter.specs.Pieces.{pieces, AreCuts}
 
 -- ---- one more behind the others
 

@@ -1,56 +1,56 @@
-//! What the rows of series begin with, kept one behind the other, so that none of it takes memory of its own.
+//! The label sets of series, as they are printed, kept one behind the other, so that none of them takes memory of its own.
 
 ghost use Rattle.std.specs.Prelude.{◌≡◌, ◌≤◌, ◌++◌, [], ◌∷◌, length, take, OnOk, OnErr, option_copied, slice_get, slice_index};
 ghost use Rattle.prom_format.specs.LabelSets.{labels_of};
-ghost use Rattle.prom_exporter.specs.Rows.{head_of};
+ghost use Rattle.prom_exporter.specs.Rows.{label_set_of};
 
 use indexmap::IndexMap;
 use metrics_core::{Key, Memory};
-use prom_format::push_row_head;
+use prom_format::push_row_labels;
 use std::alloc::Global;
 use std::marker::Model;
 
-/// What the rows of each series begin with, in order of registration. A contract sees the list of these texts.
+/// The label set of each series, as it is printed, in order of registration. A contract sees the list of these texts.
 #[derive(Drop)]
-pub(crate) struct Heads {
+pub(crate) struct LabelSets {
     text: String,
     /// Where each one ends; it begins where the one before it ends.
     ends: Vec<usize>,
 }
 
-impl Model for Heads {
+impl Model for LabelSets {
     ghost use Rattle.std.specs.Prelude.{List, ℕ, string_bytes};
-    ghost use Rattle.prom_exporter.specs.Heads.{pieces, AreCuts};
+    ghost use Rattle.prom_exporter.specs.Pieces.{pieces, AreCuts};
 
     ghost Value = { List (List ℕ) };
 
-    ghost view = { λ heads. pieces (string_bytes heads.text) 0 heads.ends.items };
+    ghost view = { λ label_sets. pieces (string_bytes label_sets.text) 0 label_sets.ends.items };
 
-    ghost invariant = { λ heads. AreCuts (string_bytes heads.text) 0 heads.ends.items };
+    ghost invariant = { λ label_sets. AreCuts (string_bytes label_sets.text) 0 label_sets.ends.items };
 }
 
-impl Heads {
+impl LabelSets {
     /// None.
-    pub(crate) fn new(alloc: Global) -> Heads
+    pub(crate) fn new(alloc: Global) -> LabelSets
         ensures { result ≡ [] }
     {
-        Heads {
+        LabelSets {
             text: String::new(alloc),
             ends: Vec::new(alloc),
         }
     }
 
-    /// Keeps what the rows of a series with this key begin with, behind the others.
+    /// Keeps the label set of a series with this key, behind the others.
     pub(crate) fn push(
         &mut self,
         key: &Key,
         globals: &IndexMap<String, String>,
     ) -> Result<(), Memory>
-        ensures pushed { OnOk result (self.new ≡ self.old ++ head_of (labels_of globals.now.entries) key.now ∷ []) }
+        ensures pushed { OnOk result (self.new ≡ self.old ++ label_set_of (labels_of globals.now.entries) key.now ∷ []) }
         ensures refused { OnErr result (self.new ≡ self.old) }
     {
         let begin = self.text.len();
-        let _name_length = push_row_head(&mut self.text, key, globals)?;
+        push_row_labels(&mut self.text, key, globals)?;
         let end = self.text.len();
         let Ok(()) = self.ends.push(end) else {
             self.text.truncate(begin);

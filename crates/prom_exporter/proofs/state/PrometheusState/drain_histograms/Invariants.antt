@@ -1,6 +1,6 @@
 use Rattle.std.proofs.Common.{◌≡◌}
 use Rattle.prom_exporter.proofs.Drained.{DrainedTo}
-use Rattle.prom_exporter.proofs.state.PrometheusState.run_upkeep.Given as goal
+use Rattle.prom_exporter.proofs.state.PrometheusState.drain_histograms.Given as goal
 
 -- the first so many were drained whole, and nothing else changed
 abbrev pub invariant-loop-place : goal.invariant-loop-place

@@ -1,9 +1,9 @@
 use Rattle.std.proofs.Common.{◌≤◌, ◌∷◌, length, take, sym, ap, subst, ◌∙◌, refl, arith}
 use Rattle.std.specs.Prelude.{string_bytes, slice_index}
 use Rattle.std.specs.Str.{IsUtf8}
-use Rattle.prom_exporter.specs.Heads.{pieces, AreCuts}
-use Rattle.prom_exporter.proofs.HeadTexts.{are_front, length-pieces, split-there, take-everything}
-use Rattle.prom_exporter.proofs.heads.Heads.truncate.Goals as goal
+use Rattle.prom_exporter.specs.Pieces.{pieces, AreCuts}
+use Rattle.prom_exporter.proofs.PieceTexts.{are_front, length-pieces, split-there, take-everything}
+use Rattle.prom_exporter.proofs.label_sets.LabelSets.truncate.Goals as goal
 
 pub returns-then-count-len : goal.returns-then-count-len
 returns-then-count-len c =

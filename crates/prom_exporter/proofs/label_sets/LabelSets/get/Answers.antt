@@ -1,7 +1,7 @@
 use Rattle.std.proofs.Common.{◌≡◌, Some, None, sym, ap, ◌∙◌}
 use Rattle.std.specs.Prelude.{string_bytes, slice_get}
-use Rattle.prom_exporter.proofs.HeadTexts.{found-at, no_piece-at, past-end}
-use Rattle.prom_exporter.proofs.heads.Heads.get.Goals as goal
+use Rattle.prom_exporter.proofs.PieceTexts.{found-at, no_piece-at, past-end}
+use Rattle.prom_exporter.proofs.label_sets.LabelSets.get.Goals as goal
 
 pub returns-in_err-end : goal.returns-in_err-end
 returns-in_err-end c =
