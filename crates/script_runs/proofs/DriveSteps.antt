@@ -4,7 +4,9 @@ use Rattle.std.specs.Prelude.{Option, Some, None, IfSome, Result, Ok, Err, IfErr
 use Rattle.std.proofs.lemmas.Option.{none-some}
 use Rattle.std.proofs.lemmas.Result.{err_from_is_err_and}
 use Rattle.metrics_core.specs.Outside.{Rose, GrewBy, GrewByPrefix}
-use Rattle.drive_script.specs.Script.{ScriptText, lines_of}
+use Rattle.dsd_addresses.specs.Remotes.{remote_text}
+use Rattle.dsd_addresses.specs.declared.remote_addr.RemoteAddr.{RemoteAddr}
+use Rattle.drive_script.specs.Script.{ScriptText, SettingsText, lines_of}
 use Rattle.drive_script.specs.Texts.{script_of}
 use Rattle.drive_script.specs.Valid.{IsScriptOf}
 use Rattle.drive_script.specs.declared.script.Script.{Script}
@@ -14,8 +16,9 @@ use Rattle.drive_script.specs.declared.faults.DriveFault.{DriveFault}
 use Rattle.drive_script.specs.declared.faults.DriveFault.TheVariants as faults
 use Rattle.script_runs.specs.Headline.{IsPlayed, IsPlayedInPart, IsGoodScript, script_limit}
 use Rattle.script_runs.specs.Orders.{ForSomeRun, run_text}
-use Rattle.drive_script.specs.Settings.{refused_setting}
+use Rattle.drive_script.specs.Settings.{Refusal, refusal_of, refused_setting}
 use Rattle.drive_script.specs.declared.faults.SettingFault.{SettingFault}
+use Rattle.script_runs.specs.Agent.{default_agent}
 use Rattle.script_runs.specs.Answers.{IsAllowed, IsComplete, IsBadScript, IsRefusedSetting, IsTooLong, IsPlayFault, LeavesPrefix, end_status, fault_status}
 use Rattle.script_runs.specs.Reading.{IsReadAs, IsReadFault, IsUnread}
 use Rattle.script_runs.specs.declared.report.Report.{Report}
@@ -31,9 +34,13 @@ good_not_long bytes script good long = omega (arith, good.0, long)
 bad_not_long : (bytes : List ℕ) (l : ℕ) → IsBadScript bytes l → IsTooLong bytes → ⊥
 bad_not_long bytes l bad long = omega (arith, bad.0, long)
 
+-- what the settings are refused for at an address that is the agent's
+pub at_agent : (settings : SettingsText) (refused : Option Refusal) (address : RemoteAddr) → remote_text address ≡ default_agent → refused_setting settings (remote_text address) ≡ refused → refused_setting settings default_agent ≡ refused
+at_agent settings refused address is found = ap (refused_setting settings) (sym is) ∙ found
+
 -- the bytes are one script, so that what is refused of one reading is refused of each
-refused_once : (bytes : List ℕ) (script other : ScriptText) → IsGoodScript bytes script → IsGoodScript bytes other → refused_setting other.settings ≡ refused_setting script.settings
-refused_once bytes script other good good' = ap (λ (s : ScriptText). refused_setting s.settings) (one_reading (lines_of bytes) other script good'.1 good.1)
+refused_once : (bytes : List ℕ) (script other : ScriptText) → IsGoodScript bytes script → IsGoodScript bytes other → refused_setting other.settings default_agent ≡ refused_setting script.settings default_agent
+refused_once bytes script other good good' = ap (λ (s : ScriptText). refused_setting s.settings default_agent) (one_reading (lines_of bytes) other script good'.1 good.1)
 
 -- a good script was played, or a write failed, or memory was wanting: then no other cause holds
 pub good_complete : (bytes : List ℕ) (S K : Type 0) (script : ScriptText) (status : ℕ) → IsGoodScript bytes script → IsAllowed script
@@ -45,7 +52,7 @@ good_complete bytes S K script status good allowed done = record {
   good_script = λ other is allows ok sink_ok. done sink_ok;
 }
 
-pub refused_complete : (bytes : List ℕ) (S K : Type 0) (script : ScriptText) (fault : SettingFault) → IsGoodScript bytes script → refused_setting script.settings ≡ Some fault → IsComplete bytes S K 4
+pub refused_complete : (bytes : List ℕ) (S K : Type 0) (script : ScriptText) (fault : SettingFault) → IsGoodScript bytes script → refused_setting script.settings default_agent ≡ Some (refusal_of fault) → IsComplete bytes S K 4
 refused_complete bytes S K script fault good refused = record {
   too_long = λ long ok. absurd (good_not_long bytes script good long);
   bad_script = λ l bad ok. absurd (good_not_bad bytes script l good bad);
@@ -127,12 +134,12 @@ good_answers (Some bytes) items S K script status whole within reading allowed d
 
 -- a setting of the script that was read is refused: that is the cause, and the answer is complete
 pub setting_refused : (left : Option (List ℕ)) (items : List ℕ) (script : ScriptText) (fault : SettingFault) → IfSome left (λ bytes. items ≡ bytes) → IsGoodScript items script
-    → refused_setting script.settings ≡ Some fault → IfSome left (λ bytes. IsRefusedSetting bytes fault)
+    → refused_setting script.settings default_agent ≡ Some (refusal_of fault) → IfSome left (λ bytes. IsRefusedSetting bytes fault)
 setting_refused None items script fault whole good refused = tt
 setting_refused (Some bytes) items script fault whole good refused = subst (λ b. IsRefusedSetting b fault) whole (script, good, refused)
 
 pub refused_answers : (left : Option (List ℕ)) (items : List ℕ) (S K : Type 0) (script : ScriptText) (fault : SettingFault) → IfSome left (λ bytes. items ≡ bytes) → IsGoodScript items script
-    → refused_setting script.settings ≡ Some fault → IfSome left (λ bytes. IsComplete bytes S K 4)
+    → refused_setting script.settings default_agent ≡ Some (refusal_of fault) → IfSome left (λ bytes. IsComplete bytes S K 4)
 refused_answers None items S K script fault whole good refused = tt
 refused_answers (Some bytes) items S K script fault whole good refused = subst (λ b. IsComplete b S K 4) whole (refused_complete items S K script fault good refused)
 

@@ -49,4 +49,4 @@ rounds_record (r ∷ rounds) h =
 pub script_records : (lines : List (List ℕ)) (script : ScriptText) → IsScript lines script → All AllRecordSome script.rounds
 script_records lines script h =
     All-from_recursion AllRecordSome script.rounds
-    (rounds_record script.rounds (both_parts Records (map Header (header_lines script.settings)) (flat_map round_lines script.rounds) (lines_record lines _ h.each)).1)
+    (rounds_record script.rounds (both_parts Records (map Header (header_lines script.settings h.said)) (flat_map round_lines script.rounds) (lines_record lines _ h.each)).1)

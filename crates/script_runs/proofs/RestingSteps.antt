@@ -275,6 +275,10 @@ histogram_rests key old new step rest = ⊎_elim
     (λ (adds : AddsHistogram key old new). subst AllRest (sym adds.1) (record { counters = rest.counters; gauges = rest.gauges; histograms = new_rests sample_root kinds.Histogram old.series.histograms old.series.made key _ refl rest.histograms }))
     step
 
+-- something was said of metrics, and nothing else happened
+pub said_rests : (old new : Exporter) → new ≡ record old { said = new.said } → AllRest old → AllRest new
+said_rests old new same rest = subst AllRest (sym same) (record { counters = rest.counters; gauges = rest.gauges; histograms = rest.histograms })
+
 -- ---- what a page leaves
 
 one_more_rests : {X M : Type 0} (root : X → View M) (kind : MetricKind) (b : Bool) (e : LiveSeries X) (es : List (LiveSeries X)) → IsResting root kind e → EachRests root kind es → EachRests root kind (cond b (e ∷ es) es)

@@ -11,9 +11,9 @@ use Rattle.metrics_core.specs.declared.kinds.SeriesId.{SeriesId}
 use Rattle.drive_script.specs.Script.{RoundText, ScriptText, SettingsText}
 use Rattle.drive_script.specs.Texts.{round_of}
 use Rattle.drive_script.specs.declared.script.Round.{Round}
-use Rattle.script_runs.specs.Play.{PlayState, RoundOrders, AreOrders, AreOrdersAlong, AreOrdersOf, after_calls, after_round, after_setup, exporter_settings, play_start}
+use Rattle.script_runs.specs.Play.{PlayState, RoundOrders, AreOrdersAlong, AreOrdersOf, after_calls, after_round, after_setup, exporter_settings, play_start}
 use Rattle.script_runs.specs.InTurn.{orders_along, orders_in_turn}
-use Rattle.script_runs.specs.Orders.{ForSomeOrders, ForSomeRun, IsCalled, round_text, rounds_text, run_text}
+use Rattle.script_runs.specs.Orders.{ForSomeOrders, ForSomeRounds, ForSomeRun, IsCalled, round_text, rounds_text}
 use Rattle.script_runs.proofs.RunPages.{orders_legal, orders_of_kind}
 
 -- ---- a round
@@ -56,33 +56,33 @@ round_unbegun settings p round told = (orders_in_turn p round, (λ kind. orders_
 
 -- ---- rounds
 
--- What was written so far is the run but for the rounds to come, whatever orders these have.
-abbrev pub IsSoFar : ScriptText → PlayState → List RoundText → Option (List ℕ) → Option (List ℕ) → Type 0
-IsSoFar script p rounds written written' =
-    (rest : List RoundOrders) → AreOrdersAlong script.settings p rounds rest
-    → (choice : List RoundOrders) × AreOrders script choice × GrewUpTo written written' (run_text script choice) (rounds_text script.settings p rounds rest)
+-- What was written so far, from a state and rounds on, is all that is written but for the rounds to come, whatever orders these have.
+abbrev pub IsSoFar : SettingsText → PlayState → List RoundText → PlayState → List RoundText → Option (List ℕ) → Option (List ℕ) → Type 0
+IsSoFar settings start all p rounds written written' =
+    (rest : List RoundOrders) → AreOrdersAlong settings p rounds rest
+    → (choice : List RoundOrders) × AreOrdersAlong settings start all choice × GrewUpTo written written' (rounds_text settings start all choice) (rounds_text settings p rounds rest)
 
-pub so_far-start : (script : ScriptText) (told : Option (List ℕ)) → IsSoFar script play_start script.rounds told told
-so_far-start script told rest legal = (rest, legal, grew_up_to-start told (run_text script rest))
+pub so_far-start : (settings : SettingsText) (start : PlayState) (all : List RoundText) (told : Option (List ℕ)) → IsSoFar settings start all start all told told
+so_far-start settings start all told rest legal = (rest, legal, grew_up_to-start told (rounds_text settings start all rest))
 
-pub so_far-round : (script : ScriptText) (p q : PlayState) (round : RoundText) (rounds : List RoundText) (a b c : Option (List ℕ)) → IsSoFar script p (round ∷ rounds) a b
-    → ForSomeOrders p round (λ orders. (q ≡ after_round script.settings p round orders) × GrewBy b c (round_text script.settings p round orders)) → IsSoFar script q rounds a c
-so_far-round script p q round rounds a b c so_far (orders, legal, (state, grew)) = subst (λ s. IsSoFar script s rounds a c) (sym state) (λ rest legal_rest.
+pub so_far-round : (settings : SettingsText) (start : PlayState) (all : List RoundText) (p q : PlayState) (round : RoundText) (rounds : List RoundText) (a b c : Option (List ℕ)) → IsSoFar settings start all p (round ∷ rounds) a b
+    → ForSomeOrders p round (λ orders. (q ≡ after_round settings p round orders) × GrewBy b c (round_text settings p round orders)) → IsSoFar settings start all q rounds a c
+so_far-round settings start all p q round rounds a b c so_far (orders, legal, (state, grew)) = subst (λ s. IsSoFar settings start all s rounds a c) (sym state) (λ rest legal_rest.
     let longer = so_far (orders ∷ rest) (legal, legal_rest) in
-    (longer.0, longer.1, grew_up_to-append a b c (run_text script longer.0) (round_text script.settings p round orders) (rounds_text script.settings (after_round script.settings p round orders) rounds rest) longer.2 grew))
+    (longer.0, longer.1, grew_up_to-append a b c (rounds_text settings start all longer.0) (round_text settings p round orders) (rounds_text settings (after_round settings p round orders) rounds rest) longer.2 grew))
 
-pub so_far-cut : (script : ScriptText) (p : PlayState) (round : RoundText) (rounds : List RoundText) (a b c : Option (List ℕ)) → IsSoFar script p (round ∷ rounds) a b
-    → ForSomeOrders p round (λ orders. GrewByPrefix b c (round_text script.settings p round orders)) → ForSomeRun script (GrewByPrefix a c)
-so_far-cut script p round rounds a b c so_far (orders, legal, grew) =
-    let after = after_round script.settings p round orders in
-    let rest = orders_along script.settings after rounds in
-    let whole = so_far (orders ∷ rest) (legal, orders_legal script.settings after rounds) in
-    (whole.0, whole.1, grew_up_to-prefix a b c (run_text script whole.0) (round_text script.settings p round orders) (rounds_text script.settings after rounds rest) whole.2 grew)
+pub so_far-cut : (settings : SettingsText) (start : PlayState) (all : List RoundText) (p : PlayState) (round : RoundText) (rounds : List RoundText) (a b c : Option (List ℕ)) → IsSoFar settings start all p (round ∷ rounds) a b
+    → ForSomeOrders p round (λ orders. GrewByPrefix b c (round_text settings p round orders)) → ForSomeRounds settings start all (GrewByPrefix a c)
+so_far-cut settings start all p round rounds a b c so_far (orders, legal, grew) =
+    let after = after_round settings p round orders in
+    let rest = orders_along settings after rounds in
+    let whole = so_far (orders ∷ rest) (legal, orders_legal settings after rounds) in
+    (whole.0, whole.1, grew_up_to-prefix a b c (rounds_text settings start all whole.0) (round_text settings p round orders) (rounds_text settings after rounds rest) whole.2 grew)
 
-pub so_far-end : (script : ScriptText) (p : PlayState) (rounds : List RoundText) (a b : Option (List ℕ)) → rounds ≡ [] → IsSoFar script p rounds a b → ForSomeRun script (GrewBy a b)
-so_far-end script p rounds a b none so_far =
-    let whole = subst (λ rs. IsSoFar script p rs a b) none so_far [] tt in
-    (whole.0, whole.1, grew_up_to-end a b (run_text script whole.0) [] refl whole.2)
+pub so_far-end : (settings : SettingsText) (start : PlayState) (all : List RoundText) (p : PlayState) (rounds : List RoundText) (a b : Option (List ℕ)) → rounds ≡ [] → IsSoFar settings start all p rounds a b → ForSomeRounds settings start all (GrewBy a b)
+so_far-end settings start all p rounds a b none so_far =
+    let whole = subst (λ rs. IsSoFar settings start all p rs a b) none so_far [] tt in
+    (whole.0, whole.1, grew_up_to-end a b (rounds_text settings start all whole.0) [] refl whole.2)
 
 -- a run of which nothing was written
 pub unbegun : (script : ScriptText) (told : Option (List ℕ)) → ForSomeRun script (GrewByPrefix told told)

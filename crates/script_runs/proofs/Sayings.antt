@@ -1,7 +1,9 @@
 -- What is said of a fault and of a run is the line of its status.
-use Rattle.std.proofs.Common.{◌≡◌, ℕ, List, [], ◌∷◌, ◌++◌, sym, ap, ◌∙◌, subst, append_assoc, arith}
+use Rattle.std.proofs.Common.{◌≡◌, ℕ, List, [], ◌∷◌, ◌++◌, sym, ap, ◌∙◌, subst, append_assoc, append-nil, arith}
 use Rattle.std.specs.Prelude.{Option, Some, None, IfSome, codes, decimal}
 use Rattle.metrics_core.specs.Characters.{line, newline}
+use Rattle.dsd_addresses.specs.Faults.{limit_fault_text, limit_text}
+use Rattle.dsd_addresses.specs.declared.faults.LimitFault.{LimitFault}
 use Rattle.drive_script.specs.Faults.{fault_text, setting_text}
 use Rattle.drive_script.specs.declared.faults.SettingFault.{SettingFault}
 use Rattle.drive_script.specs.declared.faults.DriveFault.{DriveFault}
@@ -26,6 +28,21 @@ setting_said Failed said said' fault is text same spelled h =
 -- the line of a bad script, from its pieces
 pub script_line : (digits : List ℕ) (l : ℕ) → digits ≡ decimal l → codes "script: line " ++ (digits ++ newline ∷ []) ≡ line (fault_text (faults.Script l))
 script_line digits l e = ap (λ d. codes "script: line " ++ (d ++ newline ∷ [])) e ∙ sym (append_assoc (codes "script: line ") (decimal l) (newline ∷ []))
+
+-- a payload limit that is refused, from its pieces
+pub length_text : (number : List ℕ) (limit : ℕ) (behind : List ℕ) → number ≡ decimal limit
+    → codes "invalid configuration: maximum payload length (" ++ (number ++ (behind ++ [])) ≡ codes "invalid configuration: " ++ limit_text limit behind
+length_text number limit behind e = (λ i. codes "invalid configuration: maximum payload length (" ++ (e i ++ append-nil behind i))
+
+pub limit_line : (limit : ℕ) (behind : List ℕ) → codes "invalid configuration: " ++ limit_text limit (behind ++ newline ∷ []) ≡ line (codes "invalid configuration: " ++ limit_text limit behind)
+limit_line limit behind = ap (λ t. codes "invalid configuration: maximum payload length (" ++ t) (sym (append_assoc (decimal limit) behind (newline ∷ [])))
+
+-- the line of a refused limit, from what was said of it
+pub limit_said : (Failed : Type 0) (said said' : Option (List ℕ)) (fault : LimitFault) (limit : ℕ) (behind : List ℕ) → limit_fault_text fault ≡ limit_text limit behind
+    → IsSaidText Failed said said' (codes "invalid configuration: " ++ limit_text limit (behind ++ newline ∷ [])) → IsSaidText Failed said said' (line (codes "invalid configuration: " ++ limit_fault_text fault))
+limit_said Failed said said' fault limit behind same h =
+    let P : List ℕ → Type 0 = λ t. IsSaidText Failed said said' t in
+    subst P (limit_line limit behind ∙ sym (ap (λ t. line (codes "invalid configuration: " ++ t)) same)) h
 
 -- the line of a fault is that of its status
 pub fault_line : (left : Option (List ℕ)) (S K : Type 0) (fault : DriveFault) → IfSome left (λ bytes. HasCause bytes S K fault)

@@ -12,7 +12,8 @@ use Rattle.metrics_core.specs.declared.kinds.MetricKind.TheVariants as kinds
 use Rattle.metrics_registry.specs.Recency.{Idle, note_left}
 use Rattle.rolling_summaries.specs.Standing.{NeverFall, NoneAfter}
 use Rattle.rolling_summaries.specs.Window.{Sample, timed_samples, timed_samples_of}
-use Rattle.prom_exporter.specs.State.{PrometheusState, Series, count_of_updates, description_of, kept_at, live, live_series, no_series, register, with_live}
+use Rattle.metric_descriptions.specs.Descriptions.{description_of}
+use Rattle.prom_exporter.specs.State.{PrometheusState, Series, count_of_updates, kept_at, live, live_series, no_series, register, with_live}
 use Rattle.prom_format.specs.Names.{sanitized_metric_name}
 use Rattle.drive_script.specs.Script.{Act, Inc, Abs, Add, Sub, Set, Rec, RecN, CallLine, RoundText, SetupLine, Describe, Register, SettingsText, call_of}
 use Rattle.script_runs.specs.Play.{PlayState, RoundOrders, after_calls, after_round, after_setup, called, setup_step}

@@ -3,13 +3,14 @@ use Rattle.std.specs.Prelude.{◌≡◌, ℕ, ◌<◌, ◌≤◌, ◌⊎◌, Lis
 use Rattle.std.specs.Borrow.{Bor}
 use Rattle.metrics_core.specs.Characters.{line}
 use Rattle.metrics_core.specs.Outside.{GrewBy}
-use Rattle.drive_script.specs.Script.{ScriptText}
+use Rattle.drive_script.specs.Script.{ScriptText, SettingsText}
 use Rattle.drive_script.specs.Valid.{IsFirstBadLine}
 use Rattle.drive_script.specs.Faults.{fault_text}
-use Rattle.drive_script.specs.Settings.{refused_setting}
+use Rattle.drive_script.specs.Settings.{refusal_of, refused_setting}
 use Rattle.drive_script.specs.declared.faults.SettingFault.{SettingFault}
 use Rattle.drive_script.specs.declared.faults.DriveFault.{DriveFault}
 use Rattle.drive_script.specs.declared.faults.DriveFault.TheVariants as faults
+use Rattle.script_runs.specs.Agent.{default_agent}
 use Rattle.script_runs.specs.Headline.{IsPlayedInPart, IsGoodScript, script_limit}
 use Rattle.script_runs.specs.declared.report.Report.{Report}
 
@@ -39,11 +40,14 @@ IsBadScript bytes l = (length bytes ≤ script_limit) × IsFirstBadLine bytes l
 
 -- the bytes are a valid script, and this is the first of its settings that is refused
 abbrev pub IsRefusedSetting : List ℕ → SettingFault → Type 0
-IsRefusedSetting bytes fault = (script : ScriptText) × IsGoodScript bytes script × (refused_setting script.settings ≡ Some fault)
+IsRefusedSetting bytes fault = (script : ScriptText) × IsGoodScript bytes script × (refused_setting script.settings default_agent ≡ Some (refusal_of fault))
 
--- no setting of the script is refused
+-- none of the settings is refused, where payloads go to the agent
+abbrev pub AreAllowed : SettingsText → Type 0
+AreAllowed settings = refused_setting settings default_agent ≡ None
+
 abbrev pub IsAllowed : ScriptText → Type 0
-IsAllowed script = refused_setting script.settings ≡ None
+IsAllowed script = AreAllowed script.settings
 
 -- Why a run over these bytes ended with a fault; `SourceFailed` and `SinkFailed` say that the count of faults of the
 -- source and of the sink of the pages rose in the call. Want of memory is free.

@@ -1,3 +1,4 @@
+pub mod Agent
 pub mod Play
 pub mod InTurn
 pub mod Headline

@@ -2,7 +2,7 @@
 use Rattle.std.specs.Prelude.{◌≡◌, ℕ, List, flat_map}
 use Rattle.prom_format.specs.Pages.{page_text}
 use Rattle.drive_script.specs.Script.{ScriptText, SettingsText, RoundText}
-use Rattle.script_runs.specs.Play.{PlayState, RoundOrders, AreOrders, AreOrdersOf, after_calls, after_setup, pages_along, page_of, play_start}
+use Rattle.script_runs.specs.Play.{PlayState, RoundOrders, AreOrdersAlong, AreOrdersOf, after_calls, after_setup, pages_along, page_of, play_start}
 
 -- the text of a round's page, and of the pages of some rounds, from a state on
 abbrev pub round_text : SettingsText → PlayState → RoundText → RoundOrders → List ℕ
@@ -19,9 +19,12 @@ run_text script choice = rounds_text script.settings play_start script.rounds ch
 abbrev pub IsCalled : PlayState → RoundText → PlayState → Type 0
 IsCalled p round q = (orders : RoundOrders) × AreOrdersOf p round orders × (q ≡ after_calls p round orders)
 
--- it is so for some orders of a round, and for some orders of each round of a script
+-- it is so for some orders of a round, for some orders of each of some rounds, and of each round of a script
 abbrev pub ForSomeOrders : PlayState → RoundText → (RoundOrders → Type 0) → Type 0
 ForSomeOrders p round P = (orders : RoundOrders) × AreOrdersOf (after_setup p round) round orders × P orders
 
+abbrev pub ForSomeRounds : SettingsText → PlayState → List RoundText → (List ℕ → Type 0) → Type 0
+ForSomeRounds settings p rounds P = (choice : List RoundOrders) × AreOrdersAlong settings p rounds choice × P (rounds_text settings p rounds choice)
+
 abbrev pub ForSomeRun : ScriptText → (List ℕ → Type 0) → Type 0
-ForSomeRun script P = (choice : List RoundOrders) × AreOrders script choice × P (run_text script choice)
+ForSomeRun script P = ForSomeRounds script.settings play_start script.rounds P

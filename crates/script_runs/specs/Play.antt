@@ -10,6 +10,8 @@ use Rattle.prom_exporter.specs.State as prom
 use Rattle.prom_exporter.specs.State.{PrometheusState, Series, live}
 use Rattle.prom_exporter.specs.Families.{ExporterSettings, families_at}
 use Rattle.prom_format.specs.Matchers.{sanitized_matcher}
+use Rattle.native_histograms.specs.Native.{NativeText}
+use Rattle.native_histograms.specs.Settings.{depth_of}
 use Rattle.drive_script.specs.Settings.{window_settings}
 use Rattle.drive_script.specs.Script.{ScriptText, SettingsText, RoundText, SetupLine, Describe, Register, CallLine, call_of, global_labels}
 
@@ -19,13 +21,17 @@ use Rattle.drive_script.specs.Script.{ScriptText, SettingsText, RoundText, Setup
 abbrev pub default_quantiles : List ℤ
 default_quantiles = map pos (0 ∷ 500000000 ∷ 900000000 ∷ 950000000 ∷ 990000000 ∷ 999000000 ∷ 1000000000 ∷ [])
 
--- what the exporter of a script is built with; a script has no lines on native histograms yet
+-- what a native histogram is built with, from a factor that is not refused, the greatest number of buckets and the threshold
+abbrev pub native_text : ℤ → ℕ → ℤ → NativeText
+native_text factor max_buckets threshold = record { depth = unwrap_or (depth_of factor) 0; max_buckets = max_buckets; threshold = threshold }
+
+-- what the exporter of a script is built with
 abbrev pub exporter_settings : SettingsText → ExporterSettings
 exporter_settings s = record {
   quantiles = unwrap_or s.quantiles default_quantiles;
   buckets = s.buckets;
   buckets_for = map (λ rule. (sanitized_matcher rule.0, rule.1)) s.buckets_for;
-  native_for = [];
+  native_for = map (λ line. (sanitized_matcher line.matcher, native_text line.factor line.max_buckets line.threshold)) s.native_for;
   bucket_count = (window_settings s.summary).0;
   bucket_duration = (window_settings s.summary).1;
   idle = option_map (λ (mask, timeout). record { mask = mask; timeout = timeout }) s.idle;

@@ -1,10 +1,12 @@
 -- Worked examples, computed.
-use Rattle.std.specs.Prelude.{◌≡◌, ℕ, codes, refl, List, [], ◌∷◌, map}
+use Rattle.std.specs.Prelude.{◌≡◌, ℕ, codes, refl, List, [], ◌∷◌, map, true, Some}
 use Rattle.std.specs.Fmt.{digits}
 use Rattle.std.specs.Str.{chars}
 use Rattle.metrics_core.specs.Characters.{line}
+use Rattle.metrics_core.specs.declared.kinds.MetricKind.TheVariants.{Counter}
+use Rattle.metrics_core.specs.declared.units.Unit.TheVariants.{Bytes}
 use Rattle.prom_format.specs.Pages.{page_text}
-use Rattle.drive_script.specs.Script.{ScriptText}
+use Rattle.drive_script.specs.Script.{ScriptText, RoundText, Describe, Register, Inc, only_globals}
 use Rattle.drive_script.specs.Vectors.{basic, empty, sampled}
 use Rattle.script_runs.specs.Play.{pages_of}
 use Rattle.script_runs.specs.InTurn.{script_orders}
@@ -26,6 +28,27 @@ sampled_page = codes "# TYPE sizes summary\nsizes{quantile=\"0\"} 1.5\nsizes{qua
 pub sampled_pages : pages sampled ≡ sampled_page ∷ []
 unfolding digits chars
 sampled_pages = refl
+
+-- the name of a counter that is described, and of which bytes are counted
+abbrev described_name : List ℕ
+described_name = codes "sent"
+
+abbrev described_round : RoundText
+described_round = record {
+  moment = 0;
+  setup = Describe Counter described_name (Some Bytes) (codes "What went out") ∷ Register Counter (record { name = described_name; labels = [] }) ∷ [];
+  calls = record { lane = 0; handle = 0; act = Inc 7 } ∷ [];
+}
+
+abbrev pub described : ScriptText
+described = record { settings = record (only_globals []) { naming = true }; rounds = described_round ∷ [] }
+
+abbrev pub described_page : List ℕ
+described_page = codes "# HELP sent_bytes_total What went out\n# TYPE sent_bytes_total counter\nsent_bytes_total 7\n\n# EOF\n"
+
+pub described_pages : pages described ≡ described_page ∷ []
+unfolding digits chars
+described_pages = refl
 
 pub no_pages : pages empty ≡ []
 no_pages = refl

@@ -9,7 +9,7 @@ ghost use Rattle.script_runs.specs.Reading.{IsReadAs, IsUnread};
 
 use crate::play::play;
 use crate::reading::read_all;
-use crate::{Gate, Report};
+use crate::{Gate, Report, default_agent};
 use drive_script::{DriveFault, Script, check_settings, read_script};
 use metrics_core::{Sink, Source};
 use std::alloc::Global;
@@ -45,7 +45,7 @@ pub fn drive<R: Threads + Wait + Sync, S: Source, K: Sink, G: Gate + Sync>(
         IsComplete bytes (Rose (S.faults source.old) (S.faults source.new)) (Rose (K.faults out.old) (K.faults out.new)) (end_status result)) }
 {
     let script = read_whole_script(alloc, source)?;
-    check_settings(&script.settings)?;
+    check_settings(&script.settings, &default_agent())?;
     play(rt, alloc, gate, script, out)
 }
 

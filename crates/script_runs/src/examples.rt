@@ -5,7 +5,7 @@ ghost use Rattle.metrics_core.specs.Characters.{line};
 ghost use Rattle.drive_script.specs.Vectors.{basic, empty, sampled};
 ghost use Rattle.script_runs.specs.Answers.{report_of, report_text};
 ghost use Rattle.script_runs.specs.Headline.{IsPagesOf};
-ghost use Rattle.script_runs.specs.Vectors.{basic_page, pages, sampled_page};
+ghost use Rattle.script_runs.specs.Vectors.{basic_page, described, described_page, pages, sampled_page};
 
 /// A script that registers one counter and adds 42 to it: its run is one page, and its report counts one.
 pub fn basic_example()
@@ -19,6 +19,13 @@ pub fn basic_example()
 pub fn sampled_example()
     ensures computed { pages sampled ≡ sampled_page ∷ [] }
     ensures run { IsPagesOf sampled sampled_page }
+{}
+
+/// A script whose names are as recommended describes a counter of bytes, registers it and adds 7 to it: its page has the help line, and
+/// the name ends with the unit and with `total`.
+pub fn described_example()
+    ensures computed { pages described ≡ described_page ∷ [] }
+    ensures run { IsPagesOf described described_page }
 {}
 
 /// The empty script: its run writes nothing.

@@ -1,6 +1,6 @@
 //! The lanes of a round: which series each one's calls are on, and the calls.
 
-ghost use Rattle.std.specs.Prelude.{◌≡◌, ◌<◌, ◌≤◌, ◌++◌, ◌∷◌, ◌+◌, ◌&&◌, ℕ, List, [], All, IfOk, IfSome, OnOk, filter, length, map, slice_get};
+ghost use Rattle.std.specs.Prelude.{◌≡◌, ◌<◌, ◌++◌, ◌∷◌, ◌+◌, ◌&&◌, ℕ, List, [], All, IfOk, IfSome, OnOk, filter, length, map, slice_get};
 ghost use Rattle.cell_lanes.specs.declared.lane.Lane.{Lane};
 ghost use Rattle.metrics_core.specs.declared.calls.SeriesCall.{SeriesCall};
 ghost use Rattle.metrics_core.specs.declared.kinds.SeriesId.{SeriesId};

@@ -7,6 +7,7 @@
 //!     let status = run(rt, alloc, &["drive"], &mut source, &mut out, &mut err, &Free);
 #![tactic(auto)]
 
+mod agent;
 mod driving;
 mod examples;
 mod gates;
@@ -19,8 +20,9 @@ mod running;
 mod say;
 mod settings;
 
+pub use agent::default_agent;
 pub use driving::drive;
-pub use examples::{basic_example, empty_example, sampled_example};
+pub use examples::{basic_example, described_example, empty_example, sampled_example};
 pub use gates::{Free, Gate};
 pub use relaying::relay;
 pub use report::Report;

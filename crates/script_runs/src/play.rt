@@ -16,15 +16,17 @@ use crate::settings::builder_of;
 use crate::{Gate, Report};
 use cell_lanes::run_lanes;
 use drive_script::{CallLine, DriveFault, Round, Script, Settings, Setup};
-use metrics_core::{Memory, MetricKind, SeriesId, Sink, write_whole};
+use metrics_core::{
+    Key, KeyName, Memory, MetricKind, SeriesId, SharedString, Sink, Unit, write_whole,
+};
 use prom_exporter::{BuildError, PrometheusState};
 use std::alloc::Global;
 use std::sync::Wait;
 use std::thread::Threads;
 
 /// Plays a script: the lanes of each round run side by side, and then a page goes to the sink, ended by the line `# EOF`.
-/// The gate is called around each call of a lane. The script is taken apart: the exporter keeps its keys, and the rest of a
-/// round is let go at the round's end.
+/// The gate is called around each call of a lane. The script is taken apart: the exporter keeps its keys and descriptions, and
+/// the rest of a round is let go at the round's end. The exporter is ended whatever comes of the play.
 pub fn play<R: Threads + Wait + Sync, G: Gate + Sync, K: Sink>(
     rt: &R,
     alloc: Global,
@@ -45,9 +47,9 @@ pub fn play<R: Threads + Wait + Sync, G: Gate + Sync, K: Sink>(
     let Script { settings, rounds } = script;
     let pages = rounds.len() as u64;
     let mut player = Player::new(alloc, settings)?;
-    for round in rounds {
-        player.play_round(rt, alloc, gate, round, out)?;
-    }
+    let played = player.play_rounds(rt, alloc, gate, rounds, out);
+    player.end(rt);
+    played?;
     Ok(Report {
         pages,
         sent: 0,
@@ -56,8 +58,7 @@ pub fn play<R: Threads + Wait + Sync, G: Gate + Sync, K: Sink>(
     })
 }
 
-/// The exporter, and the series that each register line so far was given.
-#[derive(Drop)]
+/// The exporter, and the series that each register line so far was given. It can't be let go: end it by `end`.
 pub struct Player {
     pub exporter: PrometheusState,
     pub handles: Vec<SeriesId>,
@@ -66,26 +67,25 @@ pub struct Player {
 }
 
 impl Player {
-    ghost use Rattle.std.specs.Prelude.{◌≡◌, ◌≤◌, ℕ, All, None, [], ◌∷◌, fold, map, IfOk, IfErr, OnOk, OnErr};
+    ghost use Rattle.std.specs.Prelude.{◌≡◌, ◌≤◌, ℕ, All, [], ◌∷◌, fold, map, string_bytes, IfOk, IfErr, OnOk, OnErr};
     ghost use Rattle.metrics_core.specs.Outside.{Rose, GrewBy, GrewByPrefix};
     ghost use Rattle.prom_format.specs.Pages.{page_text};
     ghost use Rattle.prom_exporter.specs.State.{page_step};
-    ghost use Rattle.prom_exporter.specs.Exporter.{AllHome, page_families, state_of as prometheus_of};
-    ghost use Rattle.drive_script.specs.Script.{RoundText, SettingsText};
-    ghost use Rattle.drive_script.specs.Settings.{refused_setting};
+    ghost use Rattle.prom_exporter.specs.Exporter.{page_families, state_of as prometheus_of};
+    ghost use Rattle.drive_script.specs.Script.{RoundText, SettingsText, Describe, Register};
     ghost use Rattle.drive_script.specs.Texts.{round_of, settings_of, setup_of, call_line_of};
-    ghost use Rattle.script_runs.specs.Answers.{IsPlayFault};
-    ghost use Rattle.script_runs.specs.Orders.{ForSomeOrders, IsCalled, round_text};
+    ghost use Rattle.script_runs.specs.Answers.{AreAllowed, IsPlayFault};
+    ghost use Rattle.script_runs.specs.Orders.{ForSomeOrders, ForSomeRounds, IsCalled, round_text};
     ghost use Rattle.script_runs.specs.Play.{after_round, play_start, setup_step, exporter_settings};
     ghost use Rattle.script_runs.specs.Player.{state_of};
     ghost use Rattle.script_runs.specs.Resting.{AllRest};
     ghost use Rattle.script_runs.specs.Fitting.{CallsFit, FitsHandle};
     ghost use Rattle.script_runs.specs.Recorded.{AllRecordSome, RecordsSome};
-    ghost use Rattle.script_runs.specs.Timely.{IsTimelyState};
+    ghost use Rattle.script_runs.specs.Timely.{IsTimelyState, RiseFrom};
 
     /// A player before its first round, over an exporter with these settings.
     fn new(alloc: Global, settings: Settings) -> Result<Player, Memory>
-        requires allowed { refused_setting (settings_of settings) ≡ None }
+        requires allowed { AreAllowed (settings_of settings) }
         ensures start { IfOk result (λ player. state_of player ≡ play_start) }
         ensures settings { IfOk result (λ player. player.exporter.settings ≡ exporter_settings (settings_of settings)) }
         ensures rest { IfOk result (λ player. AllRest player.exporter) }
@@ -99,6 +99,43 @@ impl Player {
             }),
             Err(_) => Err(Memory),
         }
+    }
+
+    /// Plays rounds, one after another, up to the first that fails.
+    fn play_rounds<R: Threads + Wait + Sync, G: Gate + Sync, K: Sink>(
+        &mut self,
+        rt: &R,
+        alloc: Global,
+        gate: &G,
+        rounds: Vec<Round>,
+        out: &mut K,
+    ) -> Result<(), DriveFault>
+        requires fit { CallsFit self.old.handles.items (map round_of rounds.items) }
+        requires some { All AllRecordSome (map round_of rounds.items) }
+        requires timely { (moment : ℕ) × IsTimelyState moment (prometheus_of self.old.exporter) × RiseFrom moment (map round_of rounds.items) }
+        requires rest { AllRest self.old.exporter }
+        requires settings { (settings : SettingsText) × (self.old.exporter.settings ≡ exporter_settings settings) }
+        ensures pages { (settings : SettingsText) → self.old.exporter.settings ≡ exporter_settings settings
+            → OnOk result (ForSomeRounds settings (state_of self.old) (map round_of rounds.items) (GrewBy (K.written out.old) (K.written out.new))) }
+        ensures prefix { (settings : SettingsText) → self.old.exporter.settings ≡ exporter_settings settings
+            → OnErr result (ForSomeRounds settings (state_of self.old) (map round_of rounds.items) (GrewByPrefix (K.written out.old) (K.written out.new))) }
+        ensures cause { IfErr result (IsPlayFault (Rose (K.faults out.old) (K.faults out.new))) }
+        ensures never_falls { K.faults out.old ≤ K.faults out.new }
+    {
+        for round in rounds {
+            self.play_round(rt, alloc, gate, round, out)?;
+        }
+        Ok(())
+    }
+
+    /// Ends the exporter.
+    fn end<R: Wait>(self, rt: &R) {
+        let Player {
+            exporter,
+            handles: _,
+            guesses: _,
+        } = self;
+        exporter.end(rt);
     }
 
     /// Plays a round: its setup, its calls, its page.
@@ -131,14 +168,19 @@ impl Player {
             setup,
             calls,
         } = round;
-        self.set_up(alloc, setup)?;
+        self.set_up(rt, alloc, setup)?;
         self.make_calls(rt, alloc, gate, moment, calls)?;
         self.write_page(rt, alloc, moment, out)
     }
 
     /// Does the setup lines in order. They are taken from the end of a list that is turned round, so that the room of those
     /// which are done is given back on the way.
-    fn set_up(&mut self, alloc: Global, mut setup: Vec<Setup>) -> Result<(), Memory>
+    fn set_up<R: Wait>(
+        &mut self,
+        rt: &R,
+        alloc: Global,
+        mut setup: Vec<Setup>,
+    ) -> Result<(), Memory>
         ensures settings { self.new.exporter.settings ≡ self.old.exporter.settings }
         ensures rest { AllRest self.old.exporter → AllRest self.new.exporter }
         ensures stepped { OnOk result (state_of self.new ≡ fold setup_step (state_of self.old) (map setup_of setup.items)) }
@@ -146,35 +188,83 @@ impl Player {
         self.make_room(&setup)?;
         setup.reverse();
         while let Some(line) = setup.pop() {
-            self.set_up_line(alloc, line)?;
+            self.set_up_line(rt, alloc, line)?;
             give_room_back(&mut setup);
         }
         Ok(())
     }
 
-    /// Makes room for what setup lines make, where they are at least as many as those before them.
+    /// Makes room for what register lines make, where they are at least as many as those before them.
     fn make_room(&mut self, setup: &[Setup]) -> Result<(), Memory>
         ensures exporter { self.new.exporter ≡ self.old.exporter }
         ensures handles { self.new.handles.items ≡ self.old.handles.items }
     {
-        if setup.len() < self.handles.len() {
+        let registrations = setup.iter().filter(|line| registers(line)).count();
+        if registrations < self.handles.len() {
             return Ok(());
         }
-        let counters = setup.iter().filter(|line| is_counter(line)).count();
-        let gauges = setup.iter().filter(|line| is_gauge(line)).count();
+        let counters = setup
+            .iter()
+            .filter(|line| registers_a(line, MetricKind::Counter))
+            .count();
+        let gauges = setup
+            .iter()
+            .filter(|line| registers_a(line, MetricKind::Gauge))
+            .count();
         self.exporter.reserve(counters, gauges)?;
-        self.handles.reserve(setup.len())?;
-        self.guesses.reserve(setup.len())?;
+        self.handles.reserve(registrations)?;
+        self.guesses.reserve(registrations)?;
         Ok(())
     }
 
     /// Does one setup line.
-    fn set_up_line(&mut self, alloc: Global, line: Setup) -> Result<(), Memory>
+    fn set_up_line<R: Wait>(&mut self, rt: &R, alloc: Global, line: Setup) -> Result<(), Memory>
         ensures settings { self.new.exporter.settings ≡ self.old.exporter.settings }
         ensures rest { AllRest self.old.exporter → AllRest self.new.exporter }
         ensures stepped { OnOk result (state_of self.new ≡ setup_step (state_of self.old) (setup_of line)) }
     {
-        let Setup::Register { kind, key } = line;
+        match line {
+            Setup::Describe {
+                kind,
+                name,
+                unit,
+                text,
+            } => self.describe(rt, alloc, kind, name, unit, text),
+            Setup::Register { kind, key } => self.register(alloc, kind, key),
+        }
+    }
+
+    /// Describes the metric of a kind and a name. The exporter keeps the text.
+    fn describe<R: Wait>(
+        &mut self,
+        rt: &R,
+        alloc: Global,
+        kind: MetricKind,
+        name: String,
+        unit: Option<Unit>,
+        text: String,
+    ) -> Result<(), Memory>
+        ensures settings { self.new.exporter.settings ≡ self.old.exporter.settings }
+        ensures rest { AllRest self.old.exporter → AllRest self.new.exporter }
+        ensures stepped { OnOk result (state_of self.new ≡ setup_step (state_of self.old) (Describe kind (string_bytes name) unit (string_bytes text))) }
+    {
+        let name = KeyName::from(name);
+        let text = SharedString::from_owned(text);
+        match kind {
+            MetricKind::Counter => self.exporter.describe_counter(rt, alloc, name, unit, text),
+            MetricKind::Gauge => self.exporter.describe_gauge(rt, alloc, name, unit, text),
+            MetricKind::Histogram => self
+                .exporter
+                .describe_histogram(rt, alloc, name, unit, text),
+        }
+    }
+
+    /// Registers a series of a kind under a key, and gives it the next handle.
+    fn register(&mut self, alloc: Global, kind: MetricKind, key: Key) -> Result<(), Memory>
+        ensures settings { self.new.exporter.settings ≡ self.old.exporter.settings }
+        ensures rest { AllRest self.old.exporter → AllRest self.new.exporter }
+        ensures stepped { OnOk result (state_of self.new ≡ setup_step (state_of self.old) (Register kind key)) }
+    {
         let id = match kind {
             MetricKind::Counter => self.exporter.register_owned_counter(alloc, key)?,
             MetricKind::Gauge => self.exporter.register_owned_gauge(alloc, key)?,
@@ -244,16 +334,17 @@ impl Player {
     }
 }
 
-/// Whether a setup line registers a counter.
-fn is_counter(line: &Setup) -> bool {
-    let Setup::Register { kind, key: _ } = line;
-    *kind == MetricKind::Counter
+/// Whether a setup line registers a series.
+fn registers(line: &Setup) -> bool {
+    matches!(line, Setup::Register { .. })
 }
 
-/// Whether a setup line registers a gauge.
-fn is_gauge(line: &Setup) -> bool {
-    let Setup::Register { kind, key: _ } = line;
-    *kind == MetricKind::Gauge
+/// Whether a setup line registers a series of this kind.
+fn registers_a(line: &Setup, kind: MetricKind) -> bool {
+    match line {
+        Setup::Register { kind: own, key: _ } => *own == kind,
+        Setup::Describe { .. } => false,
+    }
 }
 
 /// Gives the room of lines that were taken away back, where it is at least half of all.

@@ -1,6 +1,6 @@
 //! The top call: the words of the command line, and what each form of them does.
 
-ghost use Rattle.std.specs.Prelude.{◌≡◌, ◌≢◌, ◌∷◌, [], ◌⊎◌, ◌↔◌, ℕ, List, IsTrue, IfSome, codes};
+ghost use Rattle.std.specs.Prelude.{◌≡◌, ◌∷◌, [], ◌⊎◌, ◌↔◌, ℕ, List, IsTrue, IfSome};
 ghost use Rattle.metrics_core.specs.Outside.{Rose};
 ghost use Rattle.drive_script.specs.declared.faults.SettingFault.{SettingFault};
 ghost use Rattle.script_runs.specs.Answers.{fault_status, texts_of, IsBadScript, IsComplete, IsDriveWords, IsRefusedSetting};

@@ -1,15 +1,17 @@
 //! The lines that a run leaves on `err`. They are written piece by piece and take no memory, so that want of memory is
 //! said too.
 
-ghost use Rattle.std.specs.Prelude.{◌≡◌, ◌≤◌, flat_map};
+ghost use Rattle.std.specs.Prelude.{◌++◌, codes, flat_map};
 ghost use Rattle.metrics_core.specs.Characters.{line};
 ghost use Rattle.metrics_core.specs.Outside.{Rose};
+ghost use Rattle.dsd_addresses.specs.Faults.{limit_fault_text, limit_text};
 ghost use Rattle.drive_script.specs.Faults.{fault_text, setting_text};
 ghost use Rattle.script_runs.specs.Answers.{IsSaidText, report_text, usage_text};
 ghost use Rattle.script_runs.specs.Relay.{merged_text, relay_fault_text};
 
 use crate::Report;
 use drive_script::{DriveFault, SettingFault};
+use dsd_addresses::LimitFault;
 use itoa::Buffer;
 use metrics_core::{Sink, write_whole};
 use page_relay::RelayFault;
@@ -76,7 +78,51 @@ fn say_setting<E: Sink>(err: &mut E, fault: SettingFault)
         SettingFault::SpanTooLong => {
             say(err, &[b"bucket durations exceed 64 bits of nanoseconds\n"]);
         }
+        SettingFault::Native(reason) => say(err, &[reason.as_bytes(), b"\n"]),
+        SettingFault::Limit(fault) => say_limit(err, fault),
     }
+}
+
+/// Says why a payload limit is refused.
+fn say_limit<E: Sink>(err: &mut E, fault: LimitFault)
+    ensures said { IsSaidText (Rose (E.faults err.old) (E.faults err.new)) (E.written err.old) (E.written err.new)
+        (line (codes "invalid configuration: " ++ limit_fault_text fault)) }
+{
+    match fault {
+        LimitFault::Low(limit) => {
+            say_length(err, limit, b" bytes) is below the minimum (6 bytes)\n");
+        }
+        LimitFault::Udp(limit) => {
+            say_length(
+                err,
+                limit,
+                b" bytes) exceeds UDP datagram maximum length (65527 bytes)\n",
+            );
+        }
+        LimitFault::Bound(limit) => {
+            say_length(
+                err,
+                limit,
+                b" bytes) exceeds theoretical upper bound (4294967295 bytes)\n",
+            );
+        }
+    }
+}
+
+/// Says that a payload limit is refused, with what is said behind its number.
+fn say_length<E: Sink>(err: &mut E, limit: u64, behind: &[u8])
+    ensures said { IsSaidText (Rose (E.faults err.old) (E.faults err.new)) (E.written err.old) (E.written err.new)
+        (codes "invalid configuration: " ++ limit_text limit behind.now) }
+{
+    let mut number = Buffer::new();
+    say(
+        err,
+        &[
+            b"invalid configuration: maximum payload length (",
+            number.format(limit).as_bytes(),
+            behind,
+        ],
+    );
 }
 
 /// Says how many pages were merged.

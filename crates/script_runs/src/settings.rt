@@ -1,17 +1,18 @@
 //! The exporter that a script's settings ask for.
 
-ghost use Rattle.std.specs.Prelude.{◌≡◌, ◌++◌, None, Ok, IfOk, fold, map, option_map, unwrap_or};
+ghost use Rattle.std.specs.Prelude.{◌≡◌, ◌++◌, ◌||◌, None, Ok, IfOk, fold, map, option_map, unwrap_or};
 ghost use Rattle.std.specs.Int.NonZero.{non_zero_u32_get};
 ghost use Rattle.metrics_core.specs.Keys.{put_label};
 ghost use Rattle.prom_format.specs.LabelSets.{labels_of};
-ghost use Rattle.drive_script.specs.Settings.{refused_setting};
 ghost use Rattle.drive_script.specs.Texts.{settings_of, values_of};
-ghost use Rattle.script_runs.specs.Play.{exporter_settings};
-ghost use Rattle.script_runs.specs.Told.{rule_told};
+ghost use Rattle.script_runs.specs.Answers.{AreAllowed};
+ghost use Rattle.script_runs.specs.Play.{exporter_settings, native_text};
+ghost use Rattle.script_runs.specs.Told.{native_told, rule_told};
 
 use drive_script::Settings;
 use metrics_core::{Fixed, Memory};
 use metrics_registry::MetricKindMask;
+use native_histograms::NativeHistogramConfig;
 use prom_exporter::{BuildError, PrometheusBuilder};
 use prom_format::Matcher;
 use std::alloc::Global;
@@ -19,15 +20,17 @@ use std::num::NonZeroU32;
 
 /// A builder of an exporter with these settings, none of which is refused.
 pub(crate) fn builder_of(alloc: Global, settings: Settings) -> Result<PrometheusBuilder, Memory>
-    requires allowed { refused_setting (settings_of settings) ≡ None }
-    ensures { IfOk result (λ builder. builder ≡ exporter_settings (settings_of settings)) }
+    requires allowed { AreAllowed (settings_of settings) }
+    ensures { IfOk result (λ builder. builder.settings ≡ exporter_settings (settings_of settings)) }
 {
     let builder = PrometheusBuilder::new(alloc)?;
     let builder = with_quantiles(alloc, builder, settings.quantiles)?;
     let builder = with_buckets(alloc, builder, settings.buckets)?;
     let builder = with_rules(alloc, builder, settings.buckets_for)?;
+    let builder = with_native_rules(alloc, builder, settings.native_for)?;
     let builder = with_window(builder, settings.summary)?;
     let builder = with_idle(builder, settings.idle);
+    let builder = with_names(builder, settings.naming, settings.units);
     with_globals(alloc, builder, settings.globals)
 }
 
@@ -37,7 +40,7 @@ fn with_quantiles(
     builder: PrometheusBuilder,
     quantiles: Option<Vec<Fixed>>,
 ) -> Result<PrometheusBuilder, Memory>
-    ensures { IfOk result (λ told. told ≡ record builder { quantiles = unwrap_or (option_map (λ numbers. values_of numbers.items) quantiles) builder.quantiles }) }
+    ensures { IfOk result (λ told. told ≡ record builder { settings = record builder.settings { quantiles = unwrap_or (option_map (λ numbers. values_of numbers.items) quantiles) builder.settings.quantiles } }) }
 {
     let Some(quantiles) = quantiles else {
         return Ok(builder);
@@ -51,8 +54,8 @@ fn with_buckets(
     builder: PrometheusBuilder,
     buckets: Option<Vec<Fixed>>,
 ) -> Result<PrometheusBuilder, Memory>
-    requires { builder.buckets ≡ None }
-    ensures { IfOk result (λ told. told ≡ record builder { buckets = option_map (λ numbers. values_of numbers.items) buckets }) }
+    requires { builder.settings.buckets ≡ None }
+    ensures { IfOk result (λ told. told ≡ record builder { settings = record builder.settings { buckets = option_map (λ numbers. values_of numbers.items) buckets } }) }
 {
     let Some(buckets) = buckets else {
         return Ok(builder);
@@ -66,7 +69,7 @@ fn with_rules(
     builder: PrometheusBuilder,
     rules: Vec<(Matcher, Vec<Fixed>)>,
 ) -> Result<PrometheusBuilder, Memory>
-    ensures { IfOk result (λ told. told ≡ record builder { buckets_for = builder.buckets_for ++ map rule_told rules.items }) }
+    ensures { IfOk result (λ told. told ≡ record builder { settings = record builder.settings { buckets_for = builder.settings.buckets_for ++ map rule_told rules.items } }) }
 {
     let mut builder = builder;
     for (matcher, bounds) in rules {
@@ -75,14 +78,46 @@ fn with_rules(
     Ok(builder)
 }
 
+/// A builder that is told of which names native histograms are made, and how.
+fn with_native_rules(
+    alloc: Global,
+    builder: PrometheusBuilder,
+    rules: Vec<(Matcher, Fixed, u32, Fixed)>,
+) -> Result<PrometheusBuilder, Memory>
+    ensures { IfOk result (λ told. told ≡ record builder { settings = record builder.settings { native_for = builder.settings.native_for ++ map native_told rules.items } }) }
+{
+    let mut builder = builder;
+    for (matcher, factor, max_buckets, threshold) in rules {
+        let config = native_config(factor, max_buckets, threshold)?;
+        builder = granted(builder.set_native_histogram_for_metric(alloc, matcher, config))?;
+    }
+    Ok(builder)
+}
+
+/// The settings of a native histogram, none of which is refused.
+fn native_config(
+    factor: Fixed,
+    max_buckets: u32,
+    threshold: Fixed,
+) -> Result<NativeHistogramConfig, Memory>
+    ensures { IfOk result (λ config. config ≡ native_text factor.0 max_buckets threshold.0) }
+{
+    match NativeHistogramConfig::new(factor, max_buckets, threshold) {
+        Ok(config) => Ok(config),
+        Err(_) => Err(Memory),
+    }
+}
+
 /// A builder that is told the window of summaries, if there is one.
 fn with_window(
     builder: PrometheusBuilder,
     summary: Option<(NonZeroU32, u64)>,
 ) -> Result<PrometheusBuilder, Memory>
     ensures { IfOk result (λ told. told ≡ record builder {
-      bucket_count = unwrap_or (option_map (λ window. non_zero_u32_get window.0) summary) builder.bucket_count;
-      bucket_duration = unwrap_or (option_map (λ window. window.1) summary) builder.bucket_duration;
+      settings = record builder.settings {
+        bucket_count = unwrap_or (option_map (λ window. non_zero_u32_get window.0) summary) builder.settings.bucket_count;
+        bucket_duration = unwrap_or (option_map (λ window. window.1) summary) builder.settings.bucket_duration;
+      };
     }) }
 {
     let Some((count, duration)) = summary else {
@@ -97,13 +132,25 @@ fn with_window(
 
 /// A builder that is told which series fall idle, and when, if any do.
 fn with_idle(builder: PrometheusBuilder, idle: Option<(MetricKindMask, u64)>) -> PrometheusBuilder
-    requires { builder.idle ≡ None }
-    ensures { result ≡ record builder { idle = option_map (λ (mask, timeout). record { mask = mask; timeout = timeout }) idle } }
+    requires { builder.settings.idle ≡ None }
+    ensures { result ≡ record builder { settings = record builder.settings { idle = option_map (λ (mask, timeout). record { mask = mask; timeout = timeout }) idle } } }
 {
     match idle {
         Some((mask, timeout)) => builder.idle_timeout(mask, Some(timeout)),
         None => builder,
     }
+}
+
+/// A builder that is told whether names are as recommended, and whether they end with units.
+fn with_names(builder: PrometheusBuilder, naming: bool, units: bool) -> PrometheusBuilder
+    ensures { result ≡ record builder {
+      unit_suffix = units;
+      settings = record builder.settings { units = naming || units; total_suffix = naming };
+    } }
+{
+    builder
+        .set_enable_unit_suffix(units)
+        .with_recommended_naming(naming)
 }
 
 /// A builder that is told global labels.
@@ -112,7 +159,7 @@ fn with_globals(
     builder: PrometheusBuilder,
     globals: Vec<(String, String)>,
 ) -> Result<PrometheusBuilder, Memory>
-    ensures { IfOk result (λ told. told ≡ record builder { globals = fold put_label builder.globals (labels_of globals.items) }) }
+    ensures { IfOk result (λ told. told ≡ record builder { settings = record builder.settings { globals = fold put_label builder.settings.globals (labels_of globals.items) } }) }
 {
     let mut builder = builder;
     for (key, value) in globals {

@@ -1,10 +1,11 @@
 use Rattle.std.proofs.Common.{[], refl}
-use Rattle.std.specs.Prelude.{IfSome}
+use Rattle.std.specs.Prelude.{IfSome, Some, None}
 use Rattle.std.proofs.lemmas.Result.{on_ok_weaker}
 use Rattle.metrics_core.specs.Outside.{Rose}
+use Rattle.drive_script.specs.Settings.{refusal_of}
 use Rattle.drive_script.specs.Texts.{script_of}
 use Rattle.script_runs.specs.Answers.{IsPlayFault, LeavesPrefix, end_status}
-use Rattle.script_runs.proofs.DriveSteps.{complete_handed_on, err_with, good_answers, play_ends, played_prefix, played_whole, refused_answers, unread_answers}
+use Rattle.script_runs.proofs.DriveSteps.{at_agent, complete_handed_on, err_with, good_answers, play_ends, played_prefix, played_whole, refused_answers, unread_answers}
 use Rattle.script_runs.proofs.RecordedRounds.{script_records}
 use Rattle.script_runs.proofs.TimelyRounds.{rise_from_start}
 use Rattle.script_runs.proofs.driving.drive.Goals as goal
@@ -44,7 +45,7 @@ returns-clause-prefix g c =
 pub returns-clause-complete : goal.returns-clause-complete
 returns-clause-complete g c =
     let read = c.in_ok-script.ensures.read in
-    good_answers _ read.bytes _ _ (script_of c.in_ok-script.script) (end_status c.play.result) read.whole read.good.0 read.good.1 c.in_ok-check_settings.ensures.allowed
+    good_answers _ read.bytes _ _ (script_of c.in_ok-script.script) (end_status c.play.result) read.whole read.good.0 read.good.1 (at_agent (script_of c.in_ok-script.script).settings None c.default_agent.result c.default_agent.ensures c.in_ok-check_settings.ensures.allowed)
     (play_ends (Rose (g.K.Sink.faults c.args.out.now) (g.K.Sink.faults c.play.new.out)) c.play.result c.play.ensures.cause)
 
 pub returns-in_err-check_settings-clause-complete : goal.returns-in_err-check_settings-clause-complete
@@ -54,4 +55,5 @@ returns-in_err-check_settings-clause-complete g c =
     let left = g.S.Source.left c.args.source.now in
     let read = c.in_ok-script.ensures.read in
     complete_handed_on left SourceFailed SinkFailed c.from_residual-in_err-check_settings.result _ c.from_residual-in_err-check_settings.ensures.1
-    (refused_answers left read.bytes SourceFailed SinkFailed (script_of c.in_ok-script.script) c.in_err-check_settings.field-0.0 read.whole read.good c.in_err-check_settings.ensures.refused)
+    (refused_answers left read.bytes SourceFailed SinkFailed (script_of c.in_ok-script.script) c.in_err-check_settings.field-0.0 read.whole read.good
+    (at_agent (script_of c.in_ok-script.script).settings (Some (refusal_of c.in_err-check_settings.field-0.0)) c.default_agent.result c.default_agent.ensures c.in_err-check_settings.ensures.refused))

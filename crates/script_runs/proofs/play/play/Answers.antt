@@ -1,104 +1,34 @@
-use Rattle.std.proofs.Common.{◌≡◌, ◌∷◌, [], List, subst, sym, ap, ◌∙◌, map, arith}
-use Rattle.std.specs.Prelude.{All}
-use Rattle.std.proofs.lemmas.List.{nil_from_length}
-use Rattle.std.proofs.lemmas.List.Elements.{All-head, All-nil, All-tail}
-use Rattle.std.specs.Vec.Iter.{into_iter_items}
-use Rattle.metrics_core.specs.Outside.{Rose}
-use Rattle.drive_script.specs.Script.{RoundText}
+use Rattle.std.proofs.Common.{map, subst, sym}
+use Rattle.std.proofs.lemmas.List.Elements.{All-nil}
+use Rattle.metrics_core.specs.Outside.{GrewBy, GrewByPrefix}
 use Rattle.drive_script.specs.Texts.{script_of, settings_of, round_of}
-use Rattle.script_runs.specs.Answers.{IsPlayFault}
 use Rattle.script_runs.specs.Fitting.{CallsFit}
-use Rattle.script_runs.specs.Play.{PlayState, play_start}
-use Rattle.script_runs.specs.Player.{state_of}
-use Rattle.script_runs.specs.Recorded.{AllRecordSome}
-use Rattle.script_runs.specs.Timely.{IsTimelyState, RiseFrom}
-use Rattle.script_runs.proofs.DriveSteps.{play_fault_later}
-use Rattle.script_runs.proofs.Fits.{first_fits, rest_fits}
-use Rattle.script_runs.proofs.Returned.{if_handed_on, on_handed_on}
-use Rattle.script_runs.proofs.RoundSteps.{IsSoFar, so_far-cut, so_far-end, so_far-round, so_far-start, unbegun}
-use Rattle.script_runs.proofs.TimelyRounds.{later_timely, round_timely}
+use Rattle.script_runs.specs.Orders.{ForSomeRounds}
+use Rattle.script_runs.specs.Play.{PlayState}
+use Rattle.script_runs.specs.Timely.{IsTimelyState}
+use Rattle.script_runs.proofs.Returned.{on_handed_on}
+use Rattle.script_runs.proofs.RoundSteps.{unbegun}
 use Rattle.script_runs.proofs.play.play.Goals as goal
 
-pub play_round-requires-clause-fit : goal.play_round-requires-clause-fit
-play_round-requires-clause-fit g c κs within =
-    let steps : into_iter_items c.loop-round.round-iterator ≡ c.in-Some.round ∷ into_iter_items c.next.new.self = c.in-Some.ensures.steps.0 in
-    first_fits _ (round_of c.in-Some.round) _ (subst (CallsFit c.loop-round.player.handles.items) (ap (map round_of) steps) c.loop-round.invariant.fit)
+pub play_rounds-played-requires-clause-fit : goal.play_rounds-played-requires-clause-fit
+play_rounds-played-requires-clause-fit g c κs within = subst (λ (p : PlayState). CallsFit p.handles (map round_of c.args.script.rounds.items)) (sym c.in_ok-player.ensures.start) c.requires.fit
 
-pub play_round-requires-clause-some : goal.play_round-requires-clause-some
-play_round-requires-clause-some g c κs within =
-    let steps : into_iter_items c.loop-round.round-iterator ≡ c.in-Some.round ∷ into_iter_items c.next.new.self = c.in-Some.ensures.steps.0 in
-    All-head AllRecordSome (round_of c.in-Some.round) _ (subst (All AllRecordSome) (ap (map round_of) steps) c.loop-round.invariant.some)
+pub play_rounds-played-requires-clause-timely : goal.play_rounds-played-requires-clause-timely
+play_rounds-played-requires-clause-timely g c κs within = (0, subst (λ (p : PlayState). IsTimelyState 0 p.prometheus) (sym c.in_ok-player.ensures.start) (All-nil _), c.requires.moments)
 
-pub play_round-requires-clause-timely : goal.play_round-requires-clause-timely
-play_round-requires-clause-timely g c κs within =
-    let steps : into_iter_items c.loop-round.round-iterator ≡ c.in-Some.round ∷ into_iter_items c.next.new.self = c.in-Some.ensures.steps.0 in
-    let (m, timely, rises) = c.loop-round.invariant.timely in
-    let ahead : RiseFrom m (round_of c.in-Some.round ∷ map round_of (into_iter_items c.next.new.self)) = subst (RiseFrom m) (ap (map round_of) steps) rises in
-    later_timely m c.in-Some.round.moment (state_of c.loop-round.player).prometheus ahead.0 timely
-
-pub play_round-requires-clause-rest : goal.play_round-requires-clause-rest
-play_round-requires-clause-rest g c κs within = c.loop-round.invariant.rest
+pub play_rounds-played-requires-clause-settings : goal.play_rounds-played-requires-clause-settings
+play_rounds-played-requires-clause-settings g c κs within = (settings_of c.args.script.settings, c.in_ok-player.ensures.settings)
 
 pub returns-in_err-player-clause-prefix : goal.returns-in_err-player-clause-prefix
 returns-in_err-player-clause-prefix g c = on_handed_on c.from_residual.result _ (unbegun (script_of c.args.script) _)
 
-pub returns-in_err-play_round-clause-prefix : goal.returns-in_err-play_round-clause-prefix
-returns-in_err-play_round-clause-prefix g c =
-    let steps : into_iter_items c.loop-round.round-iterator ≡ c.in-Some.round ∷ into_iter_items c.next.new.self = c.in-Some.ensures.steps.0 in
-    let script = script_of c.args.script in
-    let P : List RoundText → Type 0 = λ rounds. IsSoFar script (state_of c.loop-round.player) rounds (g.K.Sink.written c.args.out.now) (g.K.Sink.written c.loop-round.out) in
-    let so_far = subst P (ap (map round_of) steps) c.loop-round.invariant.so_far in
-    on_handed_on c.from_residual-in_err-play_round.result _ (so_far-cut script (state_of c.loop-round.player) (round_of c.in-Some.round) _ _ _ _ so_far (c.in_err-play_round.ensures.prefix (settings_of c.args.script.settings) c.loop-round.invariant.settings))
-
-pub loop-round-preserved : goal.loop-round-preserved
-loop-round-preserved g c =
-    let steps : into_iter_items c.loop-round.round-iterator ≡ c.in-Some.round ∷ into_iter_items c.next.new.self = c.in-Some.ensures.steps.0 in
-    let behind = ap (map round_of) steps in
-    let script = script_of c.args.script in
-    let P : List RoundText → Type 0 = λ rounds. IsSoFar script (state_of c.loop-round.player) rounds (g.K.Sink.written c.args.out.now) (g.K.Sink.written c.loop-round.out) in
-    let so_far = subst P behind c.loop-round.invariant.so_far in
-    let played = c.in_ok-play_round.ensures.played (settings_of c.args.script.settings) c.loop-round.invariant.settings in
-    let rest = map round_of (into_iter_items c.next.new.self) in
-    record {
-      settings = c.in_ok-play_round.ensures.settings ∙ c.loop-round.invariant.settings;
-      rest = c.in_ok-play_round.ensures.rest;
-      fit = subst (λ (p : PlayState). CallsFit p.handles rest) (sym played.2.0) (rest_fits (state_of c.loop-round.player) (round_of c.in-Some.round) rest (subst (CallsFit c.loop-round.player.handles.items) behind c.loop-round.invariant.fit));
-      some = All-tail AllRecordSome (round_of c.in-Some.round) rest (subst (All AllRecordSome) behind c.loop-round.invariant.some);
-      timely =
-          let (m, timely, rises) = c.loop-round.invariant.timely in
-          let ahead : RiseFrom m (round_of c.in-Some.round ∷ rest) = subst (RiseFrom m) behind rises in
-          let p = state_of c.loop-round.player in (
-            c.in-Some.round.moment,
-            round_timely (settings_of c.args.script.settings) p _ (round_of c.in-Some.round) played.0 (later_timely m c.in-Some.round.moment p.prometheus ahead.0 timely) played.2.0,
-            ahead.1,
-          );
-      never_falls = omega (arith, c.loop-round.invariant.never_falls, c.in_ok-play_round.ensures.never_falls);
-      so_far = so_far-round script (state_of c.loop-round.player) _ (round_of c.in-Some.round) rest _ _ _ so_far played;
-    }
-
-pub returns-in_err-play_round-clause-cause : goal.returns-in_err-play_round-clause-cause
-returns-in_err-play_round-clause-cause g c =
-    if_handed_on c.from_residual-in_err-play_round.result _ (IsPlayFault (Rose (g.K.Sink.faults c.args.out.now) (g.K.Sink.faults c.play_round.new.out))) c.from_residual-in_err-play_round.ensures.1
-    (play_fault_later _ (g.K.Sink.faults c.loop-round.out) _ _ c.loop-round.invariant.never_falls c.in_err-play_round.ensures.cause)
-
 pub returns-clause-pages : goal.returns-clause-pages
 returns-clause-pages g c =
-    let none : into_iter_items c.loop-round.round-iterator ≡ [] = nil_from_length _ (sym c.loop-round.round-iterator.rest.ok.0 ∙ c.in-None.ensures.steps.0) in
-    so_far-end (script_of c.args.script) (state_of c.loop-round.player) _ _ _ (ap (map round_of) none) c.loop-round.invariant.so_far
+    subst (λ (p : PlayState). ForSomeRounds (settings_of c.args.script.settings) p (map round_of c.args.script.rounds.items) (GrewBy (g.K.Sink.written c.args.out.now) (g.K.Sink.written c.play_rounds-played.new.out))) c.in_ok-player.ensures.start
+    (c.in_ok-played.ensures.pages (settings_of c.args.script.settings) c.in_ok-player.ensures.settings)
 
-pub loop-round-init : goal.loop-round-init
-loop-round-init g c =
-    let all : into_iter_items c.into_iter-round-iterator.result ≡ c.args.script.rounds.items = c.into_iter-round-iterator.ensures.into_iter_gives.0 in
-    let script = script_of c.args.script in
-    let rounds = map round_of c.args.script.rounds.items in
-    let told = g.K.Sink.written c.args.out.now in
-    record {
-      settings = c.in_ok-player.ensures.settings;
-      rest = c.in_ok-player.ensures.rest;
-      fit = subst (λ (p : PlayState). CallsFit p.handles (map round_of (into_iter_items c.into_iter-round-iterator.result))) (sym c.in_ok-player.ensures.start) (subst (CallsFit []) (ap (map round_of) (sym all)) c.requires.fit);
-      some = subst (λ rs. All AllRecordSome (map round_of rs)) (sym all) c.requires.some;
-      timely = (0, subst (λ (p : PlayState). IsTimelyState 0 p.prometheus) (sym c.in_ok-player.ensures.start) (All-nil _), subst (λ rs. RiseFrom 0 (map round_of rs)) (sym all) c.requires.moments);
-      never_falls = omega arith;
-      so_far = subst (λ (p : PlayState). IsSoFar script p (map round_of (into_iter_items c.into_iter-round-iterator.result)) told told) (sym c.in_ok-player.ensures.start)
-          (subst (λ rs. IsSoFar script play_start rs told told) (ap (map round_of) (sym all)) (so_far-start script told));
-    }
+pub returns-in_err-played-clause-prefix : goal.returns-in_err-played-clause-prefix
+returns-in_err-played-clause-prefix g c =
+    on_handed_on c.from_residual-in_err-played.result _
+    (subst (λ (p : PlayState). ForSomeRounds (settings_of c.args.script.settings) p (map round_of c.args.script.rounds.items) (GrewByPrefix (g.K.Sink.written c.args.out.now) (g.K.Sink.written c.play_rounds-played.new.out))) c.in_ok-player.ensures.start
+    (c.in_err-played.ensures.prefix (settings_of c.args.script.settings) c.in_ok-player.ensures.settings))

@@ -1,4 +1,5 @@
-use Rattle.std.proofs.Common.{refl}
+use Rattle.std.proofs.Common.{ap, refl}
+use Rattle.metrics_core.specs.Characters.{line}
 use Rattle.script_runs.proofs.Sayings.{setting_said}
 use Rattle.script_runs.proofs.say.say_setting.Goals as goal
 
@@ -10,3 +11,9 @@ returns-in-ZeroDuration g c = record { said = setting_said _ _ _ _ _ _ c.in-Zero
 
 pub returns-in-SpanTooLong : goal.returns-in-SpanTooLong
 returns-in-SpanTooLong g c = record { said = setting_said _ _ _ _ _ _ c.in-SpanTooLong.is refl c.say-in-SpanTooLong.ensures.said }
+
+pub returns-in-Native : goal.returns-in-Native
+returns-in-Native g c = record { said = setting_said _ _ _ _ _ _ c.in-Native.is (ap line c.as_bytes.ensures.value) c.say-in-Native.ensures.said }
+
+pub returns-in-Limit : goal.returns-in-Limit
+returns-in-Limit g c = record { said = setting_said _ _ _ _ _ _ c.in-Limit.is refl c.say_limit.ensures.said }

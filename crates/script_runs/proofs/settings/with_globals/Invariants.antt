@@ -6,5 +6,5 @@ use Rattle.script_runs.proofs.settings.with_globals.Given as goal
 
 abbrev pub invariant-loop-key : goal.invariant-loop-key
 invariant-loop-key l =
-    record l.builder { globals = fold put_label l.builder.globals (labels_of (into_iter_items l.key-iterator)) }
-    ≡ record l.fn.builder { globals = fold put_label l.fn.builder.globals (labels_of l.fn.globals.items) }
+    record l.builder { settings = record l.builder.settings { globals = fold put_label l.builder.settings.globals (labels_of (into_iter_items l.key-iterator)) } }
+    ≡ record l.fn.builder { settings = record l.fn.builder.settings { globals = fold put_label l.fn.builder.settings.globals (labels_of l.fn.globals.items) } }

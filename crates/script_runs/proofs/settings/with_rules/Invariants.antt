@@ -5,5 +5,5 @@ use Rattle.script_runs.proofs.settings.with_rules.Given as goal
 
 abbrev pub invariant-loop-matcher : goal.invariant-loop-matcher
 invariant-loop-matcher l =
-    record l.builder { buckets_for = l.builder.buckets_for ++ map rule_told (into_iter_items l.matcher-iterator) }
-    ≡ record l.fn.builder { buckets_for = l.fn.builder.buckets_for ++ map rule_told l.fn.rules.items }
+    record l.builder { settings = record l.builder.settings { buckets_for = l.builder.settings.buckets_for ++ map rule_told (into_iter_items l.matcher-iterator) } }
+    ≡ record l.fn.builder { settings = record l.fn.builder.settings { buckets_for = l.fn.builder.settings.buckets_for ++ map rule_told l.fn.rules.items } }

@@ -1,3 +1,4 @@
+use denote.Param.Send.{sendable}
 use Rattle.std.proofs.Common.{◌≡◌, ℕ, List, length, sym, subst}
 use Rattle.cell_lanes.specs.declared.lane.Lane.{Lane}
 use Rattle.cell_lanes.specs.Things.{fixed_of, root_of}
@@ -5,11 +6,15 @@ use Rattle.cell_lanes.specs.Lanes.{AllDone, AllFit, AllTaken, Each, Grew}
 use Rattle.metrics_core.specs.declared.calls.SeriesCall.{SeriesCall}
 use Rattle.metrics_core.specs.declared.kinds.SeriesId.{SeriesId}
 use Rattle.drive_script.specs.declared.script.CallLine.{CallLine}
+use Rattle.prom_exporter.proofs.Crossing.{state-send}
 use Rattle.prom_exporter.specs.LanePasses.{StandsAsEntries, TakesCall, ids_of, things_of}
 use Rattle.script_runs.specs.LaneCalls.{calls_at, numbered_at}
 use Rattle.script_runs.proofs.AfterLanes.{round_made}
 use Rattle.script_runs.proofs.RestingSteps.{all_taken, many_things, rest_after, rest_roots, rest_settled, when_ok}
 use Rattle.script_runs.proofs.play.Player.make_calls.Goals as goal
+
+pub run_lanes-requires-send-S : goal.run_lanes-requires-send-S
+run_lanes-requires-send-S g c κs within = search (sendable, state-send)
 
 pub run_lanes-requires-clause-roots : goal.run_lanes-requires-clause-roots
 run_lanes-requires-clause-roots g c κs within = (rest_roots c.args.self.now.exporter c.requires.rest, rest_settled c.args.self.now.exporter c.requires.rest)

@@ -11,7 +11,7 @@ turned : (before after : List Setup) (line : Setup) → before ≡ after ++ line
 turned before after line is = ap reverse is ∙ reverse-append after (line ∷ [])
 
 pub loop-line-preserved : goal.loop-line-preserved
-loop-line-preserved c =
+loop-line-preserved g c =
     let inv = c.loop-line.invariant in
     let left = reverse c.give_room_back.new.setup.items in
     let steps : reverse c.loop-line.setup.items ≡ c.in-Some.line ∷ left =

@@ -6,11 +6,11 @@ use Rattle.script_runs.specs.Resting.{AllRest}
 use Rattle.script_runs.proofs.play.Player.set_up.Given as goal
 
 abbrev pub invariant-loop-line : goal.invariant-loop-line
-invariant-loop-line l = record {
+invariant-loop-line g l = record {
   settings : l.self.exporter.settings ≡ l.initial.self.exporter.settings;
   rest : AllRest l.initial.self.exporter → AllRest l.self.exporter;
   stepped : fold setup_step (state_of l.self) (map setup_of (reverse l.setup.items)) ≡ fold setup_step (state_of l.initial.self) (map setup_of l.fn.setup.items);
 }
 
 abbrev pub decreases-loop-line : goal.decreases-loop-line
-decreases-loop-line l = vec_len l.setup
+decreases-loop-line g l = vec_len l.setup

@@ -1,0 +1,104 @@
+use Rattle.std.proofs.Common.{◌≡◌, ◌∷◌, [], List, subst, sym, ap, ◌∙◌, map, arith, refl}
+use Rattle.std.specs.Prelude.{All}
+use Rattle.std.proofs.lemmas.List.{nil_from_length}
+use Rattle.std.proofs.lemmas.List.Elements.{All-head, All-tail}
+use Rattle.std.specs.Vec.Iter.{into_iter_items}
+use Rattle.metrics_core.specs.Outside.{Rose}
+use Rattle.drive_script.specs.Script.{RoundText}
+use Rattle.drive_script.specs.Texts.{round_of}
+use Rattle.script_runs.specs.Answers.{IsPlayFault}
+use Rattle.script_runs.specs.Fitting.{CallsFit}
+use Rattle.script_runs.specs.Play.{PlayState}
+use Rattle.script_runs.specs.Player.{state_of}
+use Rattle.script_runs.specs.Recorded.{AllRecordSome}
+use Rattle.script_runs.specs.Timely.{RiseFrom}
+use Rattle.script_runs.proofs.DriveSteps.{play_fault_later}
+use Rattle.script_runs.proofs.Fits.{first_fits, rest_fits}
+use Rattle.script_runs.proofs.Returned.{if_handed_on, on_handed_on}
+use Rattle.script_runs.proofs.RoundSteps.{IsSoFar, so_far-cut, so_far-end, so_far-round, so_far-start}
+use Rattle.script_runs.proofs.TimelyRounds.{later_timely, round_timely}
+use Rattle.script_runs.proofs.play.Player.play_rounds.Goals as goal
+
+pub play_round-requires-clause-fit : goal.play_round-requires-clause-fit
+play_round-requires-clause-fit g c κs within =
+    let steps : into_iter_items c.loop-round.round-iterator ≡ c.in-Some.round ∷ into_iter_items c.next.new.self = c.in-Some.ensures.steps.0 in
+    first_fits _ (round_of c.in-Some.round) _ (subst (CallsFit c.loop-round.self.handles.items) (ap (map round_of) steps) c.loop-round.invariant.fit)
+
+pub play_round-requires-clause-some : goal.play_round-requires-clause-some
+play_round-requires-clause-some g c κs within =
+    let steps : into_iter_items c.loop-round.round-iterator ≡ c.in-Some.round ∷ into_iter_items c.next.new.self = c.in-Some.ensures.steps.0 in
+    All-head AllRecordSome (round_of c.in-Some.round) _ (subst (All AllRecordSome) (ap (map round_of) steps) c.loop-round.invariant.some)
+
+pub play_round-requires-clause-timely : goal.play_round-requires-clause-timely
+play_round-requires-clause-timely g c κs within =
+    let steps : into_iter_items c.loop-round.round-iterator ≡ c.in-Some.round ∷ into_iter_items c.next.new.self = c.in-Some.ensures.steps.0 in
+    let (m, timely, rises) = c.loop-round.invariant.timely in
+    let ahead : RiseFrom m (round_of c.in-Some.round ∷ map round_of (into_iter_items c.next.new.self)) = subst (RiseFrom m) (ap (map round_of) steps) rises in
+    later_timely m c.in-Some.round.moment (state_of c.loop-round.self).prometheus ahead.0 timely
+
+pub play_round-requires-clause-rest : goal.play_round-requires-clause-rest
+play_round-requires-clause-rest g c κs within = c.loop-round.invariant.rest
+
+pub returns-in_err-play_round-clause-prefix : goal.returns-in_err-play_round-clause-prefix
+returns-in_err-play_round-clause-prefix g c = λ settings same.
+    let steps : into_iter_items c.loop-round.round-iterator ≡ c.in-Some.round ∷ into_iter_items c.next.new.self = c.in-Some.ensures.steps.0 in
+    let start = state_of c.args.self.now in
+    let all = map round_of c.args.rounds.items in
+    let P : List RoundText → Type 0 = λ rounds. IsSoFar settings start all (state_of c.loop-round.self) rounds (g.K.Sink.written c.args.out.now) (g.K.Sink.written c.loop-round.out) in
+    let so_far = subst P (ap (map round_of) steps) (c.loop-round.invariant.so_far settings same) in
+    on_handed_on c.from_residual.result _ (so_far-cut settings start all (state_of c.loop-round.self) (round_of c.in-Some.round) _ _ _ _ so_far (c.in_err-play_round.ensures.prefix settings (c.loop-round.invariant.settings ∙ same)))
+
+pub loop-round-preserved : goal.loop-round-preserved
+loop-round-preserved g c =
+    let steps : into_iter_items c.loop-round.round-iterator ≡ c.in-Some.round ∷ into_iter_items c.next.new.self = c.in-Some.ensures.steps.0 in
+    let behind = ap (map round_of) steps in
+    let (some_settings, are) = c.requires.settings in
+    let played = c.in_ok-play_round.ensures.played some_settings (c.loop-round.invariant.settings ∙ are) in
+    let rest = map round_of (into_iter_items c.next.new.self) in
+    record {
+      settings = c.in_ok-play_round.ensures.settings ∙ c.loop-round.invariant.settings;
+      rest = c.in_ok-play_round.ensures.rest;
+      fit = subst (λ (p : PlayState). CallsFit p.handles rest) (sym played.2.0) (rest_fits (state_of c.loop-round.self) (round_of c.in-Some.round) rest (subst (CallsFit c.loop-round.self.handles.items) behind c.loop-round.invariant.fit));
+      some = All-tail AllRecordSome (round_of c.in-Some.round) rest (subst (All AllRecordSome) behind c.loop-round.invariant.some);
+      timely =
+          let (m, timely, rises) = c.loop-round.invariant.timely in
+          let ahead : RiseFrom m (round_of c.in-Some.round ∷ rest) = subst (RiseFrom m) behind rises in
+          let p = state_of c.loop-round.self in (
+            c.in-Some.round.moment,
+            round_timely some_settings p _ (round_of c.in-Some.round) played.0 (later_timely m c.in-Some.round.moment p.prometheus ahead.0 timely) played.2.0,
+            ahead.1,
+          );
+      never_falls = omega (arith, c.loop-round.invariant.never_falls, c.in_ok-play_round.ensures.never_falls);
+      so_far = λ settings same.
+          let start = state_of c.args.self.now in
+          let all = map round_of c.args.rounds.items in
+          let P : List RoundText → Type 0 = λ rounds. IsSoFar settings start all (state_of c.loop-round.self) rounds (g.K.Sink.written c.args.out.now) (g.K.Sink.written c.loop-round.out) in
+          so_far-round settings start all (state_of c.loop-round.self) _ (round_of c.in-Some.round) rest _ _ _ (subst P behind (c.loop-round.invariant.so_far settings same))
+          (c.in_ok-play_round.ensures.played settings (c.loop-round.invariant.settings ∙ same));
+    }
+
+pub returns-in_err-play_round-clause-cause : goal.returns-in_err-play_round-clause-cause
+returns-in_err-play_round-clause-cause g c =
+    if_handed_on c.from_residual.result _ (IsPlayFault (Rose (g.K.Sink.faults c.args.out.now) (g.K.Sink.faults c.play_round.new.out))) c.from_residual.ensures.1
+    (play_fault_later _ (g.K.Sink.faults c.loop-round.out) _ _ c.loop-round.invariant.never_falls c.in_err-play_round.ensures.cause)
+
+pub returns-clause-pages : goal.returns-clause-pages
+returns-clause-pages g c = λ settings same.
+    let none : into_iter_items c.loop-round.round-iterator ≡ [] = nil_from_length _ (sym c.loop-round.round-iterator.rest.ok.0 ∙ c.in-None.ensures.steps.0) in
+    so_far-end settings (state_of c.args.self.now) (map round_of c.args.rounds.items) (state_of c.loop-round.self) _ _ _ (ap (map round_of) none) (c.loop-round.invariant.so_far settings same)
+
+pub loop-round-init : goal.loop-round-init
+loop-round-init g c =
+    let all : into_iter_items c.into_iter-round-iterator.result ≡ c.args.rounds.items = c.into_iter-round-iterator.ensures.into_iter_gives.0 in
+    let start = state_of c.args.self.now in
+    let told = g.K.Sink.written c.args.out.now in
+    record {
+      settings = refl;
+      rest = c.requires.rest;
+      fit = subst (λ rs. CallsFit c.args.self.now.handles.items (map round_of rs)) (sym all) c.requires.fit;
+      some = subst (λ rs. All AllRecordSome (map round_of rs)) (sym all) c.requires.some;
+      timely = (c.requires.timely.0, c.requires.timely.1, subst (λ rs. RiseFrom c.requires.timely.0 (map round_of rs)) (sym all) c.requires.timely.2);
+      never_falls = omega arith;
+      so_far = λ settings same.
+          subst (λ rs. IsSoFar settings start (map round_of c.args.rounds.items) start (map round_of rs) told told) (sym all) (so_far-start settings start (map round_of c.args.rounds.items) told);
+    }
