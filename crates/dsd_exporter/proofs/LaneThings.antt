@@ -466,3 +466,34 @@ module _ (id : SeriesId) (e : Exporter) where
       (λ (back : (k : ℕ) × (get_elem? histogram_ids k ≡ some id)). id_nowhere id e.series.histograms no_histogram back.0 back.1)
       (front_or_back gauge_ids histogram_ids rest.0 id rest.1))
       (front_or_back counter_ids (gauge_ids ++ histogram_ids) i id at)
+
+-- what is got of the ids at the index of a place
+module _ (e : Exporter) (i place : ℕ) where
+  abbrev id_of_counter : LiveSeries CounterThing → SeriesId
+  id_of_counter series = series.id
+
+  abbrev id_of_gauge : LiveSeries GaugeThing → SeriesId
+  id_of_gauge series = series.id
+
+  abbrev id_of_histogram : LiveSeries Queued → SeriesId
+  id_of_histogram series = series.id
+
+  pub counter_id_got : (i ≡ place) × (place < length e.series.counters) → option_map id_of_counter (slice_get e.series.counters place) ≡ slice_get (ids_of e) i
+  counter_id_got at =
+      sym (got_map id_of_counter e.series.counters place)
+      ∙ sym (got_front (map id_of_counter e.series.counters) (map id_of_gauge e.series.gauges ++ map id_of_histogram e.series.histograms) place (subst (λ n. place < n) (sym (length-map e.series.counters id_of_counter)) at.1))
+      ∙ ap (slice_get (ids_of e)) (sym at.0)
+
+  pub gauge_id_got : (i ≡ length e.series.counters + place) × (place < length e.series.gauges) → option_map id_of_gauge (slice_get e.series.gauges place) ≡ slice_get (ids_of e) i
+  gauge_id_got at =
+      sym (got_map id_of_gauge e.series.gauges place)
+      ∙ sym (got_front (map id_of_gauge e.series.gauges) (map id_of_histogram e.series.histograms) place (subst (λ n. place < n) (sym (length-map e.series.gauges id_of_gauge)) at.1))
+      ∙ sym (got_behind (map id_of_counter e.series.counters) (map id_of_gauge e.series.gauges ++ map id_of_histogram e.series.histograms) place)
+      ∙ ap (slice_get (ids_of e)) (ap (λ n. n + place) (length-map e.series.counters id_of_counter) ∙ sym at.0)
+
+  pub histogram_id_got : i ≡ length e.series.counters + (length e.series.gauges + place) → option_map id_of_histogram (slice_get e.series.histograms place) ≡ slice_get (ids_of e) i
+  histogram_id_got at =
+      sym (got_map id_of_histogram e.series.histograms place)
+      ∙ sym (got_behind (map id_of_gauge e.series.gauges) (map id_of_histogram e.series.histograms) place)
+      ∙ sym (got_behind (map id_of_counter e.series.counters) (map id_of_gauge e.series.gauges ++ map id_of_histogram e.series.histograms) (length (map id_of_gauge e.series.gauges) + place))
+      ∙ ap (slice_get (ids_of e)) ((λ j. length-map e.series.counters id_of_counter j + (length-map e.series.gauges id_of_gauge j + place)) ∙ sym at)

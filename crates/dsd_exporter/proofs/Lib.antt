@@ -1,4 +1,5 @@
 pub mod CallKinds
+pub mod CallsTaken
 pub mod Counters
 pub mod Draining
 pub mod Flushed

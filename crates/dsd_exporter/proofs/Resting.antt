@@ -30,7 +30,7 @@ use Rattle.dsd_exporter.specs.LanePasses.{counter_thing, gauge_thing, histogram_
 use Rattle.dsd_exporter.specs.LaneIndices.{CounterHas, GaugeHas, HistogramHas}
 use Rattle.dsd_exporter.specs.Resting.{AllRest, BeginsAtRest, FlushRests, NewSeriesRest, Rests, RestsForLanes}
 use Rattle.dsd_exporter.proofs.LaneIndices.{counter_has, gauge_has, histogram_has, of_one_kind}
-use Rattle.dsd_exporter.proofs.LaneRounds.{one_counter, one_gauge, one_queue}
+use Rattle.dsd_exporter.proofs.CallsTaken.{one_counter, one_gauge, one_queue}
 use Rattle.dsd_exporter.proofs.LaneThings.{SeriesThing}
 use Rattle.dsd_exporter.proofs.Unmapped.{settled-back}
 

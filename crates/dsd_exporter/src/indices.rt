@@ -1,6 +1,6 @@
 //! The series by their indices, as lanes find them: counters, then gauges, then histograms, each in order of registration.
 
-ghost use Rattle.std.specs.Prelude.{◌≡◌, ◌<◌, length, set, IfOk, OnErr, OnOk};
+ghost use Rattle.std.specs.Prelude.{◌≡◌, ◌<◌, length, set, IfOk, OnErr, OnOk, slice_get, true};
 ghost use Rattle.metrics_registry.specs.Live.{IsNumbered};
 ghost use mathlib.Core.Option.{some};
 ghost use lib.ListN.{get_elem?};
@@ -9,12 +9,12 @@ ghost use Rattle.cell_lanes.specs.Things.{Thing, TookBack, root_of};
 ghost use Rattle.cell_lanes.specs.Lanes.{SettledAt};
 ghost use Rattle.dsd_exporter.specs.declared.lanes.SeriesEntry.{SeriesEntry};
 ghost use Rattle.dsd_exporter.specs.declared.lanes.SeriesCell.{SeriesCell};
-ghost use Rattle.dsd_exporter.specs.LanePasses.{things_of, frame_of, pass_known, IsPassOf, IsIndex, StandsAt};
+ghost use Rattle.dsd_exporter.specs.LanePasses.{things_of, frame_of, ids_of, pass_known, IsPassOf, IsIndex, StandsAt};
 
 use crate::lane_cells::{lend_cell, settle_cell, take_cell};
 use crate::lanes::LanePass;
 use crate::state::State;
-use metrics_core::{Memory, SeriesId};
+use metrics_core::{Memory, MetricKind, SeriesId};
 use std::alloc::Global;
 use std::sync::Wait;
 
@@ -49,6 +49,55 @@ impl State {
         Some(counters + (self.series.gauge_count() + place))
     }
 
+    /// How many series there are.
+    pub fn series_count(&self) -> usize
+        ensures count { result ≡ length (things_of self.now) }
+        ensures numbered { IsNumbered self.now.series }
+    {
+        // The clause on numbers needs how many were made.
+        let _made = self.series.made();
+        self.series.count()
+    }
+
+    /// The index of a series, as `index_of` answers it. The search begins at the place among those of its kind where the series
+    /// was found last, which `guess` keeps; it may be any number, and saves time alone.
+    pub fn index_near(&self, id: SeriesId, guess: &mut u32) -> Option<usize>
+        ensures index { IsIndex id self.now result }
+        ensures numbered { IsNumbered self.now.series }
+    {
+        let begin = self.begin_of(id.kind);
+        let near = begin.saturating_add(*guess as usize);
+        if self.stands_at(id, near) {
+            // The clause on numbers needs how many were made.
+            let _made = self.series.made();
+            return Some(near);
+        }
+        let index = self.index_of(id)?;
+        *guess = u32::try_from(index.saturating_sub(begin)).unwrap_or(0);
+        Some(index)
+    }
+
+    /// Whether the series with this index has the id.
+    fn stands_at(&self, id: SeriesId, index: usize) -> bool
+        ensures { result ≡ true → get_elem? (ids_of self.now) index ≡ some id }
+    {
+        match self.id_at(index) {
+            Some(own) => own == id,
+            None => false,
+        }
+    }
+
+    /// The id of the series with this index, if there is one.
+    fn id_at(&self, index: usize) -> Option<SeriesId>
+        ensures { result ≡ slice_get (ids_of self.now) index }
+    {
+        match self.place_at(index) {
+            Place::Counter(place) => self.series.counters().id(place),
+            Place::Gauge(place) => self.series.gauges().id(place),
+            Place::Histogram(place) => self.series.histograms().id(place),
+        }
+    }
+
     /// The place of the series with this index. An index past all series has a place past the histograms.
     fn place_at(&self, index: usize) -> Place
         ensures { StandsAt index self.now result }
@@ -63,6 +112,15 @@ impl State {
             Place::Gauge(behind)
         } else {
             Place::Histogram(behind - gauges)
+        }
+    }
+
+    /// Where the indices of the series of a kind begin.
+    fn begin_of(&self, kind: MetricKind) -> usize {
+        match kind {
+            MetricKind::Counter => 0,
+            MetricKind::Gauge => self.series.counter_count(),
+            MetricKind::Histogram => self.series.counter_count() + self.series.gauge_count(),
         }
     }
 

@@ -54,6 +54,13 @@ impl State {
         self.configuration.telemetry
     }
 
+    /// Makes room for so many more counters and gauges, so that registering them moves no series.
+    pub fn reserve(&mut self, counters: usize, gauges: usize) -> Result<(), Memory>
+        ensures same { self.new ≡ self.old }
+    {
+        self.series.reserve(counters, gauges)
+    }
+
     /// Registers a counter. Where there is one with an equal key its id is given, and nothing changes; otherwise a new one at 0
     /// goes last. Past 2^64 - 1 series none is made, and the id names none.
     pub fn register_counter(&mut self, alloc: Global, key: &Key) -> Result<SeriesId, Memory>
