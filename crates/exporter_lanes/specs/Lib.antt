@@ -1,0 +1,2 @@
+pub mod ExporterLanes
+pub mod BothRounds
