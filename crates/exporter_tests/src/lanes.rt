@@ -1,5 +1,6 @@
-//! Lanes that run side by side, seen through gates and on the page.
+//! Lanes that run side by side, seen through gates, on the page and in the payload.
 
+use dsd_exporter::MemoryLink;
 use metrics_core::{MemorySink, MemorySource};
 use script_runs::{Gate, run};
 use std::alloc::Global;
@@ -75,18 +76,36 @@ impl Gate for Turns {
     }
 }
 
-/// The pages that the two lanes write at a gate.
-fn pages<R: Threads + Wait + Sync, G: Gate + Sync>(
+/// What a run wrote and sent.
+#[derive(Drop)]
+struct Told {
+    pages: Vec<u8>,
+    payloads: Vec<u8>,
+}
+
+/// What the two lanes write and send at a gate.
+fn told<R: Threads + Wait + Sync, G: Gate + Sync>(
     rt: &R,
     alloc: Global,
     gate: &G,
-) -> Result<Vec<u8>, Fail> {
+) -> Result<Told, Fail> {
     let script = TWO_LANES.to_vec(alloc)?;
     let mut source = MemorySource::new(script, 65536, Vec::new(alloc));
     let mut out = MemorySink::new(alloc, 65536, Vec::new(alloc));
     let mut err = MemorySink::new(alloc, 65536, Vec::new(alloc));
-    let _status = run(rt, alloc, &["drive"], &mut source, &mut out, &mut err, gate);
-    Ok(out.written().to_vec(alloc)?)
+    let mut link = MemoryLink::new(alloc, Vec::new(alloc));
+    let words = ["drive"];
+    let _status = run(
+        rt, alloc, &words, &mut source, &mut out, &mut err, &mut link, gate,
+    );
+    let mut payloads = Vec::new(alloc);
+    for payload in link.sent() {
+        payloads.extend_from_slice(payload.bytes())?;
+    }
+    Ok(Told {
+        pages: out.written().to_vec(alloc)?,
+        payloads,
+    })
 }
 
 /// Whether the lanes meet in time, and the page is written.
@@ -96,24 +115,26 @@ fn meet<R: Threads + Wait + Sync>(rt: &R, alloc: Global) -> Result<bool, Fail> {
         second: AtomicBool::new(false),
         late: AtomicBool::new(false),
     };
-    let pages = pages(rt, alloc, &gate)?;
-    Ok(pages.ends_with(b"# EOF\n") && !gate.late.load(Ordering::SeqCst))
+    let told = told(rt, alloc, &gate)?;
+    Ok(told.pages.ends_with(b"# EOF\n") && !gate.late.load(Ordering::SeqCst))
 }
 
-/// Whether the page is this one where the lane `held` waits for the other one.
+/// Whether the page and the payload are these where the lane `held` waits for the other one.
 fn shows<R: Threads + Wait + Sync>(
     rt: &R,
     alloc: Global,
     held: u8,
     page: &[u8],
+    payload: &[u8],
 ) -> Result<bool, Fail> {
     let gate = Turns {
         held,
         open: AtomicBool::new(false),
         late: AtomicBool::new(false),
     };
-    let pages = pages(rt, alloc, &gate)?;
-    Ok(pages.as_slice() == page && !gate.late.load(Ordering::SeqCst))
+    let told = told(rt, alloc, &gate)?;
+    let in_time = !gate.late.load(Ordering::SeqCst);
+    Ok(told.pages.as_slice() == page && told.payloads.as_slice() == payload && in_time)
 }
 
 #[test]
@@ -128,7 +149,9 @@ fn the_gate_orders_the_lanes(rt: HostRuntime) -> Result<(), Fail> {
         b"# TYPE c counter\nc 10\n\n# TYPE g gauge\ng 2\n\n# TYPE h summary\nh{quantile=\"0\"} 1\nh{quantile=\"1\"} 2\nh_sum 3\nh_count 2\n\n# EOF\n".as_slice();
     let second =
         b"# TYPE c counter\nc 11\n\n# TYPE g gauge\ng 1\n\n# TYPE h summary\nh{quantile=\"0\"} 1\nh{quantile=\"1\"} 2\nh_sum 3\nh_count 2\n\n# EOF\n".as_slice();
-    assert!(rt; shows(&rt, rt.alloc(), 1, first)?);
-    assert!(rt; shows(&rt, rt.alloc(), 0, second)?);
+    let first_lines = b"c:0|c\ng:2.0|g\nh:1.0:2.0|d\n".as_slice();
+    let second_lines = b"c:1|c\ng:1.0|g\nh:2.0:1.0|d\n".as_slice();
+    assert!(rt; shows(&rt, rt.alloc(), 1, first, first_lines)?);
+    assert!(rt; shows(&rt, rt.alloc(), 0, second, second_lines)?);
     Ok(())
 }

@@ -1,20 +1,22 @@
-//! The program: it plays a script of rounds on the exporter, and writes a page for each round; or it makes one page of
+//! The program: it plays a script of rounds on both exporters, writes a page and sends a flush for each round; or it makes one page of
 //! several.
 #![tactic(auto)]
 
 use drive_script::DriveFault;
+use dsd_exporter::SocketLink;
 use metrics_core::{Memory, Reading, Sink, Source, Writing};
 use script_runs::{Free, run, say_fault};
 use std::alloc::Global;
 use std::env;
 use std::env::Args;
 use std::io::ErrorKind;
+use std::net::Net;
 use std::process::ExitCode;
 use std::rt::Env;
 use std::sync::Wait;
 use std::thread::Threads;
 
-/// Makes the real source and sinks, calls `run`, and ends with its status.
+/// Makes the real source, sinks and link, calls `run`, and ends with its status.
 fn main(rt: HostRuntime) -> ExitCode {
     let alloc = rt.alloc();
     let mut source = Reading::new(rt.stdin());
@@ -30,7 +32,7 @@ fn main(rt: HostRuntime) -> ExitCode {
 }
 
 /// Calls `run` with the words after the program's name. Words that aren't text are no form of words.
-fn run_words<R: Env + AllocGlobal + Threads + Wait + Sync, S: Source, K: Sink, E: Sink>(
+fn run_words<R: Env + AllocGlobal + Net + Threads + Wait + Sync, S: Source, K: Sink, E: Sink>(
     rt: &R,
     alloc: Global,
     source: &mut S,
@@ -46,7 +48,10 @@ fn run_words<R: Env + AllocGlobal + Threads + Wait + Sync, S: Source, K: Sink, E
     for word in &words {
         views.push(word.as_str())?;
     }
-    Ok(run(rt, alloc, &views, source, out, err, &Free))
+    let mut link = SocketLink::new(rt);
+    Ok(run(
+        rt, alloc, &views, source, out, err, &mut link, &Free,
+    ))
 }
 
 /// The words after the program's name.

@@ -1,6 +1,6 @@
--- What a round of lanes leaves: each series after its calls in one order.
-use Rattle.std.proofs.Common.{◌≡◌, ℕ, zero, suc, ◌+◌, Bool, true, false, cond, List, [], ◌∷◌, ◌++◌, length, map, drop, append-nil, append_assoc, refl, sym, ap, subst, ◌∙◌, arith}
-use Rattle.std.specs.Prelude.{◌==◌, ◌&&◌, All, Option, Some, None, filter, option_map, unwrap_or, slice_get, zip}
+-- What a round of lanes leaves of the Prometheus exporter: each series after its calls in one order.
+use Rattle.std.proofs.Common.{◌≡◌, ℕ, zero, suc, ◌+◌, ◌<◌, Bool, true, false, cond, List, [], ◌∷◌, ◌++◌, length, map, drop, append-nil, append_assoc, refl, sym, ap, subst, ◌∙◌, arith}
+use Rattle.std.specs.Prelude.{◌==◌, ◌&&◌, All, Option, Some, None, filter, flat_map, option_map, unwrap_or, slice_get, zip}
 use Rattle.std.specs.List.{AllByRecursion, AllZip}
 use Rattle.std.proofs.lemmas.Bool.{true≢false}
 use Rattle.std.proofs.lemmas.List.{map-append, length-map}
@@ -9,14 +9,11 @@ use mathlib.Core.Option.{some}
 use lib.ListN.{get_elem?}
 use Rattle.legal_history.specs.History.{Distinct, calls}
 use Rattle.legal_history.specs.Mapped.{mapped_log}
-use Rattle.legal_history.specs.Order.{taken, IsOrder}
+use Rattle.legal_history.specs.Order.{taken, IsOrder, GrewInOrder}
 use Rattle.legal_history.proofs.Mapped.{calls-mapped, is_order-back, taken-mapped}
 use Rattle.legal_history.proofs.Steps.{one_at}
 use Rattle.cell_lanes.specs.declared.lane.Lane.{Lane}
-use Rattle.cell_lanes.specs.Calls.{StandAs}
-use Rattle.cell_lanes.specs.Things.{Thing, root_of}
-use Rattle.cell_lanes.specs.Lanes.{AllDone, Each, Grew, all_calls_on}
-use Rattle.cell_lanes.proofs.Jobs.{all_calls}
+use Rattle.cell_lanes.specs.Things.{Thing}
 use Rattle.metrics_core.specs.declared.kinds.MetricKind.{MetricKind}
 use Rattle.metrics_core.specs.declared.kinds.MetricKind.TheVariants as kinds
 use Rattle.metrics_core.specs.declared.kinds.SeriesId.{SeriesId}
@@ -40,7 +37,7 @@ use Rattle.prom_exporter.specs.Exporter.{Exporter, state_of as prometheus_of}
 use Rattle.prom_exporter.specs.declared.lanes.SeriesCell.{SeriesCell}
 use Rattle.prom_exporter.specs.declared.lanes.SeriesEntry.{SeriesEntry}
 use Rattle.prom_exporter.specs.declared.lanes.SeriesEntry.TheVariants as entries
-use Rattle.prom_exporter.specs.LanePasses.{StandsAsEntries, counter_thing, entries_made, frame_of, gauge_thing, histogram_thing, ids_of, things_of, unheard_series, unseen}
+use Rattle.prom_exporter.specs.LanePasses.{counter_thing, entries_made, frame_of, gauge_thing, histogram_thing, ids_of, things_of, unheard_series, unseen}
 use Rattle.drive_script.specs.Script as text
 use Rattle.drive_script.specs.Script.{CallLine, RoundText}
 use Rattle.drive_script.specs.Texts.{call_line_of, act_of}
@@ -48,14 +45,14 @@ use Rattle.drive_script.specs.declared.script.CallLine.{CallLine as CallValue}
 use Rattle.drive_script.specs.declared.script.Act.{Act}
 use Rattle.drive_script.specs.declared.script.Act.TheVariants as acts
 use Rattle.script_runs.specs.Fitting.{FitsHandle}
-use Rattle.script_runs.specs.LaneCalls.{HasLane, asked, calls_at, id_at, is_at, lane_number, lines_at, numbered_at}
+use Rattle.script_runs.specs.LaneCalls.{HasLane, asked, calls_at, id_at, is_at, lines_at}
 use Rattle.script_runs.specs.Orders.{IsCalled}
 use Rattle.script_runs.specs.Play.{PlayState, RoundOrders, AreOrdersOf, IsOrderOf, after_calls, called, is_call_on, names, of_lane}
 use Rattle.script_runs.specs.Recorded.{RecordsSome}
 use Rattle.script_runs.specs.Resting.{AllRest}
 use Rattle.script_runs.proofs.LaneOrders.{OwnBy, taken_map, taken_lane}
 use Rattle.script_runs.proofs.LaneSteps.{counter≢histogram, gauge≢histogram, get_of, id_at_true}
-use Rattle.script_runs.proofs.Numbers.{at_each_lane, by_number, number_at}
+use Rattle.script_runs.proofs.Numbers.{Under, asked_on, each_under, number_at, number_of, numbers_differ, order_under, taken_under, told_on, told_under}
 use Rattle.script_runs.proofs.RestingSteps.{counter_at, counter_id, gauge_at, gauge_id, histogram_at, histogram_id, left_at}
 use Rattle.script_runs.proofs.Unmapped.{lists-back, queue_once, value_once}
 
@@ -129,11 +126,11 @@ module _ {A : Type 0} where
   behind [] = []
   behind (x ∷ xs) = xs
 
-  head_same : {x y : A} {xs ys : List A} → x ∷ xs ≡ y ∷ ys → x ≡ y
+  pub head_same : {x y : A} {xs ys : List A} → x ∷ xs ≡ y ∷ ys → x ≡ y
   unfolding first_or
   head_same {x} e = ap (first_or x) e
 
-  tail_same : {x y : A} {xs ys : List A} → x ∷ xs ≡ y ∷ ys → xs ≡ ys
+  pub tail_same : {x y : A} {xs ys : List A} → x ∷ xs ≡ y ∷ ys → xs ≡ ys
   unfolding behind
   tail_same e = ap behind e
 
@@ -249,7 +246,7 @@ module _ (moment : ℕ) where
       by (Some own) found here = sym (fits own found) ∙ ap (λ (x : SeriesId). x.kind) (one_at ids j own id (id_at_true ids j own here) at)
 
   -- what is so of each act of a kind is so of all calls on a series of the kind
-  each_at : (P : SeriesCall → Type 0) (kind : MetricKind) → ((act : Act) → text.kind_of (act_of act) ≡ kind → RecordsSome (act_of act) → P (asked moment act)) → (ids handles : List SeriesId) (j l : ℕ) (id : SeriesId) → get_elem? ids j ≡ some id → id.kind ≡ kind
+  pub each_at : (P : SeriesCall → Type 0) (kind : MetricKind) → ((act : Act) → text.kind_of (act_of act) ≡ kind → RecordsSome (act_of act) → P (asked moment act)) → (ids handles : List SeriesId) (j l : ℕ) (id : SeriesId) → get_elem? ids j ≡ some id → id.kind ≡ kind
       → (lines : List CallValue) → All (λ (line : CallValue). FitsHandle handles (call_line_of line)) lines → All (λ (call : CallLine). RecordsSome call.act) (map call_line_of lines) → AllByRecursion P (calls_at moment ids handles l j lines)
   each_at P kind of ids handles j l id at is [] fits counted = tt
   each_at P kind of ids handles j l id at is (x ∷ xs) fits counted =
@@ -269,9 +266,9 @@ module _ (moment : ℕ) where
 abbrev EachStandsAs : (SeriesCall → SeriesEntry) → List SeriesCall → Type 0
 EachStandsAs one ks = AllByRecursion (λ k. entries_made k ≡ one k ∷ []) ks
 
-stand_made : (one : SeriesCall → SeriesEntry) (ks : List SeriesCall) (ms : List SeriesEntry) → EachStandsAs one ks → StandAs StandsAsEntries ks ms → ms ≡ map one ks
-stand_made one [] ms made s = s
-stand_made one (k ∷ ks) ms made (first, rest, stands, more, split) = split ∙ (ap (λ l. l ++ rest) (stands ∙ made.0) ∙ ap (λ l. one k ∷ l) (stand_made one ks rest made.1 more))
+made_each : (one : SeriesCall → SeriesEntry) (ks : List SeriesCall) → EachStandsAs one ks → flat_map entries_made ks ≡ map one ks
+made_each one [] made = refl
+made_each one (k ∷ ks) made = (λ i. made.0 i ++ made_each one ks made.1 i)
 
 -- ---- what a page shows of a series, and what a round of lanes leaves
 
@@ -325,16 +322,16 @@ as_pushes (k ∷ ks) each = (each.0.0, as_pushes ks each.1)
 
 module _ (moment : ℕ) (ids handles : List SeriesId) (lines : List CallValue) (j : ℕ) where
   -- what lane l calls on the series
-  abbrev asked_on : ℕ → List SeriesCall
-  asked_on l = calls_at moment ids handles l j lines
+  abbrev own_calls : ℕ → List SeriesCall
+  own_calls l = calls_at moment ids handles l j lines
 
-  value_grew : {F : Type 0} (kind : MetricKind) (s t : LiveSeries (Shared F)) (order : List ℕ) → IsOrder order asked_on
-      → calls (mapped_log entries.Value t.cell.root.seen) ≡ calls (mapped_log entries.Value s.cell.root.seen) ++ map entries.Value (taken order asked_on) → GrewAt value_shows kind ids handles lines moment j s t
+  value_grew : {F : Type 0} (kind : MetricKind) (s t : LiveSeries (Shared F)) (order : List ℕ) → IsOrder order own_calls
+      → calls (mapped_log entries.Value t.cell.root.seen) ≡ calls (mapped_log entries.Value s.cell.root.seen) ++ map entries.Value (taken order own_calls) → GrewAt value_shows kind ids handles lines moment j s t
   value_grew kind s t order is grew =
-      let images : map entries.Value (calls t.cell.root.seen) ≡ map entries.Value (calls s.cell.root.seen ++ taken order asked_on)
-      = sym (calls-mapped entries.Value t.cell.root.seen) ∙ grew ∙ ap (λ l. l ++ map entries.Value (taken order asked_on)) (calls-mapped entries.Value s.cell.root.seen) ∙ sym (map-append entries.Value (calls s.cell.root.seen) (taken order asked_on)) in
-      let own = lists-back entries.Value value_once (calls t.cell.root.seen) (calls s.cell.root.seen ++ taken order asked_on) images in
-      (order, is, ap (map call_of) own ∙ map-append call_of (calls s.cell.root.seen) (taken order asked_on))
+      let images : map entries.Value (calls t.cell.root.seen) ≡ map entries.Value (calls s.cell.root.seen ++ taken order own_calls)
+      = sym (calls-mapped entries.Value t.cell.root.seen) ∙ grew ∙ ap (λ l. l ++ map entries.Value (taken order own_calls)) (calls-mapped entries.Value s.cell.root.seen) ∙ sym (map-append entries.Value (calls s.cell.root.seen) (taken order own_calls)) in
+      let own = lists-back entries.Value value_once (calls t.cell.root.seen) (calls s.cell.root.seen ++ taken order own_calls) images in
+      (order, is, ap (map call_of) own ∙ map-append call_of (calls s.cell.root.seen) (taken order own_calls))
 
   -- what was pushed stands behind the entries that the exporter knew
   entries_grew : (s t : Sampled) (ks : List SeriesCall) → t.series.root.mine ≡ s.series.root.mine → calls t.series.root.seen ≡ calls s.series.root.seen ++ map push_of ks → known_entries t.series ≡ known_entries s.series ++ map pushed_entry ks
@@ -342,38 +339,30 @@ module _ (moment : ℕ) (ids handles : List SeriesId) (lines : List CallValue) (
       (λ i. popped (mine i) ++ (ap (held_after []) (grew ∙ ap (λ l. calls s.series.root.seen ++ l) (map_twice Push pushed_entry ks)) ∙ held_more [] (calls s.series.root.seen) (map pushed_entry ks)) i)
       ∙ sym (append_assoc (popped s.series.root.mine) (held_after [] (calls s.series.root.seen)) (map pushed_entry ks))
 
-  sample_grew : (kind : MetricKind) (s t : LiveSeries Sampled) (order : List ℕ) → IsOrder order asked_on → ((l : ℕ) → AllByRecursion IsPush (asked_on l)) → unheard_series t ≡ unheard_series s
-      → calls (mapped_log entries.Queue t.cell.series.root.seen) ≡ calls (mapped_log entries.Queue s.cell.series.root.seen) ++ map (λ k. entries.Queue (push_of k)) (taken order asked_on) → GrewAt sample_shows kind ids handles lines moment j s t
+  sample_grew : (kind : MetricKind) (s t : LiveSeries Sampled) (order : List ℕ) → IsOrder order own_calls → ((l : ℕ) → AllByRecursion IsPush (own_calls l)) → unheard_series t ≡ unheard_series s
+      → calls (mapped_log entries.Queue t.cell.series.root.seen) ≡ calls (mapped_log entries.Queue s.cell.series.root.seen) ++ map (λ k. entries.Queue (push_of k)) (taken order own_calls) → GrewAt sample_shows kind ids handles lines moment j s t
   sample_grew kind s t order is push left grew =
       let old = calls s.cell.series.root.seen in
-      let made = taken order asked_on in
+      let made = taken order own_calls in
       let images : map entries.Queue (calls t.cell.series.root.seen) ≡ map entries.Queue (old ++ map push_of made)
       = sym (calls-mapped entries.Queue t.cell.series.root.seen) ∙ grew ∙ (λ i. calls-mapped entries.Queue s.cell.series.root.seen i ++ map_twice entries.Queue push_of made i) ∙ sym (map-append entries.Queue old (map push_of made)) in
       let own = lists-back entries.Queue queue_once (calls t.cell.series.root.seen) (old ++ map push_of made) images in
       let known = entries_grew s.cell t.cell made (ap (λ (x : LiveSeries Sampled). x.cell.series.root.mine) left) own in
       let told : map record_of (map pushed_entry made) ≡ map call_of made
-      = sym (map_twice record_of pushed_entry made) ∙ sym (taken-mapped (λ (k : SeriesCall). record_of (pushed_entry k)) order asked_on)
-      ∙ ap (taken order) (λ i l. calls_told (asked_on l) (push l) i) ∙ taken-mapped call_of order asked_on in
+      = sym (map_twice record_of pushed_entry made) ∙ sym (taken-mapped (λ (k : SeriesCall). record_of (pushed_entry k)) order own_calls)
+      ∙ ap (taken order) (λ i l. calls_told (own_calls l) (push l) i) ∙ taken-mapped call_of order own_calls in
       (order, is, ap (map record_of) known ∙ map-append record_of (known_entries s.cell.series) (map pushed_entry made) ∙ ap (λ l. calls_known s.cell ++ l) told)
 
 -- ---- the exporter
 
-module _ (moment : ℕ) (e f : Exporter) (handles : List SeriesId) (lines : List CallValue) (lanes : List (Lane SeriesCall)) (done : ℕ → ℕ) where
-  abbrev asked_at : ℕ → ℕ → List SeriesCall
+module _ (moment : ℕ) (e f : Exporter) (handles : List SeriesId) (lines : List CallValue) where
+  -- what the lane with this number asks for on the series under an index
+  abbrev pub asked_at : ℕ → ℕ → List SeriesCall
   asked_at j l = calls_at moment (ids_of e) handles l j lines
 
-  -- the history of each thing grew by what its calls stand as, in an order
-  grew_at : (one : SeriesCall → SeriesEntry) (j : ℕ) (c d : Thing SeriesEntry SeriesCell) → ((l : ℕ) → EachStandsAs one (asked_at j l)) → AllDone lanes done → Grew root_of StandsAsEntries lanes done j c d → Distinct (map lane_number lanes)
-      → ((l : ℕ) → numbered_at j lanes l ≡ asked_at j l) → (order : List ℕ) × IsOrder order (asked_at j) × (calls d.root.seen ≡ calls c.root.seen ++ map one (taken order (asked_at j)))
-  grew_at one j c d made all (lists, stand, (order, is, grew)) apart same =
-      let lane_calls : ℕ → List SeriesCall = λ i. all_calls_on j lanes i in
-      let each = at_each_lane j (EachStandsAs one) tt lanes apart (λ l. subst (EachStandsAs one) (sym (same l)) (made l)) in
-      let as_made : lists ≡ (λ l. map one (lane_calls l)) = λ i l. stand_made one (lane_calls l) (lists l) (each l) (subst (λ asked. StandAs StandsAsEntries asked (lists l)) (all_calls j lanes done l all) (stand l)) i in
-      let own_order = is_order-back one order lane_calls (subst (IsOrder order) as_made is) in
-      let own = by_number j lanes apart order own_order in
-      let numbered : numbered_at j lanes ≡ asked_at j = λ i l. same l i in
-      subst (λ (xs : ℕ → List SeriesCall). (order : List ℕ) × IsOrder order xs × (calls d.root.seen ≡ calls c.root.seen ++ map one (taken order xs))) numbered
-      (map (number_at lanes) order, own.0, grew ∙ ap (λ ls. calls c.root.seen ++ taken order ls) as_made ∙ ap (λ t. calls c.root.seen ++ t) (taken-mapped one order lane_calls ∙ ap (map one) (sym own.1)))
+  -- each history grew by what these lists stand as
+  abbrev pub EachGrew : (ℕ → ℕ → List SeriesCall) → Type 0
+  EachGrew own = (j : ℕ) (c d : Thing SeriesEntry SeriesCell) → get_elem? (things_of e) j ≡ some c → get_elem? (things_of f) j ≡ some d → GrewInOrder (λ l. flat_map entries_made (own j l)) c.root.seen d.root.seen
 
   abbrev before : PlayState
   before = record { prometheus = prometheus_of e; handles = handles }
@@ -391,65 +380,87 @@ module _ (moment : ℕ) (e f : Exporter) (handles : List SeriesId) (lines : List
   legal round are cs gs hs c g h kinds.Gauge = subst (λ ls. AllZip (λ series order. IsOrderOf (filter (is_call_on handles kinds.Gauge series) ls) order) before.prometheus.gauges gs) (sym are) g
   legal round are cs gs hs c g h kinds.Histogram = subst (λ ls. AllZip (λ series order. IsOrderOf (filter (is_call_on handles kinds.Histogram series) ls) order) before.prometheus.histograms hs) (sym are) h
 
-  module _ (rest : AllRest e) (frame : frame_of f ≡ frame_of e) (all : AllDone lanes done) (each : Each (Grew root_of StandsAsEntries lanes done) (things_of e) (things_of f)) (apart : Distinct (map lane_number lanes)) (same : (j l : ℕ) → numbered_at j lanes l ≡ asked_at j l)
-      (fits : All (λ (line : CallValue). FitsHandle handles (call_line_of line)) lines) (some_are : All (λ (call : CallLine). RecordsSome call.act) (map call_line_of lines)) where
-    more_counters : length f.series.counters ≡ length e.series.counters
-    more_counters = sym (length-map f.series.counters unseen) ∙ ap (λ (x : Exporter). length x.series.counters) frame ∙ length-map e.series.counters unseen
-
-    more_gauges : length f.series.gauges ≡ length e.series.gauges
-    more_gauges = sym (length-map f.series.gauges unseen) ∙ ap (λ (x : Exporter). length x.series.gauges) frame ∙ length-map e.series.gauges unseen
-
-    counter_grew : (i : ℕ) (s t : LiveSeries (Shared PromCounter)) → get_elem? e.series.counters i ≡ some s → get_elem? f.series.counters i ≡ some t → GrewAt value_shows kinds.Counter (ids_of e) handles lines moment i s t
-    counter_grew i s t at at' =
-        let values = λ (l : ℕ). as_values (asked_at i l) (each_at moment IsValue kinds.Counter (counter_value moment) (ids_of e) handles i l s.id (counter_id e i s at) (rest.counters i s at).kind_is lines fits some_are) in
-        let own = grew_at entries.Value i (counter_thing s) (counter_thing t) values all (each i (counter_thing s) (counter_thing t) (counter_at e i s at) (counter_at f i t at')) apart (same i) in
-        value_grew moment (ids_of e) handles lines i kinds.Counter s t own.0 own.1 own.2
-
-    gauge_grew : (k : ℕ) (s t : LiveSeries (Shared PromGauge)) → get_elem? e.series.gauges k ≡ some s → get_elem? f.series.gauges k ≡ some t → GrewAt value_shows kinds.Gauge (ids_of e) handles lines moment (length e.series.counters + k) s t
-    gauge_grew k s t at at' =
-        let i = length e.series.counters + k in
-        let values = λ (l : ℕ). as_values (asked_at i l) (each_at moment IsValue kinds.Gauge (gauge_value moment) (ids_of e) handles i l s.id (gauge_id e k s at) (rest.gauges k s at).kind_is lines fits some_are) in
-        let here = subst (λ n. get_elem? (things_of f) (n + k) ≡ some (gauge_thing t)) more_counters (gauge_at f k t at') in
-        let own = grew_at entries.Value i (gauge_thing s) (gauge_thing t) values all (each i (gauge_thing s) (gauge_thing t) (gauge_at e k s at) here) apart (same i) in
-        value_grew moment (ids_of e) handles lines i kinds.Gauge s t own.0 own.1 own.2
-
-    histogram_grew : (k : ℕ) (s t : LiveSeries Sampled) → get_elem? e.series.histograms k ≡ some s → get_elem? f.series.histograms k ≡ some t
-        → GrewAt sample_shows kinds.Histogram (ids_of e) handles lines moment (length e.series.counters + (length e.series.gauges + k)) s t
-    histogram_grew k s t at at' =
-        let i = length e.series.counters + (length e.series.gauges + k) in
-        let push = λ (l : ℕ). each_at moment IsPush kinds.Histogram (histogram_push moment) (ids_of e) handles i l s.id (histogram_id e k s at) (rest.histograms k s at).kind_is lines fits some_are in
-        let here = subst (λ n. get_elem? (things_of f) (n + (length e.series.gauges + k)) ≡ some (histogram_thing t)) more_counters
-        (subst (λ n. get_elem? (things_of f) (length f.series.counters + (n + k)) ≡ some (histogram_thing t)) more_gauges (histogram_at f k t at')) in
-        let own = grew_at (λ k. entries.Queue (push_of k)) i (histogram_thing s) (histogram_thing t) (λ l. as_pushes (asked_at i l) (push l)) all (each i (histogram_thing s) (histogram_thing t) (histogram_at e k s at) here) apart (same i) in
-        let (other, other_at, left) = left_at unheard_series e.series.histograms f.series.histograms (ap (λ (x : Exporter). x.series.histograms) frame) k t at' in
-        let same_left : unheard_series t ≡ unheard_series s = sym left ∙ ap unheard_series (one_at e.series.histograms k other s other_at at) in
-        sample_grew moment (ids_of e) handles lines i kinds.Histogram s t own.0 own.1 push same_left own.2
-
-    -- those of a state
-    in_state : {X : Type 0} (kind : MetricKind) (shown : LiveSeries X → Series) (seen : LiveSeries X → LiveSeries SeenCell) → ((es : List (LiveSeries X)) → map shown es ≡ map series_of (map seen es)) → (es fs : List (LiveSeries X))
-        → HaveOrders kind handles lines moment (map shown es) (map shown fs) → HaveOrders kind handles lines moment (map series_of (map seen es)) (map series_of (map seen fs))
-    in_state kind shown seen same_series es fs have =
-        subst (λ l. HaveOrders kind handles lines moment l (map series_of (map seen fs))) (same_series es) (subst (λ l. HaveOrders kind handles lines moment (map shown es) l) (same_series fs) have)
-
-    pub round_made : (round : RoundText) → round.moment ≡ moment → round.calls ≡ map call_line_of lines → IsCalled before round after
-    round_made round when are =
-        let counters = in_state kinds.Counter _ seen_series (λ es. map_twice series_of seen_series es) e.series.counters f.series.counters
-        (collect value_shows kinds.Counter (ids_of e) handles lines moment 0 e.series.counters f.series.counters (ap (λ (x : Exporter). x.series.counters) frame)
-        (λ i s at. (subst (λ n. get_elem? (ids_of e) n ≡ some s.id) (omega arith) (counter_id e i s at), (rest.counters i s at).kind_is))
-        (λ i s t at at'. subst (λ n. GrewAt value_shows kinds.Counter (ids_of e) handles lines moment n s t) (omega arith) (counter_grew i s t at at'))) in
-        let gauges = in_state kinds.Gauge _ seen_series (λ es. map_twice series_of seen_series es) e.series.gauges f.series.gauges
-        (collect value_shows kinds.Gauge (ids_of e) handles lines moment (length e.series.counters) e.series.gauges f.series.gauges (ap (λ (x : Exporter). x.series.gauges) frame)
-        (λ i s at. (gauge_id e i s at, (rest.gauges i s at).kind_is)) gauge_grew) in
-        let histograms = in_state kinds.Histogram _ (sampled_series calls_known) (λ es. map_twice series_of (sampled_series calls_known) es) e.series.histograms f.series.histograms
-        (collect sample_shows kinds.Histogram (ids_of e) handles lines moment (length e.series.counters + length e.series.gauges) e.series.histograms f.series.histograms (ap (λ (x : Exporter). x.series.histograms) frame)
-        (λ i s at. (subst (λ n. get_elem? (ids_of e) n ≡ some s.id) (omega arith) (histogram_id e i s at), (rest.histograms i s at).kind_is))
-        (λ i s t at at'. subst (λ n. GrewAt sample_shows kinds.Histogram (ids_of e) handles lines moment n s t) (omega arith) (histogram_grew i s t at at'))) in
-        let orders : RoundOrders = record { counters = counters.0; gauges = gauges.0; histograms = histograms.0 } in (
-          orders,
-          legal round are counters.0 gauges.0 histograms.0 counters.1 gauges.1 histograms.1,
-          subst (λ n. after ≡ after_calls before (record { moment = n; setup = round.setup; calls = round.calls }) orders) (sym when)
-              (λ i. record {
-                prometheus = record { counters = counters.2 i; gauges = gauges.2 i; histograms = histograms.2 i; made = (frame i).series.made; published = (frame i).said.published; pending = (frame i).said.pending };
-                handles = handles;
-              }),
+  module _ (number : ℕ → ℕ) (count : ℕ) (apart : (i k : ℕ) → i < count → k < count → number i ≡ number k → i ≡ k) (own : ℕ → ℕ → List SeriesCall) (under : (j : ℕ) → Under number count apart (own j) (asked_at j)) where
+    -- the history of each thing grew by what its calls stand as, in an order
+    grew_at : (one : SeriesCall → SeriesEntry) (j : ℕ) (c d : Thing SeriesEntry SeriesCell) → ((l : ℕ) → EachStandsAs one (asked_at j l)) → GrewInOrder (λ l. flat_map entries_made (own j l)) c.root.seen d.root.seen
+        → (order : List ℕ) × IsOrder order (asked_at j) × (calls d.root.seen ≡ calls c.root.seen ++ map one (taken order (asked_at j)))
+    grew_at one j c d made (order, is, grew) =
+        let each = each_under number count apart (own j) (asked_at j) (under j) (EachStandsAs one) tt made in
+        let as_made : (λ (l : ℕ). flat_map entries_made (own j l)) ≡ (λ l. map one (own j l)) = λ i l. made_each one (own j l) (each l) i in
+        let own_order = is_order-back one order (own j) (subst (IsOrder order) as_made is) in
+        let by_numbers = taken_under number count apart order (own j) (asked_at j) (under j) own_order in (
+          map number order,
+          order_under number count apart order (own j) (asked_at j) (under j) own_order,
+          grew ∙ ap (λ ls. calls c.root.seen ++ taken order ls) as_made ∙ ap (λ t. calls c.root.seen ++ t) (taken-mapped one order (own j) ∙ ap (map one) (sym by_numbers)),
         )
+
+    module _ (rest : AllRest e) (frame : frame_of f ≡ frame_of e) (grew : EachGrew own)
+        (fits : All (λ (line : CallValue). FitsHandle handles (call_line_of line)) lines) (some_are : All (λ (call : CallLine). RecordsSome call.act) (map call_line_of lines)) where
+      more_counters : length f.series.counters ≡ length e.series.counters
+      more_counters = sym (length-map f.series.counters unseen) ∙ ap (λ (x : Exporter). length x.series.counters) frame ∙ length-map e.series.counters unseen
+
+      more_gauges : length f.series.gauges ≡ length e.series.gauges
+      more_gauges = sym (length-map f.series.gauges unseen) ∙ ap (λ (x : Exporter). length x.series.gauges) frame ∙ length-map e.series.gauges unseen
+
+      counter_grew : (i : ℕ) (s t : LiveSeries (Shared PromCounter)) → get_elem? e.series.counters i ≡ some s → get_elem? f.series.counters i ≡ some t → GrewAt value_shows kinds.Counter (ids_of e) handles lines moment i s t
+      counter_grew i s t at at' =
+          let values = λ (l : ℕ). as_values (asked_at i l) (each_at moment IsValue kinds.Counter (counter_value moment) (ids_of e) handles i l s.id (counter_id e i s at) (rest.counters i s at).kind_is lines fits some_are) in
+          let grown = grew_at entries.Value i (counter_thing s) (counter_thing t) values (grew i (counter_thing s) (counter_thing t) (counter_at e i s at) (counter_at f i t at')) in
+          value_grew moment (ids_of e) handles lines i kinds.Counter s t grown.0 grown.1 grown.2
+
+      gauge_grew : (k : ℕ) (s t : LiveSeries (Shared PromGauge)) → get_elem? e.series.gauges k ≡ some s → get_elem? f.series.gauges k ≡ some t → GrewAt value_shows kinds.Gauge (ids_of e) handles lines moment (length e.series.counters + k) s t
+      gauge_grew k s t at at' =
+          let i = length e.series.counters + k in
+          let values = λ (l : ℕ). as_values (asked_at i l) (each_at moment IsValue kinds.Gauge (gauge_value moment) (ids_of e) handles i l s.id (gauge_id e k s at) (rest.gauges k s at).kind_is lines fits some_are) in
+          let here = subst (λ n. get_elem? (things_of f) (n + k) ≡ some (gauge_thing t)) more_counters (gauge_at f k t at') in
+          let grown = grew_at entries.Value i (gauge_thing s) (gauge_thing t) values (grew i (gauge_thing s) (gauge_thing t) (gauge_at e k s at) here) in
+          value_grew moment (ids_of e) handles lines i kinds.Gauge s t grown.0 grown.1 grown.2
+
+      histogram_grew : (k : ℕ) (s t : LiveSeries Sampled) → get_elem? e.series.histograms k ≡ some s → get_elem? f.series.histograms k ≡ some t
+          → GrewAt sample_shows kinds.Histogram (ids_of e) handles lines moment (length e.series.counters + (length e.series.gauges + k)) s t
+      histogram_grew k s t at at' =
+          let i = length e.series.counters + (length e.series.gauges + k) in
+          let push = λ (l : ℕ). each_at moment IsPush kinds.Histogram (histogram_push moment) (ids_of e) handles i l s.id (histogram_id e k s at) (rest.histograms k s at).kind_is lines fits some_are in
+          let here = subst (λ n. get_elem? (things_of f) (n + (length e.series.gauges + k)) ≡ some (histogram_thing t)) more_counters
+          (subst (λ n. get_elem? (things_of f) (length f.series.counters + (n + k)) ≡ some (histogram_thing t)) more_gauges (histogram_at f k t at')) in
+          let grown = grew_at (λ k. entries.Queue (push_of k)) i (histogram_thing s) (histogram_thing t) (λ l. as_pushes (asked_at i l) (push l)) (grew i (histogram_thing s) (histogram_thing t) (histogram_at e k s at) here) in
+          let (other, other_at, left) = left_at unheard_series e.series.histograms f.series.histograms (ap (λ (x : Exporter). x.series.histograms) frame) k t at' in
+          let same_left : unheard_series t ≡ unheard_series s = sym left ∙ ap unheard_series (one_at e.series.histograms k other s other_at at) in
+          sample_grew moment (ids_of e) handles lines i kinds.Histogram s t grown.0 grown.1 push same_left grown.2
+
+      -- those of a state
+      in_state : {X : Type 0} (kind : MetricKind) (shown : LiveSeries X → Series) (seen : LiveSeries X → LiveSeries SeenCell) → ((es : List (LiveSeries X)) → map shown es ≡ map series_of (map seen es)) → (es fs : List (LiveSeries X))
+          → HaveOrders kind handles lines moment (map shown es) (map shown fs) → HaveOrders kind handles lines moment (map series_of (map seen es)) (map series_of (map seen fs))
+      in_state kind shown seen same_series es fs have =
+          subst (λ l. HaveOrders kind handles lines moment l (map series_of (map seen fs))) (same_series es) (subst (λ l. HaveOrders kind handles lines moment (map shown es) l) (same_series fs) have)
+
+      pub round_made : (round : RoundText) → round.moment ≡ moment → round.calls ≡ map call_line_of lines → IsCalled before round after
+      round_made round when are =
+          let counters = in_state kinds.Counter _ seen_series (λ es. map_twice series_of seen_series es) e.series.counters f.series.counters
+          (collect value_shows kinds.Counter (ids_of e) handles lines moment 0 e.series.counters f.series.counters (ap (λ (x : Exporter). x.series.counters) frame)
+          (λ i s at. (subst (λ n. get_elem? (ids_of e) n ≡ some s.id) (omega arith) (counter_id e i s at), (rest.counters i s at).kind_is))
+          (λ i s t at at'. subst (λ n. GrewAt value_shows kinds.Counter (ids_of e) handles lines moment n s t) (omega arith) (counter_grew i s t at at'))) in
+          let gauges = in_state kinds.Gauge _ seen_series (λ es. map_twice series_of seen_series es) e.series.gauges f.series.gauges
+          (collect value_shows kinds.Gauge (ids_of e) handles lines moment (length e.series.counters) e.series.gauges f.series.gauges (ap (λ (x : Exporter). x.series.gauges) frame)
+          (λ i s at. (gauge_id e i s at, (rest.gauges i s at).kind_is)) gauge_grew) in
+          let histograms = in_state kinds.Histogram _ (sampled_series calls_known) (λ es. map_twice series_of (sampled_series calls_known) es) e.series.histograms f.series.histograms
+          (collect sample_shows kinds.Histogram (ids_of e) handles lines moment (length e.series.counters + length e.series.gauges) e.series.histograms f.series.histograms (ap (λ (x : Exporter). x.series.histograms) frame)
+          (λ i s at. (subst (λ n. get_elem? (ids_of e) n ≡ some s.id) (omega arith) (histogram_id e i s at), (rest.histograms i s at).kind_is))
+          (λ i s t at at'. subst (λ n. GrewAt sample_shows kinds.Histogram (ids_of e) handles lines moment n s t) (omega arith) (histogram_grew i s t at at'))) in
+          let orders : RoundOrders = record { counters = counters.0; gauges = gauges.0; histograms = histograms.0 } in (
+            orders,
+            legal round are counters.0 gauges.0 histograms.0 counters.1 gauges.1 histograms.1,
+            subst (λ n. after ≡ after_calls before (record { moment = n; setup = round.setup; calls = round.calls }) orders) (sym when)
+                (λ i. record {
+                  prometheus = record { counters = counters.2 i; gauges = gauges.2 i; histograms = histograms.2 i; made = (frame i).series.made; published = (frame i).said.published; pending = (frame i).said.pending };
+                  handles = handles;
+                }),
+          )
+
+  -- the same of lanes whose calls on a series are those that they ask for of this exporter, where so many things are before its first one
+  module _ {K : Type 0} (asks : K → List SeriesCall) (first : ℕ) (lanes : List (Lane K)) (apart : Distinct (map number_of lanes)) (same : (j l : ℕ) → told_on asks (first + j) lanes l ≡ asked_at j l) where
+    pub lanes_made : AllRest e → frame_of f ≡ frame_of e → EachGrew (λ j. asked_on asks (first + j) lanes) → All (λ (line : CallValue). FitsHandle handles (call_line_of line)) lines
+        → All (λ (call : CallLine). RecordsSome call.act) (map call_line_of lines) → (round : RoundText) → round.moment ≡ moment → round.calls ≡ map call_line_of lines → IsCalled before round after
+    lanes_made =
+        round_made (number_at lanes) (length lanes) (numbers_differ lanes apart) (λ j. asked_on asks (first + j) lanes)
+        (λ j. subst (λ (ys : ℕ → List SeriesCall). Under (number_at lanes) (length lanes) (numbers_differ lanes apart) (asked_on asks (first + j) lanes) ys) (λ i l. same j l i) (told_under asks (first + j) lanes apart))

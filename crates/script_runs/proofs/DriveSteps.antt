@@ -4,8 +4,7 @@ use Rattle.std.specs.Prelude.{Option, Some, None, IfSome, Result, Ok, Err, IfErr
 use Rattle.std.proofs.lemmas.Option.{none-some}
 use Rattle.std.proofs.lemmas.Result.{err_from_is_err_and}
 use Rattle.metrics_core.specs.Outside.{Rose, GrewBy, GrewByPrefix}
-use Rattle.dsd_addresses.specs.Remotes.{remote_text}
-use Rattle.dsd_addresses.specs.declared.remote_addr.RemoteAddr.{RemoteAddr}
+use Rattle.dsd_addresses.specs.Remotes.{RemoteText}
 use Rattle.drive_script.specs.Script.{ScriptText, SettingsText, lines_of}
 use Rattle.drive_script.specs.Texts.{script_of}
 use Rattle.drive_script.specs.Valid.{IsScriptOf}
@@ -18,8 +17,8 @@ use Rattle.script_runs.specs.Headline.{IsPlayed, IsPlayedInPart, IsGoodScript, s
 use Rattle.script_runs.specs.Orders.{ForSomeRun, run_text}
 use Rattle.drive_script.specs.Settings.{Refusal, refusal_of, refused_setting}
 use Rattle.drive_script.specs.declared.faults.SettingFault.{SettingFault}
-use Rattle.script_runs.specs.Agent.{default_agent}
-use Rattle.script_runs.specs.Answers.{IsAllowed, IsComplete, IsBadScript, IsRefusedSetting, IsTooLong, IsPlayFault, LeavesPrefix, end_status, fault_status}
+use Rattle.script_runs.specs.Answers.{IfPlayedInPart, IfUnplayed, IsAllowed, IsComplete, IsBadScript, IsRefusedSetting, IsReported, IsReportedInPart, IsTooLong, IsPlayFault, LeavesPrefix, end_status, fault_status}
+use Rattle.script_runs.specs.Sent.{IsSent, IsSentInPart, LinkTold}
 use Rattle.script_runs.specs.Reading.{IsReadAs, IsReadFault, IsUnread}
 use Rattle.script_runs.specs.declared.report.Report.{Report}
 use Rattle.script_runs.proofs.RunPages.{run_is_pages}
@@ -34,58 +33,54 @@ good_not_long bytes script good long = omega (arith, good.0, long)
 bad_not_long : (bytes : List ℕ) (l : ℕ) → IsBadScript bytes l → IsTooLong bytes → ⊥
 bad_not_long bytes l bad long = omega (arith, bad.0, long)
 
--- what the settings are refused for at an address that is the agent's
-pub at_agent : (settings : SettingsText) (refused : Option Refusal) (address : RemoteAddr) → remote_text address ≡ default_agent → refused_setting settings (remote_text address) ≡ refused → refused_setting settings default_agent ≡ refused
-at_agent settings refused address is found = ap (refused_setting settings) (sym is) ∙ found
-
 -- the bytes are one script, so that what is refused of one reading is refused of each
-refused_once : (bytes : List ℕ) (script other : ScriptText) → IsGoodScript bytes script → IsGoodScript bytes other → refused_setting other.settings default_agent ≡ refused_setting script.settings default_agent
-refused_once bytes script other good good' = ap (λ (s : ScriptText). refused_setting s.settings default_agent) (one_reading (lines_of bytes) other script good'.1 good.1)
+refused_once : (to : RemoteText) (bytes : List ℕ) (script other : ScriptText) → IsGoodScript bytes script → IsGoodScript bytes other → refused_setting other.settings to ≡ refused_setting script.settings to
+refused_once to bytes script other good good' = ap (λ (s : ScriptText). refused_setting s.settings to) (one_reading (lines_of bytes) other script good'.1 good.1)
 
 -- a good script was played, or a write failed, or memory was wanting: then no other cause holds
-pub good_complete : (bytes : List ℕ) (S K : Type 0) (script : ScriptText) (status : ℕ) → IsGoodScript bytes script → IsAllowed script
-    → (¬ K → (status ≡ 0) ⊎ (status ≡ 8)) → IsComplete bytes S K status
-good_complete bytes S K script status good allowed done = record {
+pub good_complete : (to : RemoteText) (bytes : List ℕ) (S K : Type 0) (script : ScriptText) (status : ℕ) → IsGoodScript bytes script → IsAllowed to script
+    → (¬ K → (status ≡ 0) ⊎ (status ≡ 8)) → IsComplete to bytes S K status
+good_complete to bytes S K script status good allowed done = record {
   too_long = λ long ok. absurd (good_not_long bytes script good long);
   bad_script = λ l bad ok. absurd (good_not_bad bytes script l good bad);
-  refused_setting = λ fault refused ok. absurd (none-some _ (sym allowed ∙ sym (refused_once bytes script refused.0 good refused.1) ∙ refused.2));
+  refused_setting = λ fault refused ok. absurd (none-some _ (sym allowed ∙ sym (refused_once to bytes script refused.0 good refused.1) ∙ refused.2));
   good_script = λ other is allows ok sink_ok. done sink_ok;
 }
 
-pub refused_complete : (bytes : List ℕ) (S K : Type 0) (script : ScriptText) (fault : SettingFault) → IsGoodScript bytes script → refused_setting script.settings default_agent ≡ Some (refusal_of fault) → IsComplete bytes S K 4
-refused_complete bytes S K script fault good refused = record {
+pub refused_complete : (to : RemoteText) (bytes : List ℕ) (S K : Type 0) (script : ScriptText) (fault : SettingFault) → IsGoodScript bytes script → refused_setting script.settings to ≡ Some (refusal_of fault) → IsComplete to bytes S K 4
+refused_complete to bytes S K script fault good refused = record {
   too_long = λ long ok. absurd (good_not_long bytes script good long);
   bad_script = λ l bad ok. absurd (good_not_bad bytes script l good bad);
   refused_setting = λ other is ok. inl refl;
-  good_script = λ other is allows ok sink_ok. absurd (none-some _ (sym allows ∙ refused_once bytes script other good is ∙ refused));
+  good_script = λ other is allows ok sink_ok. absurd (none-some _ (sym allows ∙ refused_once to bytes script other good is ∙ refused));
 }
 
-pub bad_complete : (bytes : List ℕ) (S K : Type 0) (l : ℕ) → IsBadScript bytes l → IsComplete bytes S K 3
-bad_complete bytes S K l bad = record {
+pub bad_complete : (to : RemoteText) (bytes : List ℕ) (S K : Type 0) (l : ℕ) → IsBadScript bytes l → IsComplete to bytes S K 3
+bad_complete to bytes S K l bad = record {
   too_long = λ long ok. absurd (bad_not_long bytes l bad long);
   bad_script = λ other is ok. inl refl;
   refused_setting = λ fault refused ok. absurd (good_not_bad bytes refused.0 l refused.1 bad);
   good_script = λ script good allows ok sink_ok. absurd (good_not_bad bytes script l good bad);
 }
 
-pub long_complete : (bytes : List ℕ) (S K : Type 0) → IsTooLong bytes → IsComplete bytes S K 5
-long_complete bytes S K long = record {
+pub long_complete : (to : RemoteText) (bytes : List ℕ) (S K : Type 0) → IsTooLong bytes → IsComplete to bytes S K 5
+long_complete to bytes S K long = record {
   too_long = λ is ok. inl refl;
   bad_script = λ l bad ok. absurd (bad_not_long bytes l bad long);
   refused_setting = λ fault refused ok. absurd (good_not_long bytes refused.0 refused.1 long);
   good_script = λ script good allows ok sink_ok. absurd (good_not_long bytes script good long);
 }
 
-pub memory_complete : (bytes : List ℕ) (S K : Type 0) → IsComplete bytes S K 8
-memory_complete bytes S K = record {
+pub memory_complete : (to : RemoteText) (bytes : List ℕ) (S K : Type 0) → IsComplete to bytes S K 8
+memory_complete to bytes S K = record {
   too_long = λ is ok. inr refl;
   bad_script = λ l bad ok. inr refl;
   refused_setting = λ fault refused ok. inr refl;
   good_script = λ script good allows ok sink_ok. inr refl;
 }
 
-pub read_fault_complete : (bytes : List ℕ) (S K : Type 0) → S → IsComplete bytes S K 6
-read_fault_complete bytes S K failed = record {
+pub read_fault_complete : (to : RemoteText) (bytes : List ℕ) (S K : Type 0) → S → IsComplete to bytes S K 6
+read_fault_complete to bytes S K failed = record {
   too_long = λ is ok. absurd (ok failed);
   bad_script = λ l bad ok. absurd (ok failed);
   refused_setting = λ fault refused ok. absurd (ok failed);
@@ -123,25 +118,84 @@ played_prefix (Some bytes) items script written written' K fault whole within re
     by faults.WriteFault c = prefix
     by faults.Memory c = inr prefix
 
+-- the payloads of a script read whole and played, and of its first rounds
+pub reported : (left : Option (List ℕ)) (items : List ℕ) (script : ScriptText) (to : RemoteText) (told tells : LinkTold) (ended : Result Report DriveFault)
+    → IfSome left (λ bytes. items ≡ bytes) → IsGoodScript items script → IfOk ended (IsSent script to told tells) → IfOk ended (λ report. IfSome left (λ bytes. IsReported bytes to told tells report))
+reported left items script to told tells (Err fault) whole good sent = tt
+reported None items script to told tells (Ok report) whole good sent = tt
+reported (Some bytes) items script to told tells (Ok report) whole good sent =
+    let P : List ℕ → Type 0 = λ b. IsReported b to told tells report in
+    subst P whole (record { script = script; reading = good; sent = sent })
+
+reported_prefix : (left : Option (List ℕ)) (items : List ℕ) (script : ScriptText) (to : RemoteText) (told tells : LinkTold)
+    → IfSome left (λ bytes. items ≡ bytes) → IsGoodScript items script → IsSentInPart script to told tells → IfSome left (λ bytes. (tells.sent ≡ told.sent) ⊎ IsReportedInPart bytes to told tells)
+reported_prefix None items script to told tells whole good sent = tt
+reported_prefix (Some bytes) items script to told tells whole good sent =
+    let P : List ℕ → Type 0 = λ b. (tells.sent ≡ told.sent) ⊎ IsReportedInPart b to told tells in
+    subst P whole (inr (record { script = script; reading = good; sent = sent }))
+
+pub reported_in_part : (left : Option (List ℕ)) (items : List ℕ) (script : ScriptText) (to : RemoteText) (told tells : LinkTold) (ended : Result Report DriveFault)
+    → IfSome left (λ bytes. items ≡ bytes) → IsGoodScript items script → OnErr ended (IsSentInPart script to told tells)
+    → IfErr ended (IfPlayedInPart (IfSome left (λ bytes. (tells.sent ≡ told.sent) ⊎ IsReportedInPart bytes to told tells)))
+reported_in_part left items script to told tells (Ok report) whole good sent = tt
+reported_in_part left items script to told tells (Err (faults.Script l)) whole good sent = tt
+reported_in_part left items script to told tells (Err (faults.Setting fault)) whole good sent = tt
+reported_in_part left items script to told tells (Err faults.TooLong) whole good sent = tt
+reported_in_part left items script to told tells (Err faults.ReadFault) whole good sent = tt
+reported_in_part left items script to told tells (Err faults.WriteFault) whole good sent = reported_prefix left items script to told tells whole good sent
+reported_in_part left items script to told tells (Err faults.Memory) whole good sent = reported_prefix left items script to told tells whole good sent
+
+-- a play's fault is none of those that come before it
+pub played_on : (P K : Type 0) (ended : Result Report DriveFault) → IfErr ended (IsPlayFault K) → IfErr ended (IfUnplayed P)
+played_on P K (Ok report) cause = tt
+played_on P K (Err (faults.Script l)) cause = absurd cause
+played_on P K (Err (faults.Setting fault)) cause = absurd cause
+played_on P K (Err faults.TooLong) cause = absurd cause
+played_on P K (Err faults.ReadFault) cause = absurd cause
+played_on P K (Err faults.WriteFault) cause = tt
+played_on P K (Err faults.Memory) cause = tt
+
+-- where a fault came before the play, nothing was sent
+pub unsent_by : (P : Type 0) (fault : DriveFault) → P → IfUnplayed P fault
+unsent_by P (faults.Script l) p = p
+unsent_by P (faults.Setting fault) p = p
+unsent_by P faults.TooLong p = p
+unsent_by P faults.ReadFault p = p
+unsent_by P faults.WriteFault p = tt
+unsent_by P faults.Memory p = tt
+
+pub in_part_by : (P : Type 0) (fault : DriveFault) → P → IfPlayedInPart P fault
+in_part_by P (faults.Script l) p = tt
+in_part_by P (faults.Setting fault) p = tt
+in_part_by P faults.TooLong p = tt
+in_part_by P faults.ReadFault p = tt
+in_part_by P faults.WriteFault p = p
+in_part_by P faults.Memory p = p
+
+-- nothing was sent, where the source tells
+pub none_reported : (left : Option (List ℕ)) (to : RemoteText) (told tells : LinkTold) → tells.sent ≡ told.sent → IfSome left (λ bytes. (tells.sent ≡ told.sent) ⊎ IsReportedInPart bytes to told tells)
+none_reported None to told tells same = tt
+none_reported (Some bytes) to told tells same = inl same
+
 -- completeness, where the script was found good
-pub good_answers : (left : Option (List ℕ)) (items : List ℕ) (S K : Type 0) (script : ScriptText) (status : ℕ)
-    → IfSome left (λ bytes. items ≡ bytes) → length items ≤ script_limit → IsScriptOf items script → IsAllowed script → (¬ K → (status ≡ 0) ⊎ (status ≡ 8))
-    → IfSome left (λ bytes. IsComplete bytes S K status)
-good_answers None items S K script status whole within reading allowed done = tt
-good_answers (Some bytes) items S K script status whole within reading allowed done =
-    let P : List ℕ → Type 0 = λ b. IsComplete b S K status in
-    subst P whole (good_complete items S K script status (within, reading) allowed done)
+pub good_answers : (to : RemoteText) (left : Option (List ℕ)) (items : List ℕ) (S K : Type 0) (script : ScriptText) (status : ℕ)
+    → IfSome left (λ bytes. items ≡ bytes) → length items ≤ script_limit → IsScriptOf items script → IsAllowed to script → (¬ K → (status ≡ 0) ⊎ (status ≡ 8))
+    → IfSome left (λ bytes. IsComplete to bytes S K status)
+good_answers to None items S K script status whole within reading allowed done = tt
+good_answers to (Some bytes) items S K script status whole within reading allowed done =
+    let P : List ℕ → Type 0 = λ b. IsComplete to b S K status in
+    subst P whole (good_complete to items S K script status (within, reading) allowed done)
 
 -- a setting of the script that was read is refused: that is the cause, and the answer is complete
-pub setting_refused : (left : Option (List ℕ)) (items : List ℕ) (script : ScriptText) (fault : SettingFault) → IfSome left (λ bytes. items ≡ bytes) → IsGoodScript items script
-    → refused_setting script.settings default_agent ≡ Some (refusal_of fault) → IfSome left (λ bytes. IsRefusedSetting bytes fault)
-setting_refused None items script fault whole good refused = tt
-setting_refused (Some bytes) items script fault whole good refused = subst (λ b. IsRefusedSetting b fault) whole (script, good, refused)
+pub setting_refused : (to : RemoteText) (left : Option (List ℕ)) (items : List ℕ) (script : ScriptText) (fault : SettingFault) → IfSome left (λ bytes. items ≡ bytes) → IsGoodScript items script
+    → refused_setting script.settings to ≡ Some (refusal_of fault) → IfSome left (λ bytes. IsRefusedSetting to bytes fault)
+setting_refused to None items script fault whole good refused = tt
+setting_refused to (Some bytes) items script fault whole good refused = subst (λ b. IsRefusedSetting to b fault) whole (script, good, refused)
 
-pub refused_answers : (left : Option (List ℕ)) (items : List ℕ) (S K : Type 0) (script : ScriptText) (fault : SettingFault) → IfSome left (λ bytes. items ≡ bytes) → IsGoodScript items script
-    → refused_setting script.settings default_agent ≡ Some (refusal_of fault) → IfSome left (λ bytes. IsComplete bytes S K 4)
-refused_answers None items S K script fault whole good refused = tt
-refused_answers (Some bytes) items S K script fault whole good refused = subst (λ b. IsComplete b S K 4) whole (refused_complete items S K script fault good refused)
+pub refused_answers : (to : RemoteText) (left : Option (List ℕ)) (items : List ℕ) (S K : Type 0) (script : ScriptText) (fault : SettingFault) → IfSome left (λ bytes. items ≡ bytes) → IsGoodScript items script
+    → refused_setting script.settings to ≡ Some (refusal_of fault) → IfSome left (λ bytes. IsComplete to bytes S K 4)
+refused_answers to None items S K script fault whole good refused = tt
+refused_answers to (Some bytes) items S K script fault whole good refused = subst (λ b. IsComplete to b S K 4) whole (refused_complete to items S K script fault good refused)
 
 -- what a play's fault leaves open: it is a failed write, or want of memory
 pub play_faults : (K : Type 0) (fault : DriveFault) → IsPlayFault K fault → ¬ K → (fault_status fault ≡ 0) ⊎ (fault_status fault ≡ 8)
@@ -158,27 +212,27 @@ play_ends K (Ok report) c ok = inl refl
 play_ends K (Err fault) c ok = play_faults K fault c ok
 
 -- completeness, where a fault was handed on
-pub complete_handed_on : (left : Option (List ℕ)) (S K : Type 0) (ended : Result Report DriveFault) (fault : DriveFault) → IsErrAnd ended (λ f. f ≡ fault)
-    → IfSome left (λ bytes. IsComplete bytes S K (fault_status fault)) → IfSome left (λ bytes. IsComplete bytes S K (end_status ended))
-complete_handed_on left S K ended fault is complete =
+pub complete_handed_on : (to : RemoteText) (left : Option (List ℕ)) (S K : Type 0) (ended : Result Report DriveFault) (fault : DriveFault) → IsErrAnd ended (λ f. f ≡ fault)
+    → IfSome left (λ bytes. IsComplete to bytes S K (fault_status fault)) → IfSome left (λ bytes. IsComplete to bytes S K (end_status ended))
+complete_handed_on to left S K ended fault is complete =
     let refusal = err_from_is_err_and ended is in
-    subst (λ r. IfSome left (λ bytes. IsComplete bytes S K (end_status r))) (sym refusal.1)
-    (subst (λ f. IfSome left (λ bytes. IsComplete bytes S K (fault_status f))) (sym refusal.2) complete)
+    subst (λ r. IfSome left (λ bytes. IsComplete to bytes S K (end_status r))) (sym refusal.1)
+    (subst (λ f. IfSome left (λ bytes. IsComplete to bytes S K (fault_status f))) (sym refusal.2) complete)
 
 pub err_with : {T E : Type 0} (r : Result T E) (P : Type 0) (C Q : E → Type 0) → OnErr r P → IfErr r C → ((e : E) → P → C e → Q e) → IfErr r Q
 err_with (Ok v) P C Q p c with_both = tt
 err_with (Err e) P C Q p c with_both = with_both e p c
 
 -- completeness, where no script was read
-pub unread_answers : (left : Option (List ℕ)) (S K : Type 0) (fault : DriveFault) → IsUnread left S fault
-    → IfSome left (λ bytes. IsComplete bytes S K (fault_status fault))
-unread_answers None S K fault h = tt
-unread_answers (Some bytes) S K (faults.Script l) h = bad_complete bytes S K l h
-unread_answers (Some bytes) S K (faults.Setting fault) h = absurd h
-unread_answers (Some bytes) S K faults.TooLong h = long_complete bytes S K h
-unread_answers (Some bytes) S K faults.ReadFault h = read_fault_complete bytes S K h
-unread_answers (Some bytes) S K faults.WriteFault h = absurd h
-unread_answers (Some bytes) S K faults.Memory h = memory_complete bytes S K
+pub unread_answers : (to : RemoteText) (left : Option (List ℕ)) (S K : Type 0) (fault : DriveFault) → IsUnread left S fault
+    → IfSome left (λ bytes. IsComplete to bytes S K (fault_status fault))
+unread_answers to None S K fault h = tt
+unread_answers to (Some bytes) S K (faults.Script l) h = bad_complete to bytes S K l h
+unread_answers to (Some bytes) S K (faults.Setting fault) h = absurd h
+unread_answers to (Some bytes) S K faults.TooLong h = long_complete to bytes S K h
+unread_answers to (Some bytes) S K faults.ReadFault h = read_fault_complete to bytes S K h
+unread_answers to (Some bytes) S K faults.WriteFault h = absurd h
+unread_answers to (Some bytes) S K faults.Memory h = memory_complete to bytes S K
 
 -- ---- a script that is read
 

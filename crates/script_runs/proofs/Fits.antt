@@ -10,6 +10,7 @@ use Rattle.drive_script.specs.Script.{CallLine, RoundText, SetupLine, Register, 
 use Rattle.drive_script.specs.Texts.{call_line_of}
 use Rattle.drive_script.specs.Valid.{Registration, registration_of, registered_in, HasHandle}
 use Rattle.drive_script.specs.declared.script.CallLine.{CallLine as CallValue}
+use Rattle.script_runs.specs.Flushes.{FlushPlay, after_registers, register_step}
 use Rattle.script_runs.specs.Play.{PlayState, setup_step, after_setup}
 use Rattle.script_runs.specs.Fitting.{FitsHandle, CallsFit, kinds_of}
 
@@ -53,3 +54,25 @@ first_fits handles round rest fit = (fit.0, fit.1, (fit.2.0, tt))
 
 pub rest_fits : (p : PlayState) (round : RoundText) (rest : List RoundText) → CallsFit p.handles (round ∷ rest) → CallsFit (after_setup p round).handles rest
 rest_fits p round rest fit = (fit.0 ++ registered_in round, after_fit p round fit.0 fit.1, fit.2.1)
+
+-- ---- the same of the handles of the flushes
+
+lines_given : (p : FlushPlay) (setup : List SetupLine) → kinds_of (fold register_step p setup).handles ≡ kinds_of p.handles ++ kinds (filter_map registration_of setup)
+lines_given p [] = sym (append-nil (kinds_of p.handles))
+lines_given p (Describe kind name unit text ∷ setup) = lines_given (register_step p (Describe kind name unit text)) setup
+lines_given p (Register kind key ∷ setup) =
+    lines_given (register_step p (Register kind key)) setup
+    ∙ ap (λ ks. ks ++ kinds (filter_map registration_of setup)) (map-append (λ (id : SeriesId). id.kind) p.handles _)
+    ∙ append_assoc (kinds_of p.handles) (kind ∷ []) (kinds (filter_map registration_of setup))
+
+lines_after_fit : (p : FlushPlay) (round : RoundText) (earlier : List Registration) → kinds_of p.handles ≡ kinds earlier → kinds_of (after_registers p round).handles ≡ kinds (earlier ++ registered_in round)
+lines_after_fit p round earlier same =
+    lines_given p round.setup ∙ ap (λ ks. ks ++ kinds (registered_in round)) same ∙ sym (map-append (λ (r : Registration). r.kind) earlier (registered_in round))
+
+pub lines_calls_fit : (p : FlushPlay) (round : RoundText) (rest : List RoundText) (calls : List CallValue) → round.calls ≡ map call_line_of calls → CallsFit p.handles (round ∷ rest)
+    → All (λ call. FitsHandle (after_registers p round).handles (call_line_of call)) calls
+lines_calls_fit p round rest calls are fit =
+    each_fits (after_registers p round).handles (fit.0 ++ registered_in round) calls (lines_after_fit p round fit.0 fit.1) (subst (All (HasHandle (fit.0 ++ registered_in round))) are fit.2.0)
+
+pub lines_rest_fits : (p : FlushPlay) (round : RoundText) (rest : List RoundText) → CallsFit p.handles (round ∷ rest) → CallsFit (after_registers p round).handles rest
+lines_rest_fits p round rest fit = (fit.0 ++ registered_in round, lines_after_fit p round fit.0 fit.1, fit.2.1)

@@ -1,11 +1,11 @@
--- A lane that is gathered call by call, and the lanes of a round.
+-- A lane that is gathered call line by call line, each of them two lines, and the lanes of a round.
 use Rattle.std.proofs.Common.{◌≡◌, ◌≢◌, ℕ, zero, suc, ◌+◌, ◌<◌, ◌≤◌, ◌⊎◌, Bool, true, false, cond, List, [], ◌∷◌, ◌++◌, length, map, refl, sym, ap, subst, ◌∙◌, inl, inr, ⊎_elim, append-nil, arith, length-append}
-use Rattle.std.specs.Prelude.{◌==◌, ◌&&◌, Result, Ok, Err, IfOk, OnOk, Option, Some, None, IfSome, if◌then◌else◌, not, option_map, unwrap_or, set, slice_get, slice_index, filter}
+use Rattle.std.specs.Prelude.{◌==◌, ◌&&◌, flat_map, Result, Ok, Err, IfOk, OnOk, Option, Some, None, IfSome, if◌then◌else◌, not, option_map, unwrap_or, set, slice_get, slice_index, filter}
 use Rattle.std.proofs.lemmas.Option.{IfSome_then}
 use Rattle.std.specs.List.{list_any, IsDistinct, AllByRecursion}
 use Rattle.std.proofs.lemmas.Bool.{true≢false, eq-eqb, ne_eqb}
 use Rattle.std.proofs.lemmas.List.Elements.{filter-append}
-use Rattle.std.proofs.lemmas.List.{map-append}
+use Rattle.std.proofs.lemmas.List.{length-map, map-append}
 use mathlib.Core.Option.{some, some-injective, some-ne-none}
 use mathlib.Core.Logic.{dite}
 use native.Mathlib.Decide.{ℕ_discrete}
@@ -22,17 +22,24 @@ use Rattle.metrics_core.specs.declared.kinds.SeriesId.{SeriesId}
 use Rattle.metrics_core.specs.declared.kinds.MetricKind.{MetricKind}
 use Rattle.metrics_core.specs.declared.kinds.MetricKind.TheVariants as kinds
 use Rattle.metrics_core.specs.Kinds.{kind_eq}
-use Rattle.metrics_registry.specs.Live.{LiveSeries, IsBelowAll, Rises, AreOf, IsNumbered, id_eq}
+use Rattle.metrics_registry.specs.Live.{LiveSeries, RegistryText, IsBelowAll, Rises, AreOf, IsNumbered, id_eq}
 use Rattle.metrics_registry.proofs.IdTests.{id_eq-same, id_eq-refl}
-use Rattle.prom_exporter.specs.Exporter.{Exporter}
-use Rattle.prom_exporter.specs.LanePasses.{ids_of, IsIndex}
+use Rattle.prom_exporter.specs.Exporter.{Exporter as PrometheusExporter}
+use Rattle.prom_exporter.specs.LanePasses as P
+use Rattle.dsd_exporter.specs.Exporter.{Exporter as DogStatsDExporter}
+use Rattle.dsd_exporter.specs.LanePasses as D
+use Rattle.exporter_lanes.specs.declared.exporters.Exporters.{Exporters}
+use Rattle.exporter_lanes.specs.declared.exporters.ExporterCall.{ExporterCall}
+use Rattle.exporter_lanes.specs.declared.exporters.ExporterCall.TheVariants as exporter
+use Rattle.exporter_lanes.specs.ExporterLanes.{dogstatsd_thing, prometheus_thing, things_of}
 use Rattle.drive_script.specs.Script.{kind_of}
 use Rattle.drive_script.specs.Texts.{act_of}
 use Rattle.drive_script.specs.declared.script.CallLine.{CallLine}
 use Rattle.drive_script.specs.declared.script.Act.{Act}
 use Rattle.drive_script.specs.declared.script.Act.TheVariants as acts
 use Rattle.script_runs.specs.declared.lanes.LaneCalls.{LaneCalls}
-use Rattle.script_runs.specs.LaneCalls.{AllAsked, AreInPlace, AreReady, AsksKind, HasLane, Parts, asked, call_asked, calls_at, gathered_asked, gathered_at, gathered_parts, has_lines, kind_asked, id_at, is_at, is_place, lane_asks, lane_cells, lane_lines, lane_number, numbered, numbered_asked, numbered_at, parts_of, told_of}
+use Rattle.script_runs.specs.declared.lanes.Places.{Places}
+use Rattle.script_runs.specs.LaneCalls.{AllAsked, AreInPlace, AreReady, AsksKind, HasLane, Parts, PlacesAsk, SeriesIds, IsOfKind, asked, both_at, call_asked, calls_at, count_of, gathered_asked, gathered_at, gathered_parts, has_lines, ids_of, kind_asked, id_at, is_at, is_place, lane_asks, lane_cells, lane_lines, lane_number, numbered, numbered_asked, numbered_at, on_both, parts_of, told_of}
 
 pub counter≢gauge : kinds.Counter ≡ kinds.Gauge → ⊥
 counter≢gauge e = true≢false (ap (λ k. kind_eq k kinds.Counter) e)
@@ -98,9 +105,13 @@ found_of (c ∷ cs) (suc s) j e = found_of cs s j e
 pub grown_keys : (eq : ℕ → ℕ → Bool) (old new : List ℕ) (k : ℕ) → new ≡ insert_key eq old k → (ds : List ℕ) × (new ≡ old ++ ds) × ((ds ≡ []) ⊎ (ds ≡ k ∷ []))
 grown_keys eq old new k keys = let more = more_keys eq old k in (more.0, keys ∙ more.1, more.2)
 
-module _ (old new : List ℕ) (lines after : List (Line SeriesCall)) (index slot : ℕ) (call : SeriesCall)
+asks_below : (ids : SeriesIds) (index : ℕ) (call : ExporterCall) → AsksKind ids index call → index < count_of ids
+asks_below ids index (exporter.DogStatsD call) (id, at, is) = let below = some_below ids.dogstatsd index id at in omega (arith, below)
+asks_below ids index (exporter.Prometheus call) (k, past, (id, at, is)) = let below = some_below ids.prometheus k id at in omega (arith, below, past)
+
+module _ (old new : List ℕ) (lines after : List (Line ExporterCall)) (index slot : ℕ) (call : ExporterCall)
     (more : (ds : List ℕ) × (new ≡ old ++ ds) × ((ds ≡ []) ⊎ (ds ≡ index ∷ []))) (stored : slice_get new slot ≡ Some index) (pushed : after ≡ lines ++ record { slot = Some slot; call = call } ∷ []) (fit : LineFit (length old) lines) where
-  abbrev line : Line SeriesCall
+  abbrev line : Line ExporterCall
   line = record { slot = Some slot; call = call }
 
   at_slot : get_elem? new slot ≡ some index
@@ -115,11 +126,11 @@ module _ (old new : List ℕ) (lines after : List (Line SeriesCall)) (index slot
       ap (cell_calls j new) pushed ∙ calls_last j new lines line
       ∙ (λ i. (ap (λ cs. cell_calls j cs lines) more.1 ∙ calls_longer j old more.0 lines fit) i ++ keep (index_found new slot index at_slot i == j) call [])
 
-  cells_asked : (ids : List SeriesId) → AsksKind ids index call → ((s j : ℕ) → get_elem? old s ≡ some j → j < length ids) → (s j : ℕ) → get_elem? new s ≡ some j → j < length ids
+  cells_asked : (ids : SeriesIds) → AsksKind ids index call → ((s j : ℕ) → get_elem? old s ≡ some j → j < count_of ids) → (s j : ℕ) → get_elem? new s ≡ some j → j < count_of ids
   cells_asked ids asks below s j e = ⊎_elim
       (λ (none : more.0 ≡ []). below s j (subst (λ cs. get_elem? cs s ≡ some j) (more.1 ∙ ap (λ l. old ++ l) none ∙ append-nil old) e))
       (λ (one : more.0 ≡ index ∷ []). ⊎_elim (λ (before : get_elem? old s ≡ some j). below s j before)
-      (λ (last : (s ≡ length old) × (index ≡ j)). subst (λ n. n < length ids) last.1 (some_below ids index asks.0 asks.1))
+      (λ (last : (s ≡ length old) × (index ≡ j)). subst (λ n. n < count_of ids) last.1 (asks_below ids index call asks))
       (at_snoc_index old index j s (subst (λ cs. get_elem? cs s ≡ some j) (more.1 ∙ ap (λ l. old ++ l) one) e)))
       more.2
 
@@ -128,25 +139,25 @@ module _ (old new : List ℕ) (lines after : List (Line SeriesCall)) (index slot
       let own = Rattle.cell_lanes.proofs.Lists.below_some old s within in
       own.1 ∙ ap some (one_at new s own.0 j (subst (λ cs. get_elem? cs s ≡ some own.0) (sym more.1) (at_longer old more.0 s own.0 own.1)) e)
 
-  pub pushed_asked : (ids : List SeriesId) → AsksKind ids index call → AllAsked ids old lines → AllAsked ids new after
+  pub pushed_asked : (ids : SeriesIds) → AsksKind ids index call → AllAsked ids old lines → AllAsked ids new after
   pushed_asked ids asks all = (
     cells_asked ids asks all.0,
     (λ k x e. ⊎_elim
         (λ (before : get_elem? lines k ≡ some x). still x.call x.slot (fit k x before) (all.1 k x before))
         (λ (last : (k ≡ length lines) × (line ≡ x)).
-        subst (λ (y : Line SeriesCall). IfSome y.slot (λ s. (j : ℕ) → get_elem? new s ≡ some j → AsksKind ids j y.call)) last.1
+        subst (λ (y : Line ExporterCall). IfSome y.slot (λ s. (j : ℕ) → get_elem? new s ≡ some j → AsksKind ids j y.call)) last.1
         (λ j f. subst (λ n. AsksKind ids n call) (one_at new slot index j at_slot f) asks))
         (at_snoc_index lines line x k (subst (λ xs. get_elem? xs k ≡ some x) pushed e))),
   )
     where
-      still : (call : SeriesCall) (on : Option ℕ) → IfSome on (λ s. s < length old) → IfSome on (λ s. (j : ℕ) → get_elem? old s ≡ some j → AsksKind ids j call)
+      still : (call : ExporterCall) (on : Option ℕ) → IfSome on (λ s. s < length old) → IfSome on (λ s. (j : ℕ) → get_elem? old s ≡ some j → AsksKind ids j call)
           → IfSome on (λ s. (j : ℕ) → get_elem? new s ≡ some j → AsksKind ids j call)
       still call None within asks = tt
       still call (Some s) within asks = λ j f. asks j (old_slot s j within f)
 
 -- one more call that is on no series
-module _ (cells : List ℕ) (lines after : List (Line SeriesCall)) (call : SeriesCall) (pushed : after ≡ lines ++ record { slot = None; call = call } ∷ []) where
-  abbrev past_line : Line SeriesCall
+module _ (cells : List ℕ) (lines after : List (Line ExporterCall)) (call : ExporterCall) (pushed : after ≡ lines ++ record { slot = None; call = call } ∷ []) where
+  abbrev past_line : Line ExporterCall
   past_line = record { slot = None; call = call }
 
   pub past_fit : LineFit (length cells) lines → LineFit (length cells) after
@@ -155,16 +166,16 @@ module _ (cells : List ℕ) (lines after : List (Line SeriesCall)) (call : Serie
   pub past_calls : (j : ℕ) → cell_calls j cells after ≡ cell_calls j cells lines ++ []
   past_calls j = ap (cell_calls j cells) pushed ∙ calls_last j cells lines past_line
 
-  pub past_asked : (ids : List SeriesId) → AllAsked ids cells lines → AllAsked ids cells after
+  pub past_asked : (ids : SeriesIds) → AllAsked ids cells lines → AllAsked ids cells after
   past_asked ids all = (
     all.0,
     (λ k x e. ⊎_elim
         (λ (before : get_elem? lines k ≡ some x). all.1 k x before)
-        (λ (last : (k ≡ length lines) × (past_line ≡ x)). subst (λ (y : Line SeriesCall). IfSome y.slot (λ s. (j : ℕ) → get_elem? cells s ≡ some j → AsksKind ids j y.call)) last.1 tt)
+        (λ (last : (k ≡ length lines) × (past_line ≡ x)). subst (λ (y : Line ExporterCall). IfSome y.slot (λ s. (j : ℕ) → get_elem? cells s ≡ some j → AsksKind ids j y.call)) last.1 tt)
         (at_snoc_index lines past_line x k (subst (λ xs. get_elem? xs k ≡ some x) pushed e))),
   )
 
-pub lines_last : (lines after : List (Line SeriesCall)) (line : Line SeriesCall) → after ≡ lines ++ line ∷ [] → map call_asked after ≡ map call_asked lines ++ line.call ∷ []
+pub lines_last : (lines after : List (Line ExporterCall)) (line : Line ExporterCall) → after ≡ lines ++ line ∷ [] → map call_asked after ≡ map call_asked lines ++ line.call ∷ []
 lines_last lines after line pushed = ap (map call_asked) pushed ∙ map-append call_asked lines (line ∷ [])
 
 -- ---- keys of a set are distinct
@@ -218,18 +229,45 @@ once_behind xs ys once once' not_both i j a e f =
     (front_or_behind xs ys i a e)
 
 -- each id stands at one index
-pub ids_apart : (exporter : Exporter) → IsNumbered exporter.series → StandOnce (ids_of exporter)
-ids_apart exporter numbered =
-    let counters = map its_id exporter.series.counters in
-    let gauges = map its_id exporter.series.gauges in
-    let histograms = map its_id exporter.series.histograms in
-    let of_counter = λ (k : ℕ) (a : SeriesId) (p : get_elem? counters k ≡ some a). kind_at kinds.Counter _ exporter.series.counters numbered.counters.1 k a p in
-    let of_gauge = λ (k : ℕ) (a : SeriesId) (p : get_elem? gauges k ≡ some a). kind_at kinds.Gauge _ exporter.series.gauges numbered.gauges.1 k a p in
-    let of_histogram = λ (k : ℕ) (a : SeriesId) (p : get_elem? histograms k ≡ some a). kind_at kinds.Histogram _ exporter.series.histograms numbered.histograms.1 k a p in
-    once_behind counters (gauges ++ histograms) (rise_apart exporter.series.counters numbered.counters.0)
-    (once_behind gauges histograms (rise_apart exporter.series.gauges numbered.gauges.0) (rise_apart exporter.series.histograms numbered.histograms.0) (λ k l a p q. gauge≢histogram (sym (of_gauge k a p) ∙ of_histogram l a q)))
+pub ids_apart : {X Y Z : Type 0} (series : RegistryText X Y Z) → IsNumbered series → StandOnce (map its_id series.counters ++ (map its_id series.gauges ++ map its_id series.histograms))
+ids_apart series numbered =
+    let counters = map its_id series.counters in
+    let gauges = map its_id series.gauges in
+    let histograms = map its_id series.histograms in
+    let of_counter = λ (k : ℕ) (a : SeriesId) (p : get_elem? counters k ≡ some a). kind_at kinds.Counter _ series.counters numbered.counters.1 k a p in
+    let of_gauge = λ (k : ℕ) (a : SeriesId) (p : get_elem? gauges k ≡ some a). kind_at kinds.Gauge _ series.gauges numbered.gauges.1 k a p in
+    let of_histogram = λ (k : ℕ) (a : SeriesId) (p : get_elem? histograms k ≡ some a). kind_at kinds.Histogram _ series.histograms numbered.histograms.1 k a p in
+    once_behind counters (gauges ++ histograms) (rise_apart series.counters numbered.counters.0)
+    (once_behind gauges histograms (rise_apart series.gauges numbered.gauges.0) (rise_apart series.histograms numbered.histograms.0) (λ k l a p q. gauge≢histogram (sym (of_gauge k a p) ∙ of_histogram l a q)))
     (λ k l a p q. ⊎_elim (λ (g : get_elem? gauges l ≡ some a). counter≢gauge (sym (of_counter k a p) ∙ of_gauge l a g))
     (λ (h : (n : ℕ) × (l ≡ length gauges + n) × (get_elem? histograms n ≡ some a)). counter≢histogram (sym (of_counter k a p) ∙ of_histogram h.0 a h.2)) (front_or_behind gauges histograms l a q))
+
+-- as many ids as things
+pub ids_things : {X Y Z T : Type 0} (f : LiveSeries X → T) (g : LiveSeries Y → T) (h : LiveSeries Z → T) (series : RegistryText X Y Z)
+    → length (map its_id series.counters ++ (map its_id series.gauges ++ map its_id series.histograms)) ≡ length (map f series.counters ++ (map g series.gauges ++ map h series.histograms))
+ids_things f g h series =
+    let cs = series.counters in
+    let gs = series.gauges in
+    let hs = series.histograms in
+    let c = length-map cs its_id ∙ sym (length-map cs f) in
+    let e = length-map gs its_id ∙ sym (length-map gs g) in
+    let d = length-map hs its_id ∙ sym (length-map hs h) in
+    length-append (map its_id cs) (map its_id gs ++ map its_id hs)
+    ∙ (λ i. c i + (length-append (map its_id gs) (map its_id hs) ∙ (λ j. e j + d j) ∙ sym (length-append (map g gs) (map h hs))) i)
+    ∙ sym (length-append (map f cs) (map g gs ++ map h hs))
+
+pub dogstatsd_many : (e : DogStatsDExporter) → length (D.ids_of e) ≡ length (D.things_of e)
+dogstatsd_many e = ids_things D.counter_thing D.gauge_thing D.histogram_thing e.series
+
+pub prometheus_many : (e : PrometheusExporter) → length (P.ids_of e) ≡ length (P.things_of e)
+prometheus_many e = ids_things P.counter_thing P.gauge_thing P.histogram_thing e.series
+
+pub both_many : (both : Exporters) → count_of (ids_of both) ≡ length (things_of both)
+both_many both =
+    let front = D.things_of both.dogstatsd in
+    let back = P.things_of both.prometheus in
+    (λ i. (dogstatsd_many both.dogstatsd ∙ sym (length-map front dogstatsd_thing)) i + (prometheus_many both.prometheus ∙ sym (length-map back prometheus_thing)) i)
+    ∙ sym (length-append (map dogstatsd_thing front) (map prometheus_thing back))
 
 -- ---- whether an index is that of an id
 
@@ -259,10 +297,79 @@ id_at_index ids index j id apart at = dite (ℕ_discrete index j)
     by true is ne = absurd (ne (apart index j at (id_at_true ids j id is)))
     by false is ne = refl
 
--- the index that was found for an id, if any
-pub place_is : (exporter : Exporter) (id : SeriesId) (found : Option ℕ) → IsNumbered exporter.series → IsIndex id exporter found → (j : ℕ) → id_at (ids_of exporter) j id ≡ is_place j found
-place_is exporter id None numbered none j = id_at_none (ids_of exporter) j id none
-place_is exporter id (Some index) numbered at j = id_at_index (ids_of exporter) index j id (λ i k. ids_apart exporter numbered i k id) at
+-- the index that was found for an id in an exporter, if any
+pub prometheus_place : (e : PrometheusExporter) (id : SeriesId) (found : Option ℕ) → IsNumbered e.series → P.IsIndex id e found → (j : ℕ) → id_at (P.ids_of e) j id ≡ is_place j found
+prometheus_place e id None numbered none j = id_at_none (P.ids_of e) j id none
+prometheus_place e id (Some index) numbered at j = id_at_index (P.ids_of e) index j id (λ i k. ids_apart e.series numbered i k id) at
+
+pub dogstatsd_place : (e : DogStatsDExporter) (id : SeriesId) (found : Option ℕ) → IsNumbered e.series → D.IsIndex id e found → (j : ℕ) → id_at (D.ids_of e) j id ≡ is_place j found
+dogstatsd_place e id None numbered none j = id_at_none (D.ids_of e) j id none
+dogstatsd_place e id (Some index) numbered at j = id_at_index (D.ids_of e) index j id (λ i k. ids_apart e.series numbered i k id) at
+
+-- ---- an index among the series of both exporters
+
+abbrev behind : ℕ → Option ℕ → Option ℕ
+behind first found = option_map (λ k. first + k) found
+
+behind_place : (first j : ℕ) (found : Option ℕ) → is_place (first + j) (behind first found) ≡ is_place j found
+behind_place first j None = refl
+behind_place first j (Some k) = dite (ℕ_discrete k j)
+    (λ (same : k ≡ j). eq-eqb (first + k) (first + j) (ap (λ n. first + n) same) ∙ sym (eq-eqb k j same))
+    (λ (ne : ¬ (k ≡ j)). ne_eqb (first + k) (first + j) (λ e. ne (omega (arith, e))) ∙ sym (ne_eqb k j ne))
+
+before_place : (first j : ℕ) (found : Option ℕ) → j < first → is_place j (behind first found) ≡ false
+before_place first j None below = refl
+before_place first j (Some k) below = ne_eqb (first + k) j (λ e. absurd (omega (arith, e, below)))
+
+past_place : (first j : ℕ) (found : Option ℕ) → IfSome found (λ k. k < first) → is_place (first + j) found ≡ false
+past_place first j None below = refl
+past_place first j (Some k) below = ne_eqb k (first + j) (λ e. absurd (omega (arith, e, below)))
+
+-- what a call line asks for on a Prometheus series is for the Prometheus exporter, and the same of a DogStatsD series
+module _ (first : ℕ) (found other : Option ℕ) (within : IfSome other (λ k. k < first)) (places : Places) (at : places.prometheus ≡ behind first found) (at_other : places.dogstatsd ≡ other) (b : Bool) (call : SeriesCall) where
+  pub prometheus_step : (j : ℕ) (t : Bool) → t ≡ is_place j found → (if b then both_at (first + j) places call else []) ≡ map exporter.Prometheus (keep (b && t) call [])
+  prometheus_step j t is =
+      (λ i. if b then keep ((ap (is_place (first + j)) at ∙ behind_place first j found ∙ sym is) i) (exporter.Prometheus call) [] ++ keep ((ap (is_place (first + j)) at_other ∙ past_place first j other within) i) (exporter.DogStatsD call) [] else [])
+      ∙ by b t
+    where
+      by : (b t : Bool) → (if b then keep t (exporter.Prometheus call) [] ++ [] else []) ≡ map exporter.Prometheus (keep (b && t) call [])
+      by true true = refl
+      by true false = refl
+      by false t = refl
+
+  pub dogstatsd_step : (j : ℕ) (t : Bool) → j < first → t ≡ is_place j other → (if b then both_at j places call else []) ≡ map exporter.DogStatsD (keep (b && t) call [])
+  dogstatsd_step j t below is =
+      (λ i. if b then keep ((ap (is_place j) at ∙ before_place first j found below) i) (exporter.Prometheus call) [] ++ keep ((ap (is_place j) at_other ∙ sym is) i) (exporter.DogStatsD call) [] else [])
+      ∙ by b t
+    where
+      by : (b t : Bool) → (if b then keep t (exporter.DogStatsD call) [] else []) ≡ map exporter.DogStatsD (keep (b && t) call [])
+      by true true = refl
+      by true false = refl
+      by false t = refl
+
+pub lines_step : (b : Bool) (call : SeriesCall) → (if b then on_both call else []) ≡ flat_map on_both (keep b call [])
+lines_step true call = refl
+lines_step false call = refl
+
+-- a call line's call is one for the series at its places
+pub places_ask : (ids : SeriesIds) (first : ℕ) (found other : Option ℕ) (places : Places) (call : SeriesCall) → length ids.dogstatsd ≡ first → places.prometheus ≡ behind first found → places.dogstatsd ≡ other
+    → IfSome found (λ k. IsOfKind ids.prometheus k (kind_asked call)) → IfSome other (λ k. IsOfKind ids.dogstatsd k (kind_asked call)) → PlacesAsk ids places call
+places_ask ids first found other places call count at at_other is is_other = (
+  subst (λ o. IfSome o (λ index. AsksKind ids index (exporter.Prometheus call))) (sym at) (prometheus found is),
+  subst (λ o. IfSome o (λ index. AsksKind ids index (exporter.DogStatsD call))) (sym at_other) (dogstatsd other is_other),
+)
+  where
+    prometheus : (found : Option ℕ) → IfSome found (λ k. IsOfKind ids.prometheus k (kind_asked call)) → IfSome (behind first found) (λ index. AsksKind ids index (exporter.Prometheus call))
+    prometheus None is = tt
+    prometheus (Some k) is = (k, ap (λ n. n + k) (sym count), is)
+
+    dogstatsd : (other : Option ℕ) → IfSome other (λ k. IsOfKind ids.dogstatsd k (kind_asked call)) → IfSome other (λ index. AsksKind ids index (exporter.DogStatsD call))
+    dogstatsd None is = tt
+    dogstatsd (Some k) is = is
+
+pub kinds_below : (ids : List SeriesId) (kind : MetricKind) (found : Option ℕ) → IfSome found (λ k. IsOfKind ids k kind) → IfSome found (λ k. k < length ids)
+kinds_below ids kind None is = tt
+kinds_below ids kind (Some k) (id, at, is) = some_below ids k id at
 
 pub kind_of_asked : (moment : ℕ) (act : Act) → kind_of (act_of act) ≡ kind_asked (asked moment act)
 kind_of_asked moment (acts.Inc n) = refl
@@ -325,25 +432,21 @@ module _ {A : Type 0} (tells : LaneCalls → List A) where
   told_past (g ∷ gs) (suc lane) zero y ne = refl
   told_past (g ∷ gs) (suc lane) (suc k) y ne = told_past gs lane k y (λ e. ne (ap suc e))
 
-  -- one more call of one lane
-  pub told_step : (gs : List LaneCalls) (lane : ℕ) (x y : LaneCalls) (b : Bool) (call : A) → get_elem? gs lane ≡ some x → tells y ≡ tells x ++ keep b call []
-      → (k : ℕ) → told_of tells (set gs lane y) k ≡ told_of tells gs k ++ keep ((lane == k) && b) call []
-  told_step gs lane x y b call at is k = dite (ℕ_discrete lane k)
+  -- more calls of one lane
+  pub told_step : (gs : List LaneCalls) (lane : ℕ) (x y : LaneCalls) (more : List A) → get_elem? gs lane ≡ some x → tells y ≡ tells x ++ more
+      → (k : ℕ) → told_of tells (set gs lane y) k ≡ told_of tells gs k ++ (if lane == k then more else [])
+  told_step gs lane x y more at is k = dite (ℕ_discrete lane k)
       (λ (same : lane ≡ k).
-      ap (told_of tells (set gs lane y)) (sym same) ∙ told_set gs lane x y at ∙ is ∙ ap (λ l. l ++ keep b call []) (sym (told_here gs lane x at) ∙ ap (told_of tells gs) same)
-      ∙ ap (λ t. told_of tells gs k ++ keep (t && b) call []) (sym (eq-eqb lane k same)))
+      ap (told_of tells (set gs lane y)) (sym same) ∙ told_set gs lane x y at ∙ is ∙ ap (λ l. l ++ more) (sym (told_here gs lane x at) ∙ ap (told_of tells gs) same)
+      ∙ ap (λ t. told_of tells gs k ++ (if t then more else [])) (sym (eq-eqb lane k same)))
       (λ (ne : ¬ (lane ≡ k)).
-      told_past gs lane k y ne ∙ sym (append-nil (told_of tells gs k)) ∙ ap (λ t. told_of tells gs k ++ keep (t && b) call []) (sym (ne_eqb lane k ne)))
-
-pub both_true : (b : Bool) → b && true ≡ b
-both_true true = refl
-both_true false = refl
+      told_past gs lane k y ne ∙ sym (append-nil (told_of tells gs k)) ∙ ap (λ t. told_of tells gs k ++ (if t then more else [])) (sym (ne_eqb lane k ne)))
 
 -- a lane without calls
 pub room_told : {A : Type 0} (tells : LaneCalls → List A) (none : (y : LaneCalls) → lane_lines y ≡ [] → tells y ≡ []) (gs : List LaneCalls) (y : LaneCalls) → lane_lines y ≡ [] → (k : ℕ) → told_of tells (gs ++ y ∷ []) k ≡ told_of tells gs k
 room_told tells none gs y empty k = told_more tells gs y k (none y empty)
 
-pub room_ready : (ids : List SeriesId) (gs : List LaneCalls) (y : LaneCalls) → lane_cells y ≡ [] → lane_lines y ≡ [] → AreReady ids gs → AreReady ids (gs ++ y ∷ [])
+pub room_ready : (ids : SeriesIds) (gs : List LaneCalls) (y : LaneCalls) → lane_cells y ≡ [] → lane_lines y ≡ [] → AreReady ids gs → AreReady ids (gs ++ y ∷ [])
 room_ready ids gs y no_cells no_lines ready l x at = ⊎_elim
     (λ (before : get_elem? gs l ≡ some x). ready l x before)
     (λ (last : (l ≡ length gs) × (y ≡ x)). subst (λ z. LineFit (length (lane_cells z)) (lane_lines z) × AllAsked ids (lane_cells z) (lane_lines z)) last.1 (
@@ -355,7 +458,7 @@ room_ready ids gs y no_cells no_lines ready l x at = ⊎_elim
     ))
     (at_snoc_index gs y x l at)
 
-pub set_ready : (ids : List SeriesId) (gs : List LaneCalls) (lane : ℕ) (y : LaneCalls) → LineFit (length (lane_cells y)) (lane_lines y) × AllAsked ids (lane_cells y) (lane_lines y) → AreReady ids gs → AreReady ids (set gs lane y)
+pub set_ready : (ids : SeriesIds) (gs : List LaneCalls) (lane : ℕ) (y : LaneCalls) → LineFit (length (lane_cells y)) (lane_lines y) × AllAsked ids (lane_cells y) (lane_lines y) → AreReady ids gs → AreReady ids (set gs lane y)
 set_ready ids gs lane y one ready l x at = ⊎_elim
     (λ (t : (l ≡ lane) × (y ≡ x)). subst (λ z. LineFit (length (lane_cells z)) (lane_lines z) × AllAsked ids (lane_cells z) (lane_lines z)) t.1 one)
     (λ (t : (l ≢ lane) × (get_elem? gs l ≡ some x)). ready l x t.1)
@@ -446,19 +549,19 @@ filter_at {X} test (y ∷ ys) i x at = by (test y) refl (λ k e. filter_at test 
 no_lines : (x : LaneCalls) → has_lines x ≡ false → lane_lines x ≡ []
 no_lines x none = by (lane_lines x) none
   where
-    by : (lines : List (Line SeriesCall)) → not (length lines == 0) ≡ false → lines ≡ []
+    by : (lines : List (Line ExporterCall)) → not (length lines == 0) ≡ false → lines ≡ []
     by [] is = refl
     by (y ∷ ys) is = absurd (true≢false (sym (ap not (ne_eqb (length (y ∷ ys)) 0 (λ e. absurd (omega (arith, e))))) ∙ is))
 
 some_lines : (x : LaneCalls) → has_lines x ≡ true → 0 < length (lane_lines x)
 some_lines x is = by (lane_lines x) is
   where
-    by : (lines : List (Line SeriesCall)) → not (length lines == 0) ≡ true → 0 < length lines
+    by : (lines : List (Line ExporterCall)) → not (length lines == 0) ≡ true → 0 < length lines
     by [] is = absurd cc
     by (y ∷ ys) is = omega arith
 
 -- lanes with these parts
-module _ (lanes : List (Lane SeriesCall)) (gs : List LaneCalls) (parts : map parts_of lanes ≡ map gathered_parts (filter has_lines gs)) where
+module _ (lanes : List (Lane ExporterCall)) (gs : List LaneCalls) (parts : map parts_of lanes ≡ map gathered_parts (filter has_lines gs)) where
   abbrev number_in : Parts → ℕ
   number_in p = p.0
 
@@ -477,7 +580,7 @@ module _ (lanes : List (Lane SeriesCall)) (gs : List LaneCalls) (parts : map par
   pub built_numbers : AreInPlace 0 gs → Distinct (map lane_number lanes)
   built_numbers places = subst Distinct (sym (same_numbers lanes (filter has_lines gs) parts)) (numbers_apart 0 gs places)
     where
-      same_numbers : (lanes : List (Lane SeriesCall)) (xs : List LaneCalls) → map parts_of lanes ≡ map gathered_parts xs → map lane_number lanes ≡ map g_number xs
+      same_numbers : (lanes : List (Lane ExporterCall)) (xs : List LaneCalls) → map parts_of lanes ≡ map gathered_parts xs → map lane_number lanes ≡ map g_number xs
       same_numbers [] [] e = refl
       same_numbers [] (x ∷ xs) e = absurd cc
       same_numbers (a ∷ more) [] e = absurd cc
@@ -489,18 +592,18 @@ module _ (lanes : List (Lane SeriesCall)) (gs : List LaneCalls) (parts : map par
           rest_parts : (p r : Parts) (ps rs : List Parts) → p ∷ ps ≡ r ∷ rs → ps ≡ rs
           rest_parts p r ps rs e = cc
 
-  found_in : (i : ℕ) (lane : Lane SeriesCall) → get_elem? lanes i ≡ some lane → (k : ℕ) × ((x : LaneCalls) × (get_elem? gs k ≡ some x) × (has_lines x ≡ true) × (gathered_parts x ≡ parts_of lane))
+  found_in : (i : ℕ) (lane : Lane ExporterCall) → get_elem? lanes i ≡ some lane → (k : ℕ) × ((x : LaneCalls) × (get_elem? gs k ≡ some x) × (has_lines x ≡ true) × (gathered_parts x ≡ parts_of lane))
   found_in i lane at =
       let found = map_at gathered_parts (filter has_lines gs) i (parts_of lane) (subst (λ ps. get_elem? ps i ≡ some (parts_of lane)) parts (at_map parts_of lanes i lane at)) in
       let old = filter_at has_lines gs i found.0 found.1 in
       (old.0, (found.0, old.1, old.2, found.2))
 
-  pub built_ready : (ids : List SeriesId) → AreReady ids gs → (i : ℕ) (lane : Lane SeriesCall) → get_elem? lanes i ≡ some lane → LineFit (length lane.cells.items) lane.lines.items × AllAsked ids lane.cells.items lane.lines.items
+  pub built_ready : (ids : SeriesIds) → AreReady ids gs → (i : ℕ) (lane : Lane ExporterCall) → get_elem? lanes i ≡ some lane → LineFit (length lane.cells.items) lane.lines.items × AllAsked ids lane.cells.items lane.lines.items
   built_ready ids ready i lane at =
       let h = found_in i lane at in
       subst (λ (p : Parts). LineFit (length p.1) p.2 × AllAsked ids p.1 p.2) h.1.3 (ready h.0 h.1.0 h.1.1)
 
-  pub built_busy : (i : ℕ) (lane : Lane SeriesCall) → get_elem? lanes i ≡ some lane → 0 < length lane.lines.items
+  pub built_busy : (i : ℕ) (lane : Lane ExporterCall) → get_elem? lanes i ≡ some lane → 0 < length lane.lines.items
   built_busy i lane at = let h = found_in i lane at in subst (λ (p : Parts). 0 < length p.2) h.1.3 (some_lines h.1.0 h.1.2)
 
 -- ---- answers

@@ -14,6 +14,12 @@ pub mod Numbers
 pub mod TimelyRounds
 pub mod RecordedRounds
 pub mod AfterLanes
+pub mod AfterFlushLanes
 pub mod RestingSteps
 pub mod Unmapped
 pub mod Rendered
+pub mod OverBoth
+pub mod Delivered
+pub mod SendSteps
+pub mod LineSteps
+pub mod PayloadLimits

@@ -1,6 +1,6 @@
 -- Lanes by their numbers: an order of lanes as an order of their numbers.
 use Rattle.std.proofs.Common.{◌≡◌, ℕ, zero, suc, ◌+◌, ◌<◌, ◌≤◌, ◌⊎◌, Bool, true, false, List, [], ◌∷◌, ◌++◌, length, map, refl, sym, ap, subst, ◌∙◌, inl, inr, ⊎_elim, arith, lt_of_not-le}
-use Rattle.std.specs.Prelude.{◌==◌, if◌then◌else◌}
+use Rattle.std.specs.Prelude.{◌==◌, if◌then◌else◌, flat_map}
 use Rattle.std.proofs.lemmas.Bool.{eq-eqb, ne_eqb}
 use mathlib.Core.Logic.{dite}
 use native.Mathlib.Decide.{ℕ_discrete, dec_le}
@@ -8,8 +8,7 @@ use Rattle.legal_history.specs.History.{Distinct, In}
 use Rattle.legal_history.specs.Order.{flag, times, first_of, rest_of, rest_if, without_first, taken, IsOrder}
 use Rattle.cell_lanes.specs.declared.lane.Lane.{Lane}
 use Rattle.cell_lanes.specs.Lanes.{all_calls_on, cell_calls}
-use Rattle.metrics_core.specs.declared.calls.SeriesCall.{SeriesCall}
-use Rattle.script_runs.specs.LaneCalls.{lane_number, numbered_at}
+use Rattle.script_runs.specs.LaneCalls.{numbered, numbered_at}
 
 -- ---- an order under other numbers
 
@@ -93,57 +92,74 @@ module _ {A : Type 0} (n : ℕ → ℕ) (count : ℕ) (apart : (i k : ℕ) → i
       (λ (far : (i : ℕ) → i < count → n i ≡ t → ⊥). times_none order xs ys under is t far ∙ sym (ap length (under.none t far)))
       (find n count t count (omega arith))
 
+  -- what is so of the lists under all numbers is so of each list
+  pub each_under : (xs ys : ℕ → List A) → Under xs ys → (P : List A → Type 0) → P [] → ((l : ℕ) → P (ys l)) → (i : ℕ) → P (xs i)
+  each_under xs ys under P none each i = dite (dec_le (suc i) count)
+      (λ (less : suc i ≤ count). subst P (sym (under.same i less)) (each (n i)))
+      (λ (above : ¬ (suc i ≤ count)). subst P (sym (under.past i (omega (arith, lt_of_not-le above)))) none)
+
 -- ---- lanes
 
-abbrev pub number_at : List (Lane SeriesCall) → ℕ → ℕ
-number_at [] i = 0
-number_at (x ∷ xs) zero = x.number
-number_at (x ∷ xs) (suc i) = number_at xs i
+module _ {K : Type 0} where
+  abbrev pub number_at : List (Lane K) → ℕ → ℕ
+  number_at [] i = 0
+  number_at (x ∷ xs) zero = x.number
+  number_at (x ∷ xs) (suc i) = number_at xs i
 
-numbered_in : (lanes : List (Lane SeriesCall)) (i : ℕ) → i < length lanes → In (number_at lanes i) (map lane_number lanes)
-numbered_in [] i less = absurd (omega (arith, less))
-numbered_in (x ∷ xs) zero less = inl refl
-numbered_in (x ∷ xs) (suc i) less = inr (numbered_in xs i (omega (arith, less)))
+  abbrev pub number_of : Lane K → ℕ
+  number_of lane = lane.number
 
-pub numbers_differ : (lanes : List (Lane SeriesCall)) → Distinct (map lane_number lanes) → (i k : ℕ) → i < length lanes → k < length lanes → number_at lanes i ≡ number_at lanes k → i ≡ k
-numbers_differ [] apart i k less below e = absurd (omega (arith, less))
-numbers_differ (x ∷ xs) apart zero zero less below e = refl
-numbers_differ (x ∷ xs) apart zero (suc k) less below e = absurd (apart.0 (subst (λ t. In t (map lane_number xs)) (sym e) (numbered_in xs k (omega (arith, below)))))
-numbers_differ (x ∷ xs) apart (suc i) zero less below e = absurd (apart.0 (subst (λ t. In t (map lane_number xs)) e (numbered_in xs i (omega (arith, less)))))
-numbers_differ (x ∷ xs) apart (suc i) (suc k) less below e = ap suc (numbers_differ xs apart.1 i k (omega (arith, less)) (omega (arith, below)) e)
+  numbered_in : (lanes : List (Lane K)) (i : ℕ) → i < length lanes → In (number_at lanes i) (map number_of lanes)
+  numbered_in [] i less = absurd (omega (arith, less))
+  numbered_in (x ∷ xs) zero less = inl refl
+  numbered_in (x ∷ xs) (suc i) less = inr (numbered_in xs i (omega (arith, less)))
 
-module _ (j : ℕ) where
-  own_calls : (lanes : List (Lane SeriesCall)) → Distinct (map lane_number lanes) → (i : ℕ) → i < length lanes → all_calls_on j lanes i ≡ numbered_at j lanes (number_at lanes i)
-  own_calls [] apart i less = absurd (omega (arith, less))
-  own_calls (x ∷ xs) apart zero less = sym (ap (λ b. if b then cell_calls j x.cells.items x.lines.items else numbered_at j xs x.number) (eq-eqb x.number x.number refl))
-  own_calls (x ∷ xs) apart (suc i) less =
+  pub numbers_differ : (lanes : List (Lane K)) → Distinct (map number_of lanes) → (i k : ℕ) → i < length lanes → k < length lanes → number_at lanes i ≡ number_at lanes k → i ≡ k
+  numbers_differ [] apart i k less below e = absurd (omega (arith, less))
+  numbers_differ (x ∷ xs) apart zero zero less below e = refl
+  numbers_differ (x ∷ xs) apart zero (suc k) less below e = absurd (apart.0 (subst (λ t. In t (map number_of xs)) (sym e) (numbered_in xs k (omega (arith, below)))))
+  numbers_differ (x ∷ xs) apart (suc i) zero less below e = absurd (apart.0 (subst (λ t. In t (map number_of xs)) e (numbered_in xs i (omega (arith, less)))))
+  numbers_differ (x ∷ xs) apart (suc i) (suc k) less below e = ap suc (numbers_differ xs apart.1 i k (omega (arith, less)) (omega (arith, below)) e)
+
+-- of lanes that ask for calls of another kind: those among them that are for one exporter
+module _ {K A : Type 0} (asks : K → List A) (j : ℕ) where
+  -- what a lane asks for on cell j
+  abbrev pub asked_by : Lane K → List A
+  asked_by lane = flat_map asks (cell_calls j lane.cells.items lane.lines.items)
+
+  -- the same of the lane with this place in the list, and of the lane with this number
+  abbrev pub asked_on : List (Lane K) → ℕ → List A
+  asked_on lanes i = flat_map asks (all_calls_on j lanes i)
+
+  abbrev pub told_on : List (Lane K) → ℕ → List A
+  told_on = numbered number_of asked_by
+
+  told_own : (lanes : List (Lane K)) → Distinct (map number_of lanes) → (i : ℕ) → i < length lanes → asked_on lanes i ≡ told_on lanes (number_at lanes i)
+  told_own [] apart i less = absurd (omega (arith, less))
+  told_own (x ∷ xs) apart zero less = sym (ap (λ b. if b then asked_by x else told_on xs x.number) (eq-eqb x.number x.number refl))
+  told_own (x ∷ xs) apart (suc i) less =
       let within : i < length xs = omega (arith, less) in
-      own_calls xs apart.1 i within
-      ∙ sym (ap (λ b. if b then cell_calls j x.cells.items x.lines.items else numbered_at j xs (number_at xs i)) (ne_eqb x.number (number_at xs i) (λ e. apart.0 (subst (λ t. In t (map lane_number xs)) (sym e) (numbered_in xs i within)))))
+      told_own xs apart.1 i within
+      ∙ sym (ap (λ b. if b then asked_by x else told_on xs (number_at xs i)) (ne_eqb x.number (number_at xs i) (λ e. apart.0 (subst (λ t. In t (map number_of xs)) (sym e) (numbered_in xs i within)))))
 
-  no_lane : (lanes : List (Lane SeriesCall)) (i : ℕ) → length lanes ≤ i → all_calls_on j lanes i ≡ []
-  no_lane [] i past = refl
-  no_lane (x ∷ xs) zero past = absurd (omega (arith, past))
-  no_lane (x ∷ xs) (suc i) past = no_lane xs i (omega (arith, past))
+  told_past : (lanes : List (Lane K)) (i : ℕ) → length lanes ≤ i → asked_on lanes i ≡ []
+  told_past [] i past = refl
+  told_past (x ∷ xs) zero past = absurd (omega (arith, past))
+  told_past (x ∷ xs) (suc i) past = told_past xs i (omega (arith, past))
 
-  no_number : (lanes : List (Lane SeriesCall)) (t : ℕ) → ((i : ℕ) → i < length lanes → number_at lanes i ≡ t → ⊥) → numbered_at j lanes t ≡ []
-  no_number [] t far = refl
-  no_number (x ∷ xs) t far =
-      ap (λ b. if b then cell_calls j x.cells.items x.lines.items else numbered_at j xs t) (ne_eqb x.number t (far 0 (omega arith))) ∙ no_number xs t (λ i less e. far (suc i) (omega (arith, less)) e)
+  told_none : (lanes : List (Lane K)) (t : ℕ) → ((i : ℕ) → i < length lanes → number_at lanes i ≡ t → ⊥) → told_on lanes t ≡ []
+  told_none [] t far = refl
+  told_none (x ∷ xs) t far = ap (λ b. if b then asked_by x else told_on xs t) (ne_eqb x.number t (far 0 (omega arith))) ∙ told_none xs t (λ i less e. far (suc i) (omega (arith, less)) e)
 
-  -- an order of lanes, as an order of their numbers
-  pub by_number : (lanes : List (Lane SeriesCall)) → Distinct (map lane_number lanes) → (order : List ℕ) → IsOrder order (λ i. all_calls_on j lanes i)
-      → IsOrder (map (number_at lanes) order) (numbered_at j lanes) × (taken (map (number_at lanes) order) (numbered_at j lanes) ≡ taken order (λ i. all_calls_on j lanes i))
-  by_number lanes apart order is =
-      let differ = numbers_differ lanes apart in
-      let under : Under (number_at lanes) (length lanes) differ (λ i. all_calls_on j lanes i) (numbered_at j lanes)
-      = record { same = own_calls lanes apart; past = no_lane lanes; none = no_number lanes } in (
-        order_under (number_at lanes) (length lanes) differ order (λ i. all_calls_on j lanes i) (numbered_at j lanes) under is,
-        taken_under (number_at lanes) (length lanes) differ order (λ i. all_calls_on j lanes i) (numbered_at j lanes) under is,
-      )
+  -- of all that the lane with this number asks for on the cell, the calls for the exporter
+  pub told_calls : (lanes : List (Lane K)) (l : ℕ) → told_on lanes l ≡ flat_map asks (numbered_at j lanes l)
+  told_calls [] l = refl
+  told_calls (x ∷ xs) l = by (x.number == l) (told_calls xs l)
+    where
+      by : (b : Bool) → told_on xs l ≡ flat_map asks (numbered_at j xs l) → (if b then asked_by x else told_on xs l) ≡ flat_map asks (if b then cell_calls j x.cells.items x.lines.items else numbered_at j xs l)
+      by true rest = refl
+      by false rest = rest
 
-  -- what is so of the calls of each number is so of those of each lane
-  pub at_each_lane : (P : List SeriesCall → Type 0) → P [] → (lanes : List (Lane SeriesCall)) → Distinct (map lane_number lanes) → ((l : ℕ) → P (numbered_at j lanes l)) → (i : ℕ) → P (all_calls_on j lanes i)
-  at_each_lane P none lanes apart each i = dite (dec_le (suc i) (length lanes))
-      (λ (less : suc i ≤ length lanes). subst P (sym (own_calls lanes apart i less)) (each (number_at lanes i)))
-      (λ (past : ¬ (suc i ≤ length lanes)). subst P (sym (no_lane lanes i (omega (arith, lt_of_not-le past)))) none)
+  -- what lanes ask for by their places, under their numbers
+  pub told_under : (lanes : List (Lane K)) (apart : Distinct (map number_of lanes)) → Under (number_at lanes) (length lanes) (numbers_differ lanes apart) (asked_on lanes) (told_on lanes)
+  told_under lanes apart = record { same = told_own lanes apart; past = told_past lanes; none = told_none lanes }

@@ -1,7 +1,6 @@
 -- The exporter between rounds: its series under their indices, and what registration, a round of lanes and a page leave.
-use Rattle.std.proofs.Common.{◌≡◌, ℕ, zero, suc, ◌+◌, ◌⊎◌, Bool, true, false, cond, List, [], ◌∷◌, ◌++◌, length, map, refl, sym, ap, subst, ◌∙◌, inl, inr, ⊎_elim, arith, length-append}
+use Rattle.std.proofs.Common.{◌≡◌, ℕ, zero, suc, ◌+◌, ◌⊎◌, Bool, true, false, cond, List, [], ◌∷◌, ◌++◌, length, map, refl, sym, ap, subst, ◌∙◌, inl, inr, ⊎_elim, arith}
 use Rattle.std.specs.Prelude.{Result, Ok, Err, OnOk, Option, All}
-use Rattle.std.proofs.lemmas.Option.{IfSome_then}
 use Rattle.std.proofs.lemmas.List.{length-map}
 use Rattle.std.proofs.lemmas.List.Elements.{All-cons, All-nil}
 use mathlib.Core.Option.{some, some-ne-none, some-injective}
@@ -11,9 +10,8 @@ use Rattle.legal_history.specs.declared.history.View.{View}
 use Rattle.legal_history.specs.History.{Settled, first, looked}
 use Rattle.legal_history.proofs.Mapped.{settled-mapped}
 use Rattle.legal_history.proofs.Steps.{one_at}
-use Rattle.cell_lanes.specs.declared.lane.Lane.{Lane}
-use Rattle.cell_lanes.specs.Things.{Thing, root_of, fixed_of}
-use Rattle.cell_lanes.specs.Lanes.{AllTaken, AtRest, Roots}
+use Rattle.cell_lanes.specs.Things.{Thing, root_of}
+use Rattle.cell_lanes.specs.Lanes.{AtRest, Roots}
 use Rattle.cell_lanes.proofs.Resting.{rests_after}
 use Rattle.metrics_core.specs.Keys.{KeyText}
 use Rattle.metrics_core.specs.declared.kinds.MetricKind.{MetricKind}
@@ -36,7 +34,7 @@ use Rattle.prom_exporter.specs.declared.lanes.SeriesCell.TheVariants as cells
 use Rattle.prom_exporter.specs.declared.lanes.SeriesEntry.{SeriesEntry}
 use Rattle.prom_exporter.specs.declared.lanes.SeriesEntry.TheVariants as entries
 use Rattle.prom_exporter.specs.LanePasses.{TakesCall, counter_thing, gauge_thing, histogram_thing, things_of, ids_of, frame_of, unseen, unheard_series}
-use Rattle.script_runs.specs.LaneCalls.{AllAsked, kind_asked}
+use Rattle.script_runs.specs.LaneCalls.{IsOfKind, kind_asked}
 use Rattle.script_runs.specs.Resting.{AllRest, EachRests, IsResting, sample_root, value_root}
 use Rattle.script_runs.proofs.LaneSteps.{counter≢gauge, counter≢histogram, gauge≢histogram, front_or_behind, its_id, map_at}
 use Rattle.script_runs.proofs.Unmapped.{queue_once, settled-back, value_once}
@@ -49,16 +47,16 @@ at_behind (x ∷ xs) ys k a e = let more : suc (length xs + k) ≡ length (x ∷
 
 -- what is known of a series under its index, where it is seen so
 module _ {X A : Type 0} (seen : X → A) (xs : List X) where
-  first_at : (rest : List A) (i : ℕ) (x : X) → get_elem? xs i ≡ some x → get_elem? (map seen xs ++ rest) i ≡ some (seen x)
+  pub first_at : (rest : List A) (i : ℕ) (x : X) → get_elem? xs i ≡ some x → get_elem? (map seen xs ++ rest) i ≡ some (seen x)
   first_at rest i x at = at_longer (map seen xs) rest i (seen x) (at_map seen xs i x at)
 
 module _ {X Y A : Type 0} (front : Y → A) (seen : X → A) (ys : List Y) (xs : List X) where
-  next_at : (rest : List A) (k : ℕ) (x : X) → get_elem? xs k ≡ some x → get_elem? (map front ys ++ (map seen xs ++ rest)) (length ys + k) ≡ some (seen x)
+  pub next_at : (rest : List A) (k : ℕ) (x : X) → get_elem? xs k ≡ some x → get_elem? (map front ys ++ (map seen xs ++ rest)) (length ys + k) ≡ some (seen x)
   next_at rest k x at = subst (λ n. get_elem? (map front ys ++ (map seen xs ++ rest)) (n + k) ≡ some (seen x)) (length-map ys front) (at_behind (map front ys) (map seen xs ++ rest) k (seen x) (first_at seen xs rest k x at))
 
 -- behind two other lists
 module _ {X Y Z A : Type 0} (front : Y → A) (middle : Z → A) (seen : X → A) (ys : List Y) (zs : List Z) (xs : List X) where
-  last_at : (k : ℕ) (x : X) → get_elem? xs k ≡ some x → get_elem? (map front ys ++ (map middle zs ++ map seen xs)) (length ys + (length zs + k)) ≡ some (seen x)
+  pub last_at : (k : ℕ) (x : X) → get_elem? xs k ≡ some x → get_elem? (map front ys ++ (map middle zs ++ map seen xs)) (length ys + (length zs + k)) ≡ some (seen x)
   last_at k x at =
       let inner = subst (λ n. get_elem? (map middle zs ++ map seen xs) (n + k) ≡ some (seen x)) (length-map zs middle) (at_behind (map middle zs) (map seen xs) k (seen x) (at_map seen xs k x at)) in
       subst (λ n. get_elem? (map front ys ++ (map middle zs ++ map seen xs)) (n + (length zs + k)) ≡ some (seen x)) (length-map ys front) (at_behind (map front ys) (map middle zs ++ map seen xs) (length zs + k) (seen x) inner)
@@ -161,23 +159,21 @@ module _ (e : Exporter) where
   takes_histogram queue (calls.Set v) is = absurd (gauge≢histogram (sym is))
   takes_histogram queue (calls.Record v moment count) is = tt
 
-  -- each lane's calls are of the kinds of their series
-  pub all_taken : (lanes : List (Lane SeriesCall)) → AllRest e → ((l : ℕ) (lane : Lane SeriesCall) → get_elem? lanes l ≡ some lane → AllAsked (ids_of e) lane.cells.items lane.lines.items)
-      → AllTaken fixed_of TakesCall (things_of e) lanes
-  all_taken lanes rest asked l a k x at_lane at_line = IfSome_then x.slot ((asked l a at_lane).1 k x at_line) (λ slot asks_at j t at_cell at_thing.
-      let asks = asks_at j at_cell in
+  -- a call of a series' kind is one that the series takes
+  pub takes_at : AllRest e → (j : ℕ) (t : SeriesThing) (call : SeriesCall) → get_elem? (things_of e) j ≡ some t → IsOfKind (ids_of e) j (kind_asked call) → TakesCall t.fixed call
+  takes_at rest j t call at_thing asks =
       -- the series with this index has the kind of the call
       let asked_kind = λ (kind : MetricKind) (id : SeriesId) (at : get_elem? (ids_of e) j ≡ some id) (is : id.kind ≡ kind). sym is ∙ ap (λ (i : SeriesId). i.kind) (one_at (ids_of e) j id asks.0 at asks.1) ∙ asks.2 in
       ⊎_elim
-      (λ (c : CounterAt j t). subst (λ (y : SeriesThing). TakesCall y.fixed x.call) c.2 (takes_counter c.0.cell.cell x.call (asked_kind kinds.Counter c.0.id (counter_id j c.0 c.1) (rest.counters j c.0 c.1).kind_is)))
+      (λ (c : CounterAt j t). subst (λ (y : SeriesThing). TakesCall y.fixed call) c.2 (takes_counter c.0.cell.cell call (asked_kind kinds.Counter c.0.id (counter_id j c.0 c.1) (rest.counters j c.0 c.1).kind_is)))
       (λ (others : GaugeAt j t ⊎ HistogramAt j t). ⊎_elim
       (λ (g : GaugeAt j t).
-      subst (λ (y : SeriesThing). TakesCall y.fixed x.call) g.2.2
-      (takes_gauge g.2.0.cell.cell x.call (asked_kind kinds.Gauge g.2.0.id (subst (λ n. get_elem? (ids_of e) n ≡ some g.2.0.id) (sym g.1) (gauge_id g.0 g.2.0 g.2.1)) (rest.gauges g.0 g.2.0 g.2.1).kind_is)))
+      subst (λ (y : SeriesThing). TakesCall y.fixed call) g.2.2
+      (takes_gauge g.2.0.cell.cell call (asked_kind kinds.Gauge g.2.0.id (subst (λ n. get_elem? (ids_of e) n ≡ some g.2.0.id) (sym g.1) (gauge_id g.0 g.2.0 g.2.1)) (rest.gauges g.0 g.2.0 g.2.1).kind_is)))
       (λ (h : HistogramAt j t).
-      subst (λ (y : SeriesThing). TakesCall y.fixed x.call) h.2.2
-      (takes_histogram h.2.0.cell.series.cell x.call (asked_kind kinds.Histogram h.2.0.id (subst (λ n. get_elem? (ids_of e) n ≡ some h.2.0.id) (sym h.1) (histogram_id h.0 h.2.0 h.2.1)) (rest.histograms h.0 h.2.0 h.2.1).kind_is)))
-      others) (thing_at j t at_thing))
+      subst (λ (y : SeriesThing). TakesCall y.fixed call) h.2.2
+      (takes_histogram h.2.0.cell.series.cell call (asked_kind kinds.Histogram h.2.0.id (subst (λ n. get_elem? (ids_of e) n ≡ some h.2.0.id) (sym h.1) (histogram_id h.0 h.2.0 h.2.1)) (rest.histograms h.0 h.2.0 h.2.1).kind_is)))
+      others) (thing_at j t at_thing)
 
 -- no pass of any cell is out
 each_home : {X M : Type 0} (root : X → View M) (kind : MetricKind) (P : X → Type 0) → ((x : X) → ((root x).number ≡ 0) × ((root x).out ≡ 0) → P x) → (es : List (LiveSeries X)) → EachRests root kind es → All (λ (s : LiveSeries X). P s.cell) es
@@ -190,19 +186,6 @@ rest_home e rest = (
   each_home value_root kinds.Gauge _ (λ x home. home) e.series.gauges rest.gauges,
   each_home sample_root kinds.Histogram _ (λ x home. home) e.series.histograms rest.histograms,
 )
-
--- as many things as ids
-pub many_things : (e : Exporter) → length (ids_of e) ≡ length (things_of e)
-many_things e =
-    let cs = e.series.counters in
-    let gs = e.series.gauges in
-    let hs = e.series.histograms in
-    let c = length-map cs its_id ∙ sym (length-map cs counter_thing) in
-    let g = length-map gs its_id ∙ sym (length-map gs gauge_thing) in
-    let h = length-map hs its_id ∙ sym (length-map hs histogram_thing) in
-    length-append (map its_id cs) (map its_id gs ++ map its_id hs)
-    ∙ (λ i. c i + (length-append (map its_id gs) (map its_id hs) ∙ (λ j. g j + h j) ∙ sym (length-append (map gauge_thing gs) (map histogram_thing hs))) i)
-    ∙ sym (length-append (map counter_thing cs) (map gauge_thing gs ++ map histogram_thing hs))
 
 pub when_ok : {T E : Type 0} {A B : Type 0} (r : Result T E) → OnOk r A → (A → B) → OnOk r B
 when_ok (Ok v) a to = to a

@@ -8,7 +8,9 @@ use Rattle.drive_script.specs.Faults.{fault_text, setting_text}
 use Rattle.drive_script.specs.declared.faults.SettingFault.{SettingFault}
 use Rattle.drive_script.specs.declared.faults.DriveFault.{DriveFault}
 use Rattle.drive_script.specs.declared.faults.DriveFault.TheVariants as faults
-use Rattle.script_runs.specs.Answers.{IsRefusedSetting, IsSaidText, IsLineOf, HasCause, HasRounds, report_text, report_of, fault_status, done, bad_script, setting_refused, too_long, read_failed, write_failed, no_memory}
+use Rattle.dsd_addresses.specs.Remotes.{RemoteText}
+use Rattle.script_runs.specs.Sent.{LinkTold}
+use Rattle.script_runs.specs.Answers.{IsDriveTo, IsRefusedSetting, IsSaidText, IsLineOf, HasCause, fault_status, done, bad_script, setting_refused, too_long, read_failed, write_failed, no_memory}
 use Rattle.script_runs.specs.declared.report.Report.{Report}
 
 -- a text that is the line of a fault, said of that fault
@@ -45,29 +47,22 @@ limit_said Failed said said' fault limit behind same h =
     subst P (limit_line limit behind ∙ sym (ap (λ t. line (codes "invalid configuration: " ++ t)) same)) h
 
 -- the line of a fault is that of its status
-pub fault_line : (left : Option (List ℕ)) (S K : Type 0) (fault : DriveFault) → IfSome left (λ bytes. HasCause bytes S K fault)
-    → IsLineOf left (fault_status fault) (line (fault_text fault))
-fault_line left S K (faults.Script l) cause = bad_script l cause
-fault_line left S K (faults.Setting fault) cause = setting_refused fault cause
-fault_line left S K faults.TooLong cause = too_long
-fault_line left S K faults.ReadFault cause = read_failed
-fault_line left S K faults.WriteFault cause = write_failed
-fault_line left S K faults.Memory cause = no_memory
-
--- the line of a report is that of status 0
-pub report_line : (left : Option (List ℕ)) (report : Report) → report ≡ report_of report.pages → IfSome left (λ bytes. HasRounds bytes report.pages)
-    → IsLineOf left 0 (line (report_text report))
-report_line left report same rounds =
-    let P : Report → Type 0 = λ r. IsLineOf left 0 (line (report_text r)) in
-    subst P (sym same) (done report.pages rounds)
+pub fault_line : (words : List (List ℕ)) (left : Option (List ℕ)) (told tells : LinkTold) (to : RemoteText) (S K : Type 0) (fault : DriveFault) → IsDriveTo words to → IfSome left (λ bytes. HasCause to bytes S K fault)
+    → IsLineOf words left told tells (fault_status fault) (line (fault_text fault))
+fault_line words left told tells to S K (faults.Script l) drive cause = bad_script l cause
+fault_line words left told tells to S K (faults.Setting fault) drive cause = setting_refused to drive fault cause
+fault_line words left told tells to S K faults.TooLong drive cause = too_long
+fault_line words left told tells to S K faults.ReadFault drive cause = read_failed
+fault_line words left told tells to S K faults.WriteFault drive cause = write_failed
+fault_line words left told tells to S K faults.Memory drive cause = no_memory
 
 -- where the status is that of a refused setting, one was refused
-pub setting_of_status : (left : Option (List ℕ)) (S K : Type 0) (fault : DriveFault) → IfSome left (λ bytes. HasCause bytes S K fault) → fault_status fault ≡ 4
-    → IfSome left (λ bytes. (refused : SettingFault) × IsRefusedSetting bytes refused)
-setting_of_status None S K fault cause is = tt
-setting_of_status (Some bytes) S K (faults.Script l) cause is = absurd (omega (arith, is))
-setting_of_status (Some bytes) S K (faults.Setting refused) cause is = (refused, cause)
-setting_of_status (Some bytes) S K faults.TooLong cause is = absurd (omega (arith, is))
-setting_of_status (Some bytes) S K faults.ReadFault cause is = absurd (omega (arith, is))
-setting_of_status (Some bytes) S K faults.WriteFault cause is = absurd (omega (arith, is))
-setting_of_status (Some bytes) S K faults.Memory cause is = absurd (omega (arith, is))
+pub setting_of_status : (left : Option (List ℕ)) (to : RemoteText) (S K : Type 0) (fault : DriveFault) → IfSome left (λ bytes. HasCause to bytes S K fault) → fault_status fault ≡ 4
+    → IfSome left (λ bytes. (refused : SettingFault) × IsRefusedSetting to bytes refused)
+setting_of_status None to S K fault cause is = tt
+setting_of_status (Some bytes) to S K (faults.Script l) cause is = absurd (omega (arith, is))
+setting_of_status (Some bytes) to S K (faults.Setting refused) cause is = (refused, cause)
+setting_of_status (Some bytes) to S K faults.TooLong cause is = absurd (omega (arith, is))
+setting_of_status (Some bytes) to S K faults.ReadFault cause is = absurd (omega (arith, is))
+setting_of_status (Some bytes) to S K faults.WriteFault cause is = absurd (omega (arith, is))
+setting_of_status (Some bytes) to S K faults.Memory cause is = absurd (omega (arith, is))

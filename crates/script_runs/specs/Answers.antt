@@ -1,5 +1,5 @@
 -- Which status the program ends with, by which cause, and its line on `err` (this project's rules).
-use Rattle.std.specs.Prelude.{◌≡◌, ℕ, ◌<◌, ◌≤◌, ◌⊎◌, List, [], ◌∷◌, ◌++◌, length, Result, Ok, Err, Option, Some, None, IfSome, codes, decimal, map}
+use Rattle.std.specs.Prelude.{◌≡◌, ⊤, ℕ, ◌<◌, ◌≤◌, ◌⊎◌, List, [], ◌∷◌, ◌++◌, length, Result, Ok, Err, Option, Some, None, IfSome, codes, decimal, map}
 use Rattle.std.specs.Borrow.{Bor}
 use Rattle.metrics_core.specs.Characters.{line}
 use Rattle.metrics_core.specs.Outside.{GrewBy}
@@ -10,8 +10,10 @@ use Rattle.drive_script.specs.Settings.{refusal_of, refused_setting}
 use Rattle.drive_script.specs.declared.faults.SettingFault.{SettingFault}
 use Rattle.drive_script.specs.declared.faults.DriveFault.{DriveFault}
 use Rattle.drive_script.specs.declared.faults.DriveFault.TheVariants as faults
+use Rattle.dsd_addresses.specs.Remotes.{RemoteText, Udp, Unix, Unixgram, IsRemote}
 use Rattle.script_runs.specs.Agent.{default_agent}
 use Rattle.script_runs.specs.Headline.{IsPlayedInPart, IsGoodScript, script_limit}
+use Rattle.script_runs.specs.Sent.{IsSent, IsSentInPart, LinkTold}
 use Rattle.script_runs.specs.declared.report.Report.{Report}
 
 -- ---- causes
@@ -20,15 +22,40 @@ use Rattle.script_runs.specs.declared.report.Report.{Report}
 abbrev pub texts_of : List (Bor (List ℕ)) → List (List ℕ)
 texts_of words = map (λ word. word.now) words
 
--- the words of the two forms: the commands `drive` and `merge`
+-- an address that payloads are sent to: not a Unix datagram socket
+abbrev pub IsServed : RemoteText → Type 0
+IsServed (Udp _) = ⊤
+IsServed (Unix _) = ⊤
+IsServed (Unixgram _) = ⊥
+
+-- the words behind the command `drive`: none, or the text of an address
+abbrev pub IsAddress : List (List ℕ) → RemoteText → Type 0
+IsAddress [] to = to ≡ default_agent
+IsAddress (text ∷ []) to = IsRemote text to × IsServed to
+IsAddress (_ ∷ (_ ∷ _)) to = ⊥
+
+-- the words of the two forms: the command `drive`, alone or with the text of an address, and the command `merge`
+abbrev pub IsDriveTo : List (List ℕ) → RemoteText → Type 0
+IsDriveTo words to = (behind : List (List ℕ)) × (words ≡ codes "drive" ∷ behind) × IsAddress behind to
+
 abbrev pub IsDriveWords : List (List ℕ) → Type 0
-IsDriveWords words = words ≡ codes "drive" ∷ []
+IsDriveWords words = (to : RemoteText) × IsDriveTo words to
 
 abbrev pub IsMergeWords : List (List ℕ) → Type 0
 IsMergeWords words = words ≡ codes "merge" ∷ []
 
 abbrev pub IsForm : List (List ℕ) → Type 0
 IsForm words = IsDriveWords words ⊎ IsMergeWords words
+
+-- the words of the command `drive` have this address and no other, or none
+abbrev pub HasAddress : List (List ℕ) → Option RemoteText → Type 0
+HasAddress words None = (to : RemoteText) → ¬ (IsDriveTo words to)
+HasAddress words (Some to) = IsDriveTo words to × ((other : RemoteText) → IsDriveTo words other → other ≡ to)
+
+-- a text writes this address, which is served, and no other; or it writes none that is
+abbrev pub IsServedAs : List ℕ → Option RemoteText → Type 0
+IsServedAs text None = (to : RemoteText) → IsRemote text to → IsServed to → ⊥
+IsServedAs text (Some to) = IsRemote text to × IsServed to × ((other : RemoteText) → IsRemote text other → other ≡ to)
 
 -- the source gave more bytes than that
 abbrev pub IsTooLong : List ℕ → Type 0
@@ -39,31 +66,45 @@ abbrev pub IsBadScript : List ℕ → ℕ → Type 0
 IsBadScript bytes l = (length bytes ≤ script_limit) × IsFirstBadLine bytes l
 
 -- the bytes are a valid script, and this is the first of its settings that is refused
-abbrev pub IsRefusedSetting : List ℕ → SettingFault → Type 0
-IsRefusedSetting bytes fault = (script : ScriptText) × IsGoodScript bytes script × (refused_setting script.settings default_agent ≡ Some (refusal_of fault))
+abbrev pub IsRefusedSetting : RemoteText → List ℕ → SettingFault → Type 0
+IsRefusedSetting to bytes fault = (script : ScriptText) × IsGoodScript bytes script × (refused_setting script.settings to ≡ Some (refusal_of fault))
 
--- none of the settings is refused, where payloads go to the agent
-abbrev pub AreAllowed : SettingsText → Type 0
-AreAllowed settings = refused_setting settings default_agent ≡ None
+-- none of the settings is refused, where payloads go to this address
+abbrev pub AreAllowed : RemoteText → SettingsText → Type 0
+AreAllowed to settings = refused_setting settings to ≡ None
 
-abbrev pub IsAllowed : ScriptText → Type 0
-IsAllowed script = AreAllowed script.settings
+abbrev pub IsAllowed : RemoteText → ScriptText → Type 0
+IsAllowed to script = AreAllowed to script.settings
 
--- Why a run over these bytes ended with a fault; `SourceFailed` and `SinkFailed` say that the count of faults of the
--- source and of the sink of the pages rose in the call. Want of memory is free.
-abbrev pub HasCause : List ℕ → Type 0 → Type 0 → DriveFault → Type 0
-HasCause bytes SourceFailed SinkFailed (faults.Script l) = IsBadScript bytes l
-HasCause bytes SourceFailed SinkFailed (faults.Setting fault) = IsRefusedSetting bytes fault
-HasCause bytes SourceFailed SinkFailed faults.TooLong = IsTooLong bytes
-HasCause bytes SourceFailed SinkFailed faults.ReadFault = SourceFailed
-HasCause bytes SourceFailed SinkFailed faults.WriteFault = SinkFailed
-HasCause bytes SourceFailed SinkFailed faults.Memory = Unit {0}
+-- Why a run over these bytes, whose payloads go to an address, ended with a fault; `SourceFailed` and `SinkFailed` say that
+-- the count of faults of the source and of the sink of the pages rose in the call. Want of memory is free.
+abbrev pub HasCause : RemoteText → List ℕ → Type 0 → Type 0 → DriveFault → Type 0
+HasCause to bytes SourceFailed SinkFailed (faults.Script l) = IsBadScript bytes l
+HasCause to bytes SourceFailed SinkFailed (faults.Setting fault) = IsRefusedSetting to bytes fault
+HasCause to bytes SourceFailed SinkFailed faults.TooLong = IsTooLong bytes
+HasCause to bytes SourceFailed SinkFailed faults.ReadFault = SourceFailed
+HasCause to bytes SourceFailed SinkFailed faults.WriteFault = SinkFailed
+HasCause to bytes SourceFailed SinkFailed faults.Memory = Unit {0}
 
 -- the same of a fault whatever the source tells: a failed read and a failed write have their causes
 abbrev pub HasDeviceCause : Type 0 → Type 0 → DriveFault → Type 0
 HasDeviceCause SourceFailed SinkFailed faults.ReadFault = SourceFailed
 HasDeviceCause SourceFailed SinkFailed faults.WriteFault = SinkFailed
 HasDeviceCause SourceFailed SinkFailed _ = Unit {0}
+
+-- what is so where the script wasn't played
+abbrev pub IfUnplayed : Type 0 → DriveFault → Type 0
+IfUnplayed P (faults.Script l) = P
+IfUnplayed P (faults.Setting fault) = P
+IfUnplayed P faults.TooLong = P
+IfUnplayed P faults.ReadFault = P
+IfUnplayed P _ = Unit {0}
+
+-- what is so where it was played in part
+abbrev pub IfPlayedInPart : Type 0 → DriveFault → Type 0
+IfPlayedInPart P faults.WriteFault = P
+IfPlayedInPart P faults.Memory = P
+IfPlayedInPart P _ = Unit {0}
 
 -- nothing was written where the script wasn't played
 abbrev pub LeavesUnplayed : Option (List ℕ) → Option (List ℕ) → DriveFault → Type 0
@@ -93,12 +134,12 @@ abbrev pub end_status : Result Report DriveFault → ℕ
 end_status (Ok report) = 0
 end_status (Err fault) = fault_status fault
 
--- Each cause brings its status, unless a device failed or memory was wanting.
-pub record IsComplete (bytes : List ℕ) (SourceFailed SinkFailed : Type 0) (status : ℕ) : Type 0 where
+-- Each cause brings its status, unless a device failed or memory was wanting, where payloads go to this address.
+pub record IsComplete (to : RemoteText) (bytes : List ℕ) (SourceFailed SinkFailed : Type 0) (status : ℕ) : Type 0 where
   pub too_long : IsTooLong bytes → ¬ SourceFailed → (status ≡ 5) ⊎ (status ≡ 8)
   pub bad_script : (l : ℕ) → IsBadScript bytes l → ¬ SourceFailed → (status ≡ 3) ⊎ (status ≡ 8)
-  pub refused_setting : (fault : SettingFault) → IsRefusedSetting bytes fault → ¬ SourceFailed → (status ≡ 4) ⊎ (status ≡ 8)
-  pub good_script : (script : ScriptText) → IsGoodScript bytes script → IsAllowed script → ¬ SourceFailed → ¬ SinkFailed → (status ≡ 0) ⊎ (status ≡ 8)
+  pub refused_setting : (fault : SettingFault) → IsRefusedSetting to bytes fault → ¬ SourceFailed → (status ≡ 4) ⊎ (status ≡ 8)
+  pub good_script : (script : ScriptText) → IsGoodScript bytes script → IsAllowed to script → ¬ SourceFailed → ¬ SinkFailed → (status ≡ 0) ⊎ (status ≡ 8)
 
 -- the statuses after which no page was begun: the words are no form, or the input was refused or not read
 abbrev pub IsUnplayed : ℕ → Type 0
@@ -120,35 +161,39 @@ report_text report =
     codes "pages " ++ decimal report.pages ++ codes " sent " ++ decimal report.sent ++ codes " unsent " ++ decimal report.unsent
     ++ codes " dropped " ++ decimal report.dropped
 
--- a report of so many pages, where nothing is sent yet
-abbrev pub report_of : ℕ → Report
-report_of pages = record { pages = pages; sent = 0; unsent = 0; dropped = 0 }
-
--- the bytes are a valid script of so many rounds
-pub record HasRounds (bytes : List ℕ) (pages : ℕ) : Type 0 where
+-- the bytes are a valid script, and the link was handed the payloads of its run, as the report says
+pub record IsReported (bytes : List ℕ) (to : RemoteText) (told tells : LinkTold) (report : Report) : Type 0 where
   pub script : ScriptText
   pub reading : IsGoodScript bytes script
-  pub counted : pages ≡ length script.rounds
+  pub sent : IsSent script to told tells report
 
--- the line that each status has; what it says of the script holds where the source tells its bytes
-pub data IsLineOf (left : Option (List ℕ)) : ℕ → List ℕ → Type 0 where
-  done : (pages : ℕ) → IfSome left (λ bytes. HasRounds bytes pages) → IsLineOf left 0 (line (report_text (report_of pages)))
-  usage : IsLineOf left 2 (line usage_text)
-  bad_script : (l : ℕ) → IfSome left (λ bytes. IsBadScript bytes l) → IsLineOf left 3 (line (fault_text (faults.Script l)))
-  setting_refused : (fault : SettingFault) → IfSome left (λ bytes. IsRefusedSetting bytes fault) → IsLineOf left 4 (line (fault_text (faults.Setting fault)))
-  too_long : IsLineOf left 5 (line (fault_text faults.TooLong))
-  read_failed : IsLineOf left 6 (line (fault_text faults.ReadFault))
-  write_failed : IsLineOf left 7 (line (fault_text faults.WriteFault))
-  no_memory : IsLineOf left 8 (line (fault_text faults.Memory))
+-- the bytes are a valid script, and the link was handed the payloads of its first rounds
+pub record IsReportedInPart (bytes : List ℕ) (to : RemoteText) (told tells : LinkTold) : Type 0 where
+  pub script : ScriptText
+  pub reading : IsGoodScript bytes script
+  pub sent : IsSentInPart script to told tells
+
+-- the line that each status has; what it says of the script and of what was sent holds where the source tells its bytes
+pub data IsLineOf (words : List (List ℕ)) (left : Option (List ℕ)) (told tells : LinkTold) : ℕ → List ℕ → Type 0 where
+  done : (to : RemoteText) → IsDriveTo words to → (report : Report) → IfSome left (λ bytes. IsReported bytes to told tells report)
+      → IsLineOf words left told tells 0 (line (report_text report))
+  usage : IsLineOf words left told tells 2 (line usage_text)
+  bad_script : (l : ℕ) → IfSome left (λ bytes. IsBadScript bytes l) → IsLineOf words left told tells 3 (line (fault_text (faults.Script l)))
+  setting_refused : (to : RemoteText) → IsDriveTo words to → (fault : SettingFault) → IfSome left (λ bytes. IsRefusedSetting to bytes fault)
+      → IsLineOf words left told tells 4 (line (fault_text (faults.Setting fault)))
+  too_long : IsLineOf words left told tells 5 (line (fault_text faults.TooLong))
+  read_failed : IsLineOf words left told tells 6 (line (fault_text faults.ReadFault))
+  write_failed : IsLineOf words left told tells 7 (line (fault_text faults.WriteFault))
+  no_memory : IsLineOf words left told tells 8 (line (fault_text faults.Memory))
 
 -- `err` got a text, where it tells and didn't fail
 abbrev pub IsSaidText : Type 0 → Option (List ℕ) → Option (List ℕ) → List ℕ → Type 0
 IsSaidText ErrFailed said said' text = ErrFailed ⊎ GrewBy said said' text
 
 -- `err` got the line of the status, where it tells and didn't fail
-pub record IsSaid (left : Option (List ℕ)) (ErrFailed : Type 0) (said said' : Option (List ℕ)) (status : ℕ) : Type 0 where
+pub record IsSaid (words : List (List ℕ)) (left : Option (List ℕ)) (told tells : LinkTold) (ErrFailed : Type 0) (said said' : Option (List ℕ)) (status : ℕ) : Type 0 where
   pub text : List ℕ
-  pub meant : IsLineOf left status text
+  pub meant : IsLineOf words left told tells status text
   pub written : IsSaidText ErrFailed said said' text
 
 -- why a play ended before its last page: the sink failed, or memory was wanting

@@ -2,6 +2,9 @@
 use Rattle.std.specs.Prelude.{List, [], ◌∷◌, map}
 use Rattle.metrics_core.specs.declared.kinds.MetricKind.TheVariants as kinds
 use Rattle.drive_script.specs.Script.{ScriptText, SettingsText, RoundText}
+use Rattle.metrics_registry.specs.Live.{LiveSeries}
+use Rattle.drive_script.specs.Script.{CallLine}
+use Rattle.script_runs.specs.Flushes.{FlushPlay, after_flush, after_registers, calls_for, flush_start}
 use Rattle.script_runs.specs.Play.{PlayState, RoundOrders, play_start, after_setup, after_round, calls_on}
 
 -- the orders in which each series' calls stand as in the script
@@ -23,3 +26,24 @@ orders_along settings p (round ∷ rounds) =
 -- the orders of all rounds of a script
 abbrev pub script_orders : ScriptText → List RoundOrders
 script_orders script = orders_along script.settings play_start script.rounds
+
+-- the same of the series of the flushes
+abbrev pub flush_orders_for : {S : Type 0} → FlushPlay → RoundText → List (LiveSeries S) → List (List CallLine)
+flush_orders_for p round series = map (λ s. calls_for p round s.id) series
+
+abbrev pub flush_orders_of : FlushPlay → RoundText → RoundOrders
+flush_orders_of p round = record {
+  counters = flush_orders_for p round p.dogstatsd.series.counters;
+  gauges = flush_orders_for p round p.dogstatsd.series.gauges;
+  histograms = flush_orders_for p round p.dogstatsd.series.histograms;
+}
+
+abbrev pub flush_orders_in_turn : FlushPlay → RoundText → RoundOrders
+flush_orders_in_turn p round = flush_orders_of (after_registers p round) round
+
+abbrev pub flush_orders_along : FlushPlay → List RoundText → List RoundOrders
+flush_orders_along p [] = []
+flush_orders_along p (round ∷ rounds) = flush_orders_in_turn p round ∷ flush_orders_along (after_flush p round (flush_orders_in_turn p round)) rounds
+
+abbrev pub script_flush_orders : ScriptText → List RoundOrders
+script_flush_orders script = flush_orders_along flush_start script.rounds

@@ -2,6 +2,8 @@ pub mod Agent
 pub mod Play
 pub mod InTurn
 pub mod Headline
+pub mod Flushes
+pub mod Sent
 pub mod Answers
 pub mod Relay
 pub mod Reading

@@ -9,8 +9,11 @@ use Rattle.prom_format.specs.Pages.{page_text}
 use Rattle.drive_script.specs.Script.{ScriptText, RoundText, Describe, Register, Inc, only_globals}
 use Rattle.drive_script.specs.Vectors.{basic, empty, sampled}
 use Rattle.script_runs.specs.Play.{pages_of}
-use Rattle.script_runs.specs.InTurn.{script_orders}
-use Rattle.script_runs.specs.Answers.{report_text, report_of}
+use Rattle.dsd_addresses.specs.Remotes.{RemoteText, Unix}
+use Rattle.script_runs.specs.Agent.{default_agent}
+use Rattle.script_runs.specs.Flushes.{all_payloads, flushes_along, flush_start}
+use Rattle.script_runs.specs.InTurn.{script_flush_orders, script_orders}
+use Rattle.script_runs.specs.Answers.{report_text}
 
 abbrev pub pages : ScriptText → List (List ℕ)
 pages s = map page_text (pages_of s (script_orders s))
@@ -53,10 +56,35 @@ described_pages = refl
 pub no_pages : pages empty ≡ []
 no_pages = refl
 
-pub one_page : line (report_text (report_of 1)) ≡ codes "pages 1 sent 0 unsent 0 dropped 0\n"
+-- the payloads to an address of a script whose lanes take turns
+abbrev pub payloads : RemoteText → ScriptText → List (List ℕ)
+payloads to s = all_payloads s.settings to (flushes_along s.settings flush_start s.rounds (script_flush_orders s))
+
+abbrev pub basic_line : List ℕ
+basic_line = codes "basic_counter:42|c\n"
+
+pub basic_payloads : payloads default_agent basic ≡ basic_line ∷ []
+unfolding digits chars
+basic_payloads = refl
+
+pub basic_framed : payloads (Unix (codes "/tmp/s")) basic ≡ (19 ∷ 0 ∷ 0 ∷ 0 ∷ basic_line) ∷ []
+unfolding digits chars
+basic_framed = refl
+
+abbrev pub sampled_line : List ℕ
+sampled_line = codes "sizes:1.5:1.5:1.5|d\n"
+
+pub sampled_payloads : payloads default_agent sampled ≡ sampled_line ∷ []
+unfolding digits chars
+sampled_payloads = refl
+
+pub no_payloads : payloads default_agent empty ≡ []
+no_payloads = refl
+
+pub one_page : line (report_text (record { pages = 1; sent = 1; unsent = 0; dropped = 0 })) ≡ codes "pages 1 sent 1 unsent 0 dropped 0\n"
 unfolding digits
 one_page = refl
 
-pub none : line (report_text (report_of 0)) ≡ codes "pages 0 sent 0 unsent 0 dropped 0\n"
+pub none : line (report_text (record { pages = 0; sent = 0; unsent = 0; dropped = 0 })) ≡ codes "pages 0 sent 0 unsent 0 dropped 0\n"
 unfolding digits
 none = refl

@@ -1,52 +1,66 @@
 //! The run of a script: its source is read whole, its bytes as a script, and the script is played.
 
-ghost use Rattle.std.specs.Prelude.{◌≡◌, IfErr, IfOk, IfSome, OnOk};
+ghost use Rattle.std.specs.Prelude.{◌≡◌, ◌⊎◌, IfErr, IfOk, IfSome, OnOk};
 ghost use Rattle.metrics_core.specs.Outside.{Rose};
 ghost use Rattle.drive_script.specs.Texts.{script_of};
-ghost use Rattle.script_runs.specs.Answers.{end_status, report_of, HasCause, HasDeviceCause, HasRounds, IsComplete, LeavesPrefix, LeavesUnplayed};
+ghost use Rattle.dsd_addresses.specs.Remotes.{remote_text};
+ghost use Rattle.script_runs.specs.Answers.{end_status, HasCause, HasDeviceCause, IfPlayedInPart, IfUnplayed, IsComplete, IsReported, IsReportedInPart, LeavesPrefix, LeavesUnplayed};
 ghost use Rattle.script_runs.specs.Headline.{IsPlayed};
 ghost use Rattle.script_runs.specs.Reading.{IsReadAs, IsUnread};
 
 use crate::play::play;
 use crate::reading::read_all;
-use crate::{Gate, Report, default_agent};
+use crate::{Gate, Report};
 use drive_script::{DriveFault, Script, check_settings, read_script};
+use dsd_addresses::RemoteAddr;
+use dsd_exporter::Link;
 use metrics_core::{Sink, Source};
 use std::alloc::Global;
 use std::sync::Wait;
 use std::thread::Threads;
 
 /// Reads the whole script from the source and plays it: one page for each round goes to `out`, each ended by the line
-/// `# EOF`. The lanes of a round run side by side, and the gate is called around each of their calls. Nothing is written
-/// before the whole script was read and found valid.
-pub fn drive<R: Threads + Wait + Sync, S: Source, K: Sink, G: Gate + Sync>(
+/// `# EOF`, and behind each page the payloads of a flush go to the link, which is aimed at the address once, before the first round.
+/// The lanes of a round run side by side, and the gate is called around each of their calls. Nothing is written or sent
+/// before the whole script was read and found valid. A payload that the link refuses is counted, and changes nothing else.
+pub fn drive<R: Threads + Wait + Sync, S: Source, K: Sink, L: Link, G: Gate + Sync>(
     rt: &R,
     alloc: Global,
+    to: &RemoteAddr,
     source: &mut S,
     out: &mut K,
+    link: &mut L,
     gate: &G,
 ) -> Result<Report, DriveFault>
     // What was written is one page per round, each exactly the families of the sequential state, for one order of the calls.
     ensures played { OnOk result (IfSome (S.left source.old) (λ bytes. IsPlayed bytes (K.written out.old) (K.written out.new))) }
-    ensures rounds { IfOk result (λ report. IfSome (S.left source.old) (λ bytes. HasRounds bytes report.pages)) }
-    ensures none_sent { IfOk result (λ report. report ≡ report_of report.pages) }
+
+    // What the link was handed is the payloads of one flush per round, each the lines of the sequential state, for orders of its own;
+    // the report counts them.
+    ensures sent { IfOk result (λ report. IfSome (S.left source.old) (λ bytes. IsReported bytes (remote_text to.now)
+        (record { sent = L.sent link.old; faults = L.faults link.old }) (record { sent = L.sent link.new; faults = L.faults link.new }) report)) }
 
     // Each fault comes only by its cause.
     ensures cause { IfErr result (λ fault. IfSome (S.left source.old) (λ bytes.
-        HasCause bytes (Rose (S.faults source.old) (S.faults source.new)) (Rose (K.faults out.old) (K.faults out.new)) fault)) }
+        HasCause (remote_text to.now) bytes (Rose (S.faults source.old) (S.faults source.new)) (Rose (K.faults out.old) (K.faults out.new)) fault)) }
     ensures device { IfErr result (HasDeviceCause (Rose (S.faults source.old) (S.faults source.new)) (Rose (K.faults out.old) (K.faults out.new))) }
 
     // What each fault leaves.
     ensures unplayed { IfErr result (LeavesUnplayed (K.written out.old) (K.written out.new)) }
+    ensures unsent { IfErr result (IfUnplayed (L.sent link.new ≡ L.sent link.old)) }
     ensures prefix { IfErr result (λ fault. IfSome (S.left source.old) (λ bytes. LeavesPrefix bytes (K.written out.old) (K.written out.new) fault)) }
+    ensures sent_in_part { IfErr result (IfPlayedInPart (IfSome (S.left source.old) (λ bytes. (L.sent link.new ≡ L.sent link.old)
+        ⊎ IsReportedInPart bytes (remote_text to.now)
+        (record { sent = L.sent link.old; faults = L.faults link.old }) (record { sent = L.sent link.new; faults = L.faults link.new })))) }
 
     // Each cause brings its answer.
-    ensures complete { IfSome (S.left source.old) (λ bytes.
-        IsComplete bytes (Rose (S.faults source.old) (S.faults source.new)) (Rose (K.faults out.old) (K.faults out.new)) (end_status result)) }
+    ensures complete { IfSome (S.left source.old) (λ bytes. IsComplete (remote_text to.now) bytes
+        (Rose (S.faults source.old) (S.faults source.new)) (Rose (K.faults out.old) (K.faults out.new)) (end_status result)) }
 {
     let script = read_whole_script(alloc, source)?;
-    check_settings(&script.settings, &default_agent())?;
-    play(rt, alloc, gate, script, out)
+    check_settings(&script.settings, to)?;
+    link.aim(alloc, to)?;
+    play(rt, alloc, gate, to, script, out, link)
 }
 
 /// Reads the whole script from the source. Its bytes are let go at the end.

@@ -22,7 +22,9 @@ impl Gate for Free {
     fn after<R: Wait>(&self, _rt: &R, _lane: u8, _call: u32) {}
 }
 
-/// A gate as the hook of lanes. A script has lanes 0 to 7, and fewer than 2^32 calls.
+/// A gate as the hook of lanes. A call line of a script is two lines of its lane, one for each exporter: the gate is called before
+/// the first of them and after the second, and not after the first where that is refused memory. A script has lanes 0 to 7, and
+/// fewer than 2^32 call lines.
 #[derive(Drop)]
 pub(crate) struct GateHook<'a, G> {
     pub gate: &'a G,
@@ -30,11 +32,17 @@ pub(crate) struct GateHook<'a, G> {
 
 impl<G: Gate> LaneHook for GateHook<'_, G> {
     fn before<R: Wait>(&self, rt: &R, lane: usize, call: usize) {
-        self.gate.before(rt, lane_number(lane), call_number(call));
+        if call % 2 == 0 {
+            self.gate
+                .before(rt, lane_number(lane), call_number(call / 2));
+        }
     }
 
     fn after<R: Wait>(&self, rt: &R, lane: usize, call: usize) {
-        self.gate.after(rt, lane_number(lane), call_number(call));
+        if call % 2 == 1 {
+            self.gate
+                .after(rt, lane_number(lane), call_number(call / 2));
+        }
     }
 }
 

@@ -1,105 +1,108 @@
-//! The lanes of a round: which series each one's calls are on, and the calls.
+//! The lanes of a round: which series each one's calls are on, and the calls. Each call is made on both exporters, on the Prometheus
+//! series, where that is live, and then on the DogStatsD series.
 
-ghost use Rattle.std.specs.Prelude.{◌≡◌, ◌<◌, ◌++◌, ◌∷◌, ◌+◌, ◌&&◌, ℕ, List, [], All, IfOk, IfSome, OnOk, filter, length, map, slice_get};
+ghost use Rattle.std.specs.Prelude.{◌≡◌, ◌<◌, ◌++◌, ◌∷◌, ◌+◌, ◌==◌, ℕ, [], All, IfOk, IfSome, OnOk, filter, flat_map, if◌then◌else◌, length, map, option_map, slice_get};
 ghost use Rattle.cell_lanes.specs.declared.lane.Lane.{Lane};
-ghost use Rattle.metrics_core.specs.declared.calls.SeriesCall.{SeriesCall};
-ghost use Rattle.metrics_core.specs.declared.kinds.SeriesId.{SeriesId};
 ghost use mathlib.Core.Option.{some};
 ghost use lib.ListN.{get_elem?};
 ghost use Rattle.cell_lanes.specs.Lanes.{AllFit, LineFit, cell_calls};
 ghost use Rattle.legal_history.specs.History.{Distinct, keep};
-ghost use Rattle.prom_exporter.specs.LanePasses.{ids_of};
+ghost use Rattle.metrics_registry.specs.Live.{IsNumbered};
+ghost use Rattle.prom_exporter.specs.LanePasses as P;
+ghost use Rattle.dsd_exporter.specs.LanePasses as D;
+ghost use Rattle.exporter_lanes.specs.declared.exporters.ExporterCall.{ExporterCall};
+ghost use Rattle.exporter_lanes.specs.declared.exporters.ExporterCall.TheVariants as exporter;
+ghost use Rattle.exporter_lanes.specs.ExporterLanes.{first_prometheus, things_of};
 ghost use Rattle.drive_script.specs.Script.{kind_of};
 ghost use Rattle.drive_script.specs.Texts.{act_of, call_line_of};
 ghost use Rattle.script_runs.specs.Fitting.{FitsHandle};
-ghost use Rattle.script_runs.specs.LaneCalls.{AllAsked, AreInPlace, AreReady, AsksKind, HasLane, IsOfKind, asked, call_asked, calls_at, gathered_asked, gathered_at, gathered_parts, has_lines, is_at, is_place, lane_asks, lane_cells, lane_lines, lane_number, numbered_asked, numbered_at, parts_of};
+ghost use Rattle.script_runs.specs.LaneCalls.{AllAsked, AreInPlace, AreReady, AsksKind, IsOfKind, PlacesAsk, SeriesIds, asked, both_at, call_asked, calls_at, gathered_asked, gathered_at, gathered_parts, has_lines, ids_of, is_at, is_place, lane_asks, lane_cells, lane_lines, lane_number, numbered_asked, numbered_at, on_both, parts_of};
 
 use cell_lanes::{Lane, Line};
 use drive_script::{Act, CallLine};
+use dsd_exporter::State;
+use exporter_lanes::{ExporterCall, Exporters};
 use indexmap::IndexSet;
 use metrics_core::{Memory, SeriesCall, SeriesId};
 use prom_exporter::PrometheusState;
 use std::alloc::Global;
 
-/// The lanes of a round at a moment that have calls, each with its number. A call whose handle names no live series is a line of its lane,
-/// on no series.
+/// The lanes of a round at a moment that have calls, each with its number. A call line is two lines of its lane: its call on the
+/// Prometheus series that the handle names, and the same on the DogStatsD series. Where an exporter has no such series, the line is
+/// on none. `handles` are the series that register lines were given by the Prometheus exporter, `line_handles` those by the
+/// DogStatsD exporter, and for each of them a guess says where to look first.
 pub(crate) fn lanes_of(
     alloc: Global,
-    exporter: &PrometheusState,
+    exporters: &Exporters,
     handles: &[SeriesId],
     guesses: &mut [u32],
+    line_handles: &[SeriesId],
+    line_guesses: &mut [u32],
     moment: u64,
     calls: &[CallLine],
-) -> Result<Vec<Lane<SeriesCall>>, Memory>
+) -> Result<Vec<Lane<ExporterCall>>, Memory>
     requires fit { All (λ line. FitsHandle handles.now (call_line_of line)) calls.now }
-    ensures fit { IfOk result (λ lanes. AllFit (length (ids_of exporter.now)) lanes.items) }
-    ensures asked { IfOk result (λ lanes. (l : ℕ) (lane : Lane SeriesCall)
+    requires line_fit { All (λ line. FitsHandle line_handles.now (call_line_of line)) calls.now }
+    ensures fit { IfOk result (λ lanes. AllFit (length (things_of exporters.now)) lanes.items) }
+    ensures asked { IfOk result (λ lanes. (l : ℕ) (lane : Lane ExporterCall)
         → get_elem? lanes.items l ≡ some lane
-        → AllAsked (ids_of exporter.now) lane.cells.items lane.lines.items) }
+        → AllAsked (ids_of exporters.now) lane.cells.items lane.lines.items) }
     ensures numbers { IfOk result (λ lanes. Distinct (map lane_number lanes.items)) }
-    ensures calls { IfOk result (λ lanes. (j l : ℕ) → numbered_at j lanes.items l
-        ≡ calls_at moment (ids_of exporter.now) handles.now l j calls.now) }
+    ensures prometheus { IfOk result (λ lanes. (j l : ℕ)
+        → numbered_at (first_prometheus exporters.now + j) lanes.items l
+        ≡ map exporter.Prometheus (calls_at moment (P.ids_of exporters.now.prometheus) handles.now l j calls.now)) }
+    ensures dogstatsd { IfOk result (λ lanes. (j l : ℕ)
+        → j < first_prometheus exporters.now
+        → numbered_at j lanes.items l
+        ≡ map exporter.DogStatsD (calls_at moment (D.ids_of exporters.now.dogstatsd) line_handles.now l j calls.now)) }
     ensures lines { IfOk result (λ lanes. (l : ℕ) → numbered_asked lanes.items l
-        ≡ lane_asks moment l calls.now) }
-    ensures busy { IfOk result (λ lanes. (i : ℕ) (lane : Lane SeriesCall)
+        ≡ flat_map on_both (lane_asks moment l calls.now)) }
+    ensures busy { IfOk result (λ lanes. (i : ℕ) (lane : Lane ExporterCall)
         → get_elem? lanes.items i ≡ some lane → 0 < length lane.lines.items) }
+    ensures numbered { IsNumbered exporters.now.dogstatsd.series }
 {
+    let first = exporters.dogstatsd.series_count();
     let mut gathered = Vec::new(alloc);
     for line in calls {
+        let prometheus = prometheus_index(&exporters.prometheus, handles, guesses, line);
+        let places = Places {
+            prometheus: behind(first, prometheus)?,
+            dogstatsd: dogstatsd_index(&exporters.dogstatsd, line_handles, line_guesses, line),
+        };
+        let lane = usize::from(line.lane);
         gather(
             alloc,
-            exporter,
-            handles,
-            guesses,
             &mut gathered,
-            moment,
-            line,
+            lane,
+            places,
+            call_of(moment, line.act),
         )?;
     }
     into_lanes(alloc, gathered)
 }
 
-/// Puts a call line last on its lane.
-fn gather(
-    alloc: Global,
-    exporter: &PrometheusState,
-    handles: &[SeriesId],
-    guesses: &mut [u32],
-    gathered: &mut Vec<LaneCalls>,
-    moment: u64,
-    line: &CallLine,
-) -> Result<(), Memory>
-    requires fit { FitsHandle handles.now (call_line_of line.now) }
-    requires ready { AreReady (ids_of exporter.now) gathered.old.items }
-    requires places { AreInPlace 0 gathered.old.items }
-    ensures ready { OnOk result (AreReady (ids_of exporter.now) gathered.new.items) }
-    ensures places { OnOk result (AreInPlace 0 gathered.new.items) }
-    ensures calls { OnOk result ((j l : ℕ) → gathered_at j gathered.new.items l
-        ≡ gathered_at j gathered.old.items l
-        ++ keep (HasLane l line.now && is_at (ids_of exporter.now) handles.now j line.now)
-        (asked moment line.now.act) []) }
-    ensures lines { OnOk result ((l : ℕ) → gathered_asked gathered.new.items l
-        ≡ gathered_asked gathered.old.items l
-        ++ keep (HasLane l line.now) (asked moment line.now.act) []) }
-{
-    let place = place_of(exporter, handles, guesses, line);
-    let lane = usize::from(line.lane);
-    make_room(alloc, gathered, lane)?;
-    gathered[lane].push(place, call_of(moment, line.act))
+/// Where the two series of a call line stand among those of both exporters.
+#[derive(Clone, Copy)]
+pub struct Places {
+    /// The index of the Prometheus series, if it is live.
+    pub prometheus: Option<usize>,
+    /// The index of the DogStatsD series, if there is one.
+    pub dogstatsd: Option<usize>,
 }
 
-/// The index of the series that a call line's handle names, if it is live. A guess for each handle says where to look first.
-fn place_of(
+/// The index in its exporter of the Prometheus series that a call line's handle names, if it is live. A guess for each handle says
+/// where to look first.
+fn prometheus_index(
     exporter: &PrometheusState,
     handles: &[SeriesId],
     guesses: &mut [u32],
     line: &CallLine,
 ) -> Option<usize>
     requires fit { FitsHandle handles.now (call_line_of line.now) }
-    ensures place { (j : ℕ)
-        → is_at (ids_of exporter.now) handles.now j line.now ≡ is_place j result }
-    ensures asks { IfSome result (λ index.
-        IsOfKind (ids_of exporter.now) index (kind_of (act_of line.now.act))) }
+    ensures index { (j : ℕ)
+        → is_at (P.ids_of exporter.now) handles.now j line.now ≡ is_place j result }
+    ensures kind { IfSome result (λ index.
+        IsOfKind (P.ids_of exporter.now) index (kind_of (act_of line.now.act))) }
 {
     let id = id_of(handles, line)?;
     match guesses.get_mut(line.handle as usize) {
@@ -108,11 +111,69 @@ fn place_of(
     }
 }
 
+/// The same of the DogStatsD series.
+fn dogstatsd_index(
+    exporter: &State,
+    handles: &[SeriesId],
+    guesses: &mut [u32],
+    line: &CallLine,
+) -> Option<usize>
+    requires fit { FitsHandle handles.now (call_line_of line.now) }
+    ensures index { (j : ℕ)
+        → is_at (D.ids_of exporter.now) handles.now j line.now ≡ is_place j result }
+    ensures kind { IfSome result (λ index.
+        IsOfKind (D.ids_of exporter.now) index (kind_of (act_of line.now.act))) }
+{
+    let id = id_of(handles, line)?;
+    match guesses.get_mut(line.handle as usize) {
+        Some(guess) => exporter.index_near(id, guess),
+        None => exporter.index_of(id),
+    }
+}
+
+/// An index behind so many others. Where no number is left for it, so many series have no room in memory.
+fn behind(first: usize, index: Option<usize>) -> Result<Option<usize>, Memory>
+    ensures { IfOk result (λ found. found ≡ option_map (λ k. first + k) index) }
+{
+    match index {
+        Some(index) => match first.checked_add(index) {
+            Some(found) => Ok(Some(found)),
+            None => Err(Memory),
+        },
+        None => Ok(None),
+    }
+}
+
+/// Puts a call last on a lane, on the series at both places.
+fn gather(
+    alloc: Global,
+    gathered: &mut Vec<LaneCalls>,
+    lane: usize,
+    places: Places,
+    call: SeriesCall,
+) -> Result<(), Memory>
+    requires lane { lane < 256 }
+    requires ready { (ids : SeriesIds) × AreReady ids gathered.old.items }
+    requires places { AreInPlace 0 gathered.old.items }
+    ensures ready { OnOk result ((ids : SeriesIds) → PlacesAsk ids places call
+        → AreReady ids gathered.old.items → AreReady ids gathered.new.items) }
+    ensures places { OnOk result (AreInPlace 0 gathered.new.items) }
+    ensures calls { OnOk result ((j l : ℕ) → gathered_at j gathered.new.items l
+        ≡ gathered_at j gathered.old.items l
+        ++ (if lane == l then both_at j places call else [])) }
+    ensures lines { OnOk result ((l : ℕ) → gathered_asked gathered.new.items l
+        ≡ gathered_asked gathered.old.items l
+        ++ (if lane == l then on_both call else [])) }
+{
+    make_room(alloc, gathered, lane)?;
+    gathered[lane].push_both(places, call)
+}
+
 /// Adds lanes without calls, until there is one with this number.
 fn make_room(alloc: Global, gathered: &mut Vec<LaneCalls>, lane: usize) -> Result<(), Memory>
     requires { lane < 256 }
     ensures room { OnOk result (lane < length gathered.new.items) }
-    ensures ready { OnOk result ((ids : List SeriesId)
+    ensures ready { OnOk result ((ids : SeriesIds)
         → AreReady ids gathered.old.items → AreReady ids gathered.new.items) }
     ensures places { OnOk result (AreInPlace 0 gathered.old.items
         → AreInPlace 0 gathered.new.items) }
@@ -128,10 +189,10 @@ fn make_room(alloc: Global, gathered: &mut Vec<LaneCalls>, lane: usize) -> Resul
 }
 
 /// The lanes that have calls, from what was gathered.
-fn into_lanes(alloc: Global, gathered: Vec<LaneCalls>) -> Result<Vec<Lane<SeriesCall>>, Memory>
+fn into_lanes(alloc: Global, gathered: Vec<LaneCalls>) -> Result<Vec<Lane<ExporterCall>>, Memory>
     ensures parts { IfOk result (λ lanes. map parts_of lanes.items
         ≡ map gathered_parts (filter has_lines gathered.items)) }
-    ensures once { IfOk result (λ lanes. (l : ℕ) (lane : Lane SeriesCall)
+    ensures once { IfOk result (λ lanes. (l : ℕ) (lane : Lane ExporterCall)
         → get_elem? lanes.items l ≡ some lane → Distinct lane.cells.items) }
 {
     let mut lanes = Vec::new(alloc);
@@ -151,7 +212,7 @@ pub struct LaneCalls {
     number: usize,
     /// The indices of the series that its calls are on, each once.
     cells: IndexSet<usize>,
-    lines: Vec<Line<SeriesCall>>,
+    lines: Vec<Line<ExporterCall>>,
 }
 
 impl LaneCalls {
@@ -167,12 +228,31 @@ impl LaneCalls {
         }
     }
 
-    /// Puts a call last, on the series with this index or on none.
-    fn push(&mut self, place: Option<usize>, call: SeriesCall) -> Result<(), Memory>
+    /// Puts a call last, first on the Prometheus series and then on the DogStatsD series, each at its place or on none.
+    fn push_both(&mut self, places: Places, call: SeriesCall) -> Result<(), Memory>
         requires { LineFit (length (lane_cells self.old)) (lane_lines self.old) }
         ensures number { self.new.number ≡ self.old.number }
         ensures fit { OnOk result (LineFit (length (lane_cells self.new)) (lane_lines self.new)) }
-        ensures asked { OnOk result ((ids : List SeriesId)
+        ensures asked { OnOk result ((ids : SeriesIds) → PlacesAsk ids places call
+            → AllAsked ids (lane_cells self.old) (lane_lines self.old)
+            → AllAsked ids (lane_cells self.new) (lane_lines self.new)) }
+        ensures calls { OnOk result ((j : ℕ)
+            → cell_calls j (lane_cells self.new) (lane_lines self.new)
+            ≡ cell_calls j (lane_cells self.old) (lane_lines self.old)
+            ++ both_at j places call) }
+        ensures lines { OnOk result (map call_asked (lane_lines self.new)
+            ≡ map call_asked (lane_lines self.old) ++ on_both call) }
+    {
+        self.push(places.prometheus, ExporterCall::Prometheus(call))?;
+        self.push(places.dogstatsd, ExporterCall::DogStatsD(call))
+    }
+
+    /// Puts a call last, on the series with this index or on none.
+    fn push(&mut self, place: Option<usize>, call: ExporterCall) -> Result<(), Memory>
+        requires { LineFit (length (lane_cells self.old)) (lane_lines self.old) }
+        ensures number { self.new.number ≡ self.old.number }
+        ensures fit { OnOk result (LineFit (length (lane_cells self.new)) (lane_lines self.new)) }
+        ensures asked { OnOk result ((ids : SeriesIds)
             → IfSome place (λ index. AsksKind ids index call)
             → AllAsked ids (lane_cells self.old) (lane_lines self.old)
             → AllAsked ids (lane_cells self.new) (lane_lines self.new)) }
@@ -194,7 +274,7 @@ impl LaneCalls {
     }
 
     /// The lane.
-    fn into_lane(self, alloc: Global) -> Result<Lane<SeriesCall>, Memory>
+    fn into_lane(self, alloc: Global) -> Result<Lane<ExporterCall>, Memory>
         ensures parts { IfOk result (λ lane. parts_of lane ≡ gathered_parts self) }
         ensures once { IfOk result (λ lane. Distinct lane.cells.items) }
     {

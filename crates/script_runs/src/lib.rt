@@ -1,15 +1,17 @@
-//! Runs of scripts: a script is read from a source, played on the exporter, and a page is written for each round; and runs
+//! Runs of scripts: a script is read from a source, played on both exporters, and for each round a page is written and a
+//! flush is sent; and runs
 //! of the relay: pages are read from a source, and the one page that they become is written. A run ends with a status and a
 //! line that says why.
 //!
 //! A run over a script in memory:
 //!
-//!     let status = run(rt, alloc, &["drive"], &mut source, &mut out, &mut err, &Free);
+//!     let status = run(rt, alloc, &["drive"], &mut source, &mut out, &mut err, &mut link, &Free);
 #![tactic(auto)]
 
 mod agent;
 mod driving;
 mod examples;
+mod flushes;
 mod gates;
 mod lanes;
 mod play;

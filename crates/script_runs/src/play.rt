@@ -1,69 +1,90 @@
-//! The play of a script: what each round does to the exporter, and the page that it writes.
+//! The play of a script: what each round does to both exporters, the page that it writes, and the flush that it sends.
 
-ghost use Rattle.std.specs.Prelude.{◌≡◌, ◌≤◌, [], All, fold, map, length, IfOk, IfErr, OnOk, OnErr, vec_len};
+ghost use Rattle.std.specs.Prelude.{◌≡◌, ◌≤◌, [], All, fold, map, length, IfOk, IfErr, OnOk, OnErr, Some, vec_len};
 ghost use Rattle.metrics_core.specs.Outside.{Rose, GrewBy, GrewByPrefix};
+ghost use Rattle.dsd_addresses.specs.Remotes.{remote_text};
 ghost use Rattle.drive_script.specs.Texts.{script_of, settings_of, round_of};
-ghost use Rattle.script_runs.specs.Answers.{IsAllowed, IsPlayFault, report_of};
+ghost use Rattle.script_runs.specs.Answers.{IsAllowed, IsPlayFault};
 ghost use Rattle.script_runs.specs.Fitting.{CallsFit};
 ghost use Rattle.script_runs.specs.Orders.{ForSomeRun};
 ghost use Rattle.script_runs.specs.Play.{exporter_settings};
 ghost use Rattle.script_runs.specs.Recorded.{AllRecordSome};
+ghost use Rattle.script_runs.specs.Sent.{IsSent, IsSentInPart};
 ghost use Rattle.script_runs.specs.Timely.{RiseFrom};
 
+use crate::flushes::{Flushes, lines_exporter};
 use crate::gates::GateHook;
 use crate::lanes::lanes_of;
 use crate::settings::builder_of;
 use crate::{Gate, Report};
 use cell_lanes::run_lanes;
 use drive_script::{CallLine, DriveFault, Round, Script, Settings, Setup};
+use dsd_addresses::RemoteAddr;
+use dsd_exporter::Link;
+use exporter_lanes::Exporters;
 use metrics_core::{
     Key, KeyName, Memory, MetricKind, SeriesId, SharedString, Sink, Unit, write_whole,
 };
-use prom_exporter::{BuildError, PrometheusState};
+use prom_exporter::BuildError;
 use std::alloc::Global;
+use std::mem;
 use std::sync::Wait;
 use std::thread::Threads;
 
-/// Plays a script: the lanes of each round run side by side, and then a page goes to the sink, ended by the line `# EOF`.
-/// The gate is called around each call of a lane. The script is taken apart: the exporter keeps its keys and descriptions, and
-/// the rest of a round is let go at the round's end. The exporter is ended whatever comes of the play.
-pub fn play<R: Threads + Wait + Sync, G: Gate + Sync, K: Sink>(
+/// Plays a script: the lanes of each round run side by side, then a page goes to the sink, ended by the line `# EOF`, and then the payloads of
+/// a flush go to the link, which is aimed at the address. The gate is called around each call of a lane. The script is taken apart:
+/// the exporters keep its keys and descriptions, and the rest of a round is let go at the round's end. The exporter of the pages
+/// is ended whatever comes of the play. A payload that the link refuses is counted, and changes nothing else.
+pub fn play<R: Threads + Wait + Sync, G: Gate + Sync, K: Sink, L: Link>(
     rt: &R,
     alloc: Global,
     gate: &G,
+    to: &RemoteAddr,
     script: Script,
     out: &mut K,
+    link: &mut L,
 ) -> Result<Report, DriveFault>
-    requires allowed { IsAllowed (script_of script) }
+    requires allowed { IsAllowed (remote_text to.now) (script_of script) }
     requires fit { CallsFit [] (map round_of script.rounds.items) }
     requires some { All AllRecordSome (map round_of script.rounds.items) }
     requires moments { RiseFrom 0 (map round_of script.rounds.items) }
+    requires aimed { L.aimed link.old ≡ Some (remote_text to.now) }
     ensures pages { OnOk result (ForSomeRun (script_of script) (GrewBy (K.written out.old) (K.written out.new))) }
-    ensures counted { IfOk result (λ report. report ≡ report_of (length script.rounds.items)) }
     ensures prefix { OnErr result (ForSomeRun (script_of script) (GrewByPrefix (K.written out.old) (K.written out.new))) }
+    ensures sent { IfOk result (IsSent (script_of script) (remote_text to.now)
+        (record { sent = L.sent link.old; faults = L.faults link.old }) (record { sent = L.sent link.new; faults = L.faults link.new })) }
+    ensures sent_in_part { OnErr result (IsSentInPart (script_of script) (remote_text to.now)
+        (record { sent = L.sent link.old; faults = L.faults link.old }) (record { sent = L.sent link.new; faults = L.faults link.new })) }
     ensures cause { IfErr result (IsPlayFault (Rose (K.faults out.old) (K.faults out.new))) }
     ensures never_falls { K.faults out.old ≤ K.faults out.new }
 {
     let Script { settings, rounds } = script;
     let pages = rounds.len() as u64;
-    let mut player = Player::new(alloc, settings)?;
-    let played = player.play_rounds(rt, alloc, gate, rounds, out);
+    let mut player = Player::new(alloc, settings, to)?;
+    let played = player.play_rounds(rt, alloc, gate, rounds, out, link);
+    let report = player.flushes.report;
     player.end(rt);
     played?;
     Ok(Report {
         pages,
-        sent: 0,
-        unsent: 0,
-        dropped: 0,
+        sent: report.sent,
+        unsent: report.unsent,
+        dropped: report.dropped,
     })
 }
 
-/// The exporter, and the series that each register line so far was given. It can't be let go: end it by `end`.
+/// The exporters, and the series of each that a register line so far was given. It can't be let go: end it by `end`.
 pub struct Player {
-    pub exporter: PrometheusState,
+    pub exporters: Exporters,
+    /// The series on the pages.
     pub handles: Vec<SeriesId>,
     /// For each handle, where to look for its series first.
     pub guesses: Vec<u32>,
+    /// The series in the flushes.
+    pub line_handles: Vec<SeriesId>,
+    /// For each of these handles, where to look for its series first.
+    pub line_guesses: Vec<u32>,
+    pub flushes: Flushes,
 }
 
 impl Player {
@@ -72,94 +93,146 @@ impl Player {
     ghost use Rattle.prom_format.specs.Pages.{page_text};
     ghost use Rattle.prom_exporter.specs.State.{page_step};
     ghost use Rattle.prom_exporter.specs.Exporter.{page_families, state_of as prometheus_of};
+    ghost use Rattle.dsd_addresses.specs.Remotes.{RemoteText, remote_text};
+    ghost use Rattle.dsd_exporter.specs.Resting.{AllRest as LinesRest};
+    ghost use Rattle.dsd_exporter.specs.State.{flush_items, flush_step};
+    ghost use Rattle.dsd_exporter.specs.declared.sending.FlushReport.{FlushReport};
     ghost use Rattle.drive_script.specs.Script.{RoundText, SettingsText, Describe, Register};
     ghost use Rattle.drive_script.specs.Texts.{round_of, settings_of, setup_of, call_line_of};
     ghost use Rattle.script_runs.specs.Answers.{AreAllowed, IsPlayFault};
     ghost use Rattle.script_runs.specs.Orders.{ForSomeOrders, ForSomeRounds, IsCalled, round_text};
     ghost use Rattle.script_runs.specs.Play.{after_round, play_start, setup_step, exporter_settings};
-    ghost use Rattle.script_runs.specs.Player.{state_of};
+    ghost use Rattle.script_runs.specs.Flushes.{ForSomeFlushes, ForSomeFlushOrders, IsFlushCalled, after_flush, dogstatsd_settings, flush_of, flush_start, register_step};
+    ghost use Rattle.script_runs.specs.Player.{AsksFor, flush_state_of, state_of};
+    ghost use Rattle.script_runs.specs.Sent.{Delivers, ForFirstFlushes, none_sent};
     ghost use Rattle.script_runs.specs.Resting.{AllRest};
     ghost use Rattle.script_runs.specs.Fitting.{CallsFit, FitsHandle};
     ghost use Rattle.script_runs.specs.Recorded.{AllRecordSome, RecordsSome};
     ghost use Rattle.script_runs.specs.Timely.{IsTimelyState, RiseFrom};
 
-    /// A player before its first round, over an exporter with these settings.
-    fn new(alloc: Global, settings: Settings) -> Result<Player, Memory>
-        requires allowed { AreAllowed (settings_of settings) }
+    /// A player before its first round, over exporters with these settings, whose payloads go to an address.
+    fn new(alloc: Global, settings: Settings, to: &RemoteAddr) -> Result<Player, Memory>
+        requires allowed { AreAllowed (remote_text to.now) (settings_of settings) }
         ensures start { IfOk result (λ player. state_of player ≡ play_start) }
-        ensures settings { IfOk result (λ player. player.exporter.settings ≡ exporter_settings (settings_of settings)) }
-        ensures rest { IfOk result (λ player. AllRest player.exporter) }
+        ensures settings { IfOk result (λ player. player.exporters.prometheus.settings ≡ exporter_settings (settings_of settings)) }
+        ensures rest { IfOk result (λ player. AllRest player.exporters.prometheus) }
+        ensures flush_start { IfOk result (λ player. flush_state_of player ≡ flush_start) }
+        ensures asks { IfOk result (λ player. AsksFor (settings_of settings) (remote_text to.now) player) }
+        ensures lines_rest { IfOk result (λ player. LinesRest player.exporters.dogstatsd) }
+        ensures none { IfOk result (λ player. player.flushes.report ≡ none_sent) }
     {
+        let mut settings = settings;
+        let prefix = settings.dsd_prefix.take();
+        let tags = mem::replace(&mut settings.dsd_globals, Vec::new(alloc));
+        let flushes = Flushes::new(alloc, &settings, tags, to)?;
+        let dogstatsd = lines_exporter(alloc, &settings, prefix)?;
         let builder = builder_of(alloc, settings)?;
         match builder.build_state(alloc) {
-            Ok(exporter) => Ok(Player {
-                exporter,
+            Ok(prometheus) => Ok(Player {
+                exporters: Exporters {
+                    prometheus,
+                    dogstatsd,
+                },
                 handles: Vec::new(alloc),
                 guesses: Vec::new(alloc),
+                line_handles: Vec::new(alloc),
+                line_guesses: Vec::new(alloc),
+                flushes,
             }),
             Err(_) => Err(Memory),
         }
     }
 
     /// Plays rounds, one after another, up to the first that fails.
-    fn play_rounds<R: Threads + Wait + Sync, G: Gate + Sync, K: Sink>(
+    fn play_rounds<R: Threads + Wait + Sync, G: Gate + Sync, K: Sink, L: Link>(
         &mut self,
         rt: &R,
         alloc: Global,
         gate: &G,
         rounds: Vec<Round>,
         out: &mut K,
+        link: &mut L,
     ) -> Result<(), DriveFault>
         requires fit { CallsFit self.old.handles.items (map round_of rounds.items) }
+        requires lines_fit { CallsFit self.old.line_handles.items (map round_of rounds.items) }
         requires some { All AllRecordSome (map round_of rounds.items) }
-        requires timely { (moment : ℕ) × IsTimelyState moment (prometheus_of self.old.exporter) × RiseFrom moment (map round_of rounds.items) }
-        requires rest { AllRest self.old.exporter }
-        requires settings { (settings : SettingsText) × (self.old.exporter.settings ≡ exporter_settings settings) }
-        ensures pages { (settings : SettingsText) → self.old.exporter.settings ≡ exporter_settings settings
+        requires timely { (moment : ℕ) × IsTimelyState moment (prometheus_of self.old.exporters.prometheus) × RiseFrom moment (map round_of rounds.items) }
+        requires rest { AllRest self.old.exporters.prometheus }
+        requires lines_rest { LinesRest self.old.exporters.dogstatsd }
+        requires settings { (settings : SettingsText) × (self.old.exporters.prometheus.settings ≡ exporter_settings settings) }
+        requires asks { (settings : SettingsText) × (to : RemoteText) × AsksFor settings to self.old × (L.aimed link.old ≡ Some to) }
+        ensures pages { (settings : SettingsText) → self.old.exporters.prometheus.settings ≡ exporter_settings settings
             → OnOk result (ForSomeRounds settings (state_of self.old) (map round_of rounds.items) (GrewBy (K.written out.old) (K.written out.new))) }
-        ensures prefix { (settings : SettingsText) → self.old.exporter.settings ≡ exporter_settings settings
+        ensures prefix { (settings : SettingsText) → self.old.exporters.prometheus.settings ≡ exporter_settings settings
             → OnErr result (ForSomeRounds settings (state_of self.old) (map round_of rounds.items) (GrewByPrefix (K.written out.old) (K.written out.new))) }
+        ensures sent { (settings : SettingsText) (to : RemoteText) → AsksFor settings to self.old → L.aimed link.old ≡ Some to
+            → OnOk result (ForSomeFlushes settings (flush_state_of self.old) (map round_of rounds.items) (λ flushes. Delivers settings to flushes
+            (record { sent = L.sent link.old; faults = L.faults link.old }) (record { sent = L.sent link.new; faults = L.faults link.new })
+            self.old.flushes.report self.new.flushes.report)) }
+        ensures sent_in_part { (settings : SettingsText) (to : RemoteText) → AsksFor settings to self.old → L.aimed link.old ≡ Some to
+            → OnErr result (ForFirstFlushes settings (flush_state_of self.old) (map round_of rounds.items) (λ flushes. (now : FlushReport) × Delivers settings to flushes
+            (record { sent = L.sent link.old; faults = L.faults link.old }) (record { sent = L.sent link.new; faults = L.faults link.new })
+            self.old.flushes.report now)) }
         ensures cause { IfErr result (IsPlayFault (Rose (K.faults out.old) (K.faults out.new))) }
         ensures never_falls { K.faults out.old ≤ K.faults out.new }
     {
         for round in rounds {
-            self.play_round(rt, alloc, gate, round, out)?;
+            self.play_round(rt, alloc, gate, round, out, link)?;
         }
         Ok(())
     }
 
-    /// Ends the exporter.
+    /// Ends the exporter of the pages.
     fn end<R: Wait>(self, rt: &R) {
         let Player {
-            exporter,
+            exporters,
             handles: _,
             guesses: _,
+            line_handles: _,
+            line_guesses: _,
+            flushes: _,
         } = self;
-        exporter.end(rt);
+        let Exporters {
+            prometheus,
+            dogstatsd: _,
+        } = exporters;
+        prometheus.end(rt);
     }
 
-    /// Plays a round: its setup, its calls, its page.
-    fn play_round<R: Threads + Wait + Sync, G: Gate + Sync, K: Sink>(
+    /// Plays a round: its setup, its calls, its page, its flush.
+    fn play_round<R: Threads + Wait + Sync, G: Gate + Sync, K: Sink, L: Link>(
         &mut self,
         rt: &R,
         alloc: Global,
         gate: &G,
         round: Round,
         out: &mut K,
+        link: &mut L,
     ) -> Result<(), DriveFault>
         requires fit { CallsFit self.old.handles.items (round_of round ∷ []) }
+        requires lines_fit { CallsFit self.old.line_handles.items (round_of round ∷ []) }
         requires some { AllRecordSome (round_of round) }
-        requires timely { IsTimelyState round.moment (prometheus_of self.old.exporter) }
-        requires rest { AllRest self.old.exporter }
-        ensures rest { OnOk result (AllRest self.new.exporter) }
-        ensures settings { self.new.exporter.settings ≡ self.old.exporter.settings }
-        ensures played { (settings : SettingsText) → self.old.exporter.settings ≡ exporter_settings settings
+        requires timely { IsTimelyState round.moment (prometheus_of self.old.exporters.prometheus) }
+        requires rest { AllRest self.old.exporters.prometheus }
+        requires lines_rest { LinesRest self.old.exporters.dogstatsd }
+        ensures rest { OnOk result (AllRest self.new.exporters.prometheus) }
+        ensures lines_rest { OnOk result (LinesRest self.new.exporters.dogstatsd) }
+        ensures settings { self.new.exporters.prometheus.settings ≡ self.old.exporters.prometheus.settings }
+        ensures played { (settings : SettingsText) → self.old.exporters.prometheus.settings ≡ exporter_settings settings
             → OnOk result (ForSomeOrders (state_of self.old) (round_of round) (λ orders.
             (state_of self.new ≡ after_round settings (state_of self.old) (round_of round) orders)
             × GrewBy (K.written out.old) (K.written out.new) (round_text settings (state_of self.old) (round_of round) orders))) }
-        ensures prefix { (settings : SettingsText) → self.old.exporter.settings ≡ exporter_settings settings
+        ensures prefix { (settings : SettingsText) → self.old.exporters.prometheus.settings ≡ exporter_settings settings
             → OnErr result (ForSomeOrders (state_of self.old) (round_of round) (λ orders.
             GrewByPrefix (K.written out.old) (K.written out.new) (round_text settings (state_of self.old) (round_of round) orders))) }
+        ensures flushed { (settings : SettingsText) (to : RemoteText) → AsksFor settings to self.old → L.aimed link.old ≡ Some to
+            → OnOk result (AsksFor settings to self.new × ForSomeFlushOrders (flush_state_of self.old) (round_of round) (λ orders.
+            (flush_state_of self.new ≡ after_flush (flush_state_of self.old) (round_of round) orders)
+            × Delivers settings to (flush_of settings (flush_state_of self.old) (round_of round) orders ∷ [])
+            (record { sent = L.sent link.old; faults = L.faults link.old }) (record { sent = L.sent link.new; faults = L.faults link.new })
+            self.old.flushes.report self.new.flushes.report)) }
+        ensures unsent { OnErr result (link.new ≡ link.old) }
+        ensures aimed { L.aimed link.new ≡ L.aimed link.old }
         ensures cause { IfErr result (IsPlayFault (Rose (K.faults out.old) (K.faults out.new))) }
         ensures never_falls { K.faults out.old ≤ K.faults out.new }
     {
@@ -170,7 +243,34 @@ impl Player {
         } = round;
         self.set_up(rt, alloc, setup)?;
         self.make_calls(rt, alloc, gate, moment, calls)?;
-        self.write_page(rt, alloc, moment, out)
+        self.write_page(rt, alloc, moment, out)?;
+        self.send_flush(rt, alloc, moment, link)?;
+        Ok(())
+    }
+
+    /// Sends the flush at a moment.
+    fn send_flush<R: Wait, L: Link>(
+        &mut self,
+        rt: &R,
+        alloc: Global,
+        moment: u64,
+        link: &mut L,
+    ) -> Result<(), Memory>
+        requires lines_rest { LinesRest self.old.exporters.dogstatsd }
+        ensures lines_rest { LinesRest self.new.exporters.dogstatsd }
+        ensures pages { self.new.exporters.prometheus ≡ self.old.exporters.prometheus }
+        ensures handles { self.new.handles ≡ self.old.handles }
+        ensures sent { (settings : SettingsText) (to : RemoteText) → AsksFor settings to self.old → L.aimed link.old ≡ Some to
+            → OnOk result (AsksFor settings to self.new
+            × (flush_state_of self.new ≡ record (flush_state_of self.old) { dogstatsd = flush_step (flush_state_of self.old).dogstatsd })
+            × Delivers settings to (flush_items (dogstatsd_settings settings) settings.dsd_globals moment [] (flush_state_of self.old).dogstatsd ∷ [])
+            (record { sent = L.sent link.old; faults = L.faults link.old }) (record { sent = L.sent link.new; faults = L.faults link.new })
+            self.old.flushes.report self.new.flushes.report) }
+        ensures unsent { OnErr result (link.new ≡ link.old) }
+        ensures aimed { L.aimed link.new ≡ L.aimed link.old }
+    {
+        self.flushes
+            .send(rt, alloc, &mut self.exporters.dogstatsd, moment, link)
     }
 
     /// Does the setup lines in order. They are taken from the end of a list that is turned round, so that the room of those
@@ -181,9 +281,13 @@ impl Player {
         alloc: Global,
         mut setup: Vec<Setup>,
     ) -> Result<(), Memory>
-        ensures settings { self.new.exporter.settings ≡ self.old.exporter.settings }
-        ensures rest { AllRest self.old.exporter → AllRest self.new.exporter }
+        ensures settings { self.new.exporters.prometheus.settings ≡ self.old.exporters.prometheus.settings }
+        ensures rest { AllRest self.old.exporters.prometheus → AllRest self.new.exporters.prometheus }
+        ensures lines_settings { self.new.exporters.dogstatsd.settings ≡ self.old.exporters.dogstatsd.settings }
+        ensures lines_rest { LinesRest self.old.exporters.dogstatsd → LinesRest self.new.exporters.dogstatsd }
+        ensures flushes { self.new.flushes ≡ self.old.flushes }
         ensures stepped { OnOk result (state_of self.new ≡ fold setup_step (state_of self.old) (map setup_of setup.items)) }
+        ensures registered { OnOk result (flush_state_of self.new ≡ fold register_step (flush_state_of self.old) (map setup_of setup.items)) }
     {
         self.make_room(&setup)?;
         setup.reverse();
@@ -196,8 +300,10 @@ impl Player {
 
     /// Makes room for what register lines make, where they are at least as many as those before them.
     fn make_room(&mut self, setup: &[Setup]) -> Result<(), Memory>
-        ensures exporter { self.new.exporter ≡ self.old.exporter }
+        ensures exporters { (self.new.exporters.prometheus ≡ self.old.exporters.prometheus) × (self.new.exporters.dogstatsd ≡ self.old.exporters.dogstatsd) }
         ensures handles { self.new.handles.items ≡ self.old.handles.items }
+        ensures line_handles { self.new.line_handles.items ≡ self.old.line_handles.items }
+        ensures flushes { self.new.flushes ≡ self.old.flushes }
     {
         let registrations = setup.iter().filter(|line| registers(line)).count();
         if registrations < self.handles.len() {
@@ -211,17 +317,23 @@ impl Player {
             .iter()
             .filter(|line| registers_a(line, MetricKind::Gauge))
             .count();
-        self.exporter.reserve(counters, gauges)?;
+        self.exporters.prometheus.reserve(counters, gauges)?;
         self.handles.reserve(registrations)?;
         self.guesses.reserve(registrations)?;
+        self.line_handles.reserve(registrations)?;
+        self.line_guesses.reserve(registrations)?;
         Ok(())
     }
 
     /// Does one setup line.
     fn set_up_line<R: Wait>(&mut self, rt: &R, alloc: Global, line: Setup) -> Result<(), Memory>
-        ensures settings { self.new.exporter.settings ≡ self.old.exporter.settings }
-        ensures rest { AllRest self.old.exporter → AllRest self.new.exporter }
+        ensures settings { self.new.exporters.prometheus.settings ≡ self.old.exporters.prometheus.settings }
+        ensures rest { AllRest self.old.exporters.prometheus → AllRest self.new.exporters.prometheus }
+        ensures lines_settings { self.new.exporters.dogstatsd.settings ≡ self.old.exporters.dogstatsd.settings }
+        ensures lines_rest { LinesRest self.old.exporters.dogstatsd → LinesRest self.new.exporters.dogstatsd }
+        ensures flushes { self.new.flushes ≡ self.old.flushes }
         ensures stepped { OnOk result (state_of self.new ≡ setup_step (state_of self.old) (setup_of line)) }
+        ensures registered { OnOk result (flush_state_of self.new ≡ register_step (flush_state_of self.old) (setup_of line)) }
     {
         match line {
             Setup::Describe {
@@ -244,31 +356,71 @@ impl Player {
         unit: Option<Unit>,
         text: String,
     ) -> Result<(), Memory>
-        ensures settings { self.new.exporter.settings ≡ self.old.exporter.settings }
-        ensures rest { AllRest self.old.exporter → AllRest self.new.exporter }
+        ensures settings { self.new.exporters.prometheus.settings ≡ self.old.exporters.prometheus.settings }
+        ensures rest { AllRest self.old.exporters.prometheus → AllRest self.new.exporters.prometheus }
+        ensures lines { self.new.exporters.dogstatsd ≡ self.old.exporters.dogstatsd }
+        ensures line_handles { self.new.line_handles ≡ self.old.line_handles }
+        ensures flushes { self.new.flushes ≡ self.old.flushes }
         ensures stepped { OnOk result (state_of self.new ≡ setup_step (state_of self.old) (Describe kind (string_bytes name) unit (string_bytes text))) }
     {
         let name = KeyName::from(name);
         let text = SharedString::from_owned(text);
+        let pages = &mut self.exporters.prometheus;
         match kind {
-            MetricKind::Counter => self.exporter.describe_counter(rt, alloc, name, unit, text),
-            MetricKind::Gauge => self.exporter.describe_gauge(rt, alloc, name, unit, text),
-            MetricKind::Histogram => self
-                .exporter
-                .describe_histogram(rt, alloc, name, unit, text),
+            MetricKind::Counter => pages.describe_counter(rt, alloc, name, unit, text),
+            MetricKind::Gauge => pages.describe_gauge(rt, alloc, name, unit, text),
+            MetricKind::Histogram => pages.describe_histogram(rt, alloc, name, unit, text),
         }
     }
 
-    /// Registers a series of a kind under a key, and gives it the next handle.
+    /// Registers a series of a kind under a key, for the flushes and for the pages, and gives both the next handle.
     fn register(&mut self, alloc: Global, kind: MetricKind, key: Key) -> Result<(), Memory>
-        ensures settings { self.new.exporter.settings ≡ self.old.exporter.settings }
-        ensures rest { AllRest self.old.exporter → AllRest self.new.exporter }
+        ensures settings { self.new.exporters.prometheus.settings ≡ self.old.exporters.prometheus.settings }
+        ensures rest { AllRest self.old.exporters.prometheus → AllRest self.new.exporters.prometheus }
+        ensures lines_settings { self.new.exporters.dogstatsd.settings ≡ self.old.exporters.dogstatsd.settings }
+        ensures lines_rest { LinesRest self.old.exporters.dogstatsd → LinesRest self.new.exporters.dogstatsd }
+        ensures flushes { self.new.flushes ≡ self.old.flushes }
+        ensures stepped { OnOk result (state_of self.new ≡ setup_step (state_of self.old) (Register kind key)) }
+        ensures registered { OnOk result (flush_state_of self.new ≡ register_step (flush_state_of self.old) (Register kind key)) }
+    {
+        self.register_line(alloc, kind, &key)?;
+        self.register_row(alloc, kind, key)
+    }
+
+    /// Registers a series of the flushes under a key, and gives it the next handle.
+    fn register_line(&mut self, alloc: Global, kind: MetricKind, key: &Key) -> Result<(), Memory>
+        ensures pages { self.new.exporters.prometheus ≡ self.old.exporters.prometheus }
+        ensures handles { self.new.handles ≡ self.old.handles }
+        ensures lines_settings { self.new.exporters.dogstatsd.settings ≡ self.old.exporters.dogstatsd.settings }
+        ensures lines_rest { LinesRest self.old.exporters.dogstatsd → LinesRest self.new.exporters.dogstatsd }
+        ensures flushes { self.new.flushes ≡ self.old.flushes }
+        ensures registered { OnOk result (flush_state_of self.new ≡ register_step (flush_state_of self.old) (Register kind key.now)) }
+    {
+        let lines = &mut self.exporters.dogstatsd;
+        let id = match kind {
+            MetricKind::Counter => lines.register_counter(alloc, key)?,
+            MetricKind::Gauge => lines.register_gauge(alloc, key)?,
+            MetricKind::Histogram => lines.register_histogram(alloc, key)?,
+        };
+        self.line_handles.push(id)?;
+        self.line_guesses.push(0)?;
+        Ok(())
+    }
+
+    /// Registers a series of the pages under a key, which it keeps, and gives it the next handle.
+    fn register_row(&mut self, alloc: Global, kind: MetricKind, key: Key) -> Result<(), Memory>
+        ensures settings { self.new.exporters.prometheus.settings ≡ self.old.exporters.prometheus.settings }
+        ensures rest { AllRest self.old.exporters.prometheus → AllRest self.new.exporters.prometheus }
+        ensures lines { self.new.exporters.dogstatsd ≡ self.old.exporters.dogstatsd }
+        ensures line_handles { self.new.line_handles ≡ self.old.line_handles }
+        ensures flushes { self.new.flushes ≡ self.old.flushes }
         ensures stepped { OnOk result (state_of self.new ≡ setup_step (state_of self.old) (Register kind key)) }
     {
+        let pages = &mut self.exporters.prometheus;
         let id = match kind {
-            MetricKind::Counter => self.exporter.register_owned_counter(alloc, key)?,
-            MetricKind::Gauge => self.exporter.register_owned_gauge(alloc, key)?,
-            MetricKind::Histogram => self.exporter.register_owned_histogram(alloc, key)?,
+            MetricKind::Counter => pages.register_owned_counter(alloc, key)?,
+            MetricKind::Gauge => pages.register_owned_gauge(alloc, key)?,
+            MetricKind::Histogram => pages.register_owned_histogram(alloc, key)?,
         };
         self.handles.push(id)?;
         self.guesses.push(0)?;
@@ -286,22 +438,30 @@ impl Player {
         calls: Vec<CallLine>,
     ) -> Result<(), Memory>
         requires fit { All (λ line. FitsHandle self.old.handles.items (call_line_of line)) calls.items }
+        requires lines_fit { All (λ line. FitsHandle self.old.line_handles.items (call_line_of line)) calls.items }
         requires some { All (λ call. RecordsSome call.act) (map call_line_of calls.items) }
-        requires rest { AllRest self.old.exporter }
-        ensures rest { AllRest self.new.exporter }
-        ensures settings { self.new.exporter.settings ≡ self.old.exporter.settings }
+        requires rest { AllRest self.old.exporters.prometheus }
+        requires lines_rest { LinesRest self.old.exporters.dogstatsd }
+        ensures rest { AllRest self.new.exporters.prometheus }
+        ensures lines_rest { LinesRest self.new.exporters.dogstatsd }
+        ensures settings { self.new.exporters.prometheus.settings ≡ self.old.exporters.prometheus.settings }
+        ensures lines_settings { self.new.exporters.dogstatsd.settings ≡ self.old.exporters.dogstatsd.settings }
+        ensures flushes { self.new.flushes ≡ self.old.flushes }
+        ensures flush_called { OnOk result ((round : RoundText) → round.moment ≡ moment → round.calls ≡ map call_line_of calls.items → IsFlushCalled (flush_state_of self.old) round (flush_state_of self.new)) }
         ensures called { OnOk result ((round : RoundText) → round.moment ≡ moment → round.calls ≡ map call_line_of calls.items → IsCalled (state_of self.old) round (state_of self.new)) }
     {
         let lanes = lanes_of(
             alloc,
-            &self.exporter,
+            &self.exporters,
             &self.handles,
             &mut self.guesses,
+            &self.line_handles,
+            &mut self.line_guesses,
             moment,
             &calls,
         )?;
         drop(calls);
-        run_lanes(rt, alloc, &GateHook { gate }, &mut self.exporter, &lanes)
+        run_lanes(rt, alloc, &GateHook { gate }, &mut self.exporters, &lanes)
     }
 
     /// Writes the page at a moment, ended by the line `# EOF`.
@@ -312,17 +472,24 @@ impl Player {
         moment: u64,
         out: &mut K,
     ) -> Result<(), DriveFault>
-        requires rest { AllRest self.old.exporter }
-        requires timely { IsTimelyState moment (prometheus_of self.old.exporter) }
-        ensures rest { AllRest self.new.exporter }
-        ensures settings { self.new.exporter.settings ≡ self.old.exporter.settings }
-        ensures stepped { OnOk result (state_of self.new ≡ record (state_of self.old) { prometheus = page_step self.old.exporter.settings.idle moment (prometheus_of self.old.exporter) }) }
-        ensures page { OnOk result (GrewBy (K.written out.old) (K.written out.new) (page_text (page_families moment self.old.exporter))) }
-        ensures prefix { OnErr result (GrewByPrefix (K.written out.old) (K.written out.new) (page_text (page_families moment self.old.exporter))) }
+        requires rest { AllRest self.old.exporters.prometheus }
+        requires timely { IsTimelyState moment (prometheus_of self.old.exporters.prometheus) }
+        ensures rest { AllRest self.new.exporters.prometheus }
+        ensures settings { self.new.exporters.prometheus.settings ≡ self.old.exporters.prometheus.settings }
+        ensures lines { self.new.exporters.dogstatsd ≡ self.old.exporters.dogstatsd }
+        ensures line_handles { self.new.line_handles ≡ self.old.line_handles }
+        ensures flushes { self.new.flushes ≡ self.old.flushes }
+        ensures stepped { OnOk result (state_of self.new ≡ record (state_of self.old) { prometheus = page_step self.old.exporters.prometheus.settings.idle moment (prometheus_of self.old.exporters.prometheus) }) }
+        ensures page { OnOk result (GrewBy (K.written out.old) (K.written out.new) (page_text (page_families moment self.old.exporters.prometheus))) }
+        ensures prefix { OnErr result (GrewByPrefix (K.written out.old) (K.written out.new) (page_text (page_families moment self.old.exporters.prometheus))) }
         ensures cause { IfErr result (IsPlayFault (Rose (K.faults out.old) (K.faults out.new))) }
         ensures never_falls { K.faults out.old ≤ K.faults out.new }
     {
-        match self.exporter.render_to_write(rt, alloc, moment, out) {
+        match self
+            .exporters
+            .prometheus
+            .render_to_write(rt, alloc, moment, out)
+        {
             Ok(()) => (),
             Err(BuildError::WriteFault) => return Err(DriveFault::WriteFault),
             Err(_) => return Err(DriveFault::Memory),

@@ -2,19 +2,24 @@
 
 ghost use Rattle.std.specs.Prelude.{◌≡◌, ◌∷◌, [], ◌⊎◌, ◌↔◌, ℕ, List, IsTrue, IfSome};
 ghost use Rattle.metrics_core.specs.Outside.{Rose};
+ghost use Rattle.dsd_addresses.specs.Remotes.{RemoteText, remote_text};
 ghost use Rattle.drive_script.specs.declared.faults.SettingFault.{SettingFault};
-ghost use Rattle.script_runs.specs.Answers.{fault_status, texts_of, IsBadScript, IsComplete, IsDriveWords, IsRefusedSetting};
-ghost use Rattle.script_runs.specs.Answers.{IsForm, IsMergeWords, IsNoDriveStatus, IsSaid, IsTooLong, IsUnplayed};
+ghost use Rattle.script_runs.specs.declared.report.Report.{Report};
+ghost use Rattle.script_runs.specs.Answers.{fault_status, texts_of, IsBadScript, IsComplete, IsDriveTo, IsDriveWords, IsRefusedSetting};
+ghost use Rattle.script_runs.specs.Answers.{IsForm, IsMergeWords, IsNoDriveStatus, IsReported, IsReportedInPart, IsSaid, IsTooLong, IsUnplayed};
 ghost use Rattle.script_runs.specs.Headline.{IsPlayed, IsPlayedInPart};
 ghost use Rattle.script_runs.specs.Relay.{relay_status, IsBadStream, IsRelayComplete, IsRelayed, IsRelayedInPart};
 ghost use Rattle.script_runs.specs.Relay.{IsRelayEnd, IsRelaySaid, IsUnmergeable, IsWithinLimit};
 
 use crate::Gate;
+use crate::agent::drive_address;
 use crate::driving::drive;
 use crate::reading::read_all;
 use crate::relaying::relay;
 use crate::say::{say_fault, say_merged, say_relay_fault, say_report, say_usage};
 use drive_script::DriveFault;
+use dsd_addresses::RemoteAddr;
+use dsd_exporter::Link;
 use metrics_core::{Sink, Source};
 use page_relay::RelayFault;
 use std::alloc::Global;
@@ -26,16 +31,18 @@ use std::thread::Threads;
 /// failed, 7 the sink of the pages failed, 8 memory was wanting, 10 the input is no stream of pages, 11 its pages don't
 /// merge. `err` gets one line that says which; a failing `err` changes nothing else.
 ///
-/// For the word `drive` the whole script is read from `source`, and its pages are written to `out`. The lanes of a round run
-/// side by side, in up to eight threads; the gate is called around each call of a lane. For the word `merge` the whole
+/// For the word `drive` the whole script is read from `source`, its pages are written to `out`, and its flushes are sent to `link`, which is
+/// aimed at the address of the second word, or at 127.0.0.1:8125 over UDP. The lanes of a round run side by side, in up to eight threads;
+/// the gate is called around each call of a lane. A failing link changes no status. For the word `merge` the whole
 /// source is read as pages that stand one after the other, and the one page that they become is written to `out`.
-pub fn run<R: Threads + Wait + Sync, S: Source, K: Sink, E: Sink, G: Gate + Sync>(
+pub fn run<R: Threads + Wait + Sync, S: Source, K: Sink, E: Sink, L: Link, G: Gate + Sync>(
     rt: &R,
     alloc: Global,
     words: &[&str],
     source: &mut S,
     out: &mut K,
     err: &mut E,
+    link: &mut L,
     gate: &G,
 ) -> u8
     // `drive`, status 0: what was written is one page per round, ended by `# EOF`; read by the
@@ -44,17 +51,25 @@ pub fn run<R: Threads + Wait + Sync, S: Source, K: Sink, E: Sink, G: Gate + Sync
     ensures headline { IsDriveWords (texts_of words.now) → result ≡ 0 → IfSome (S.left source.old)
         (λ bytes. IsPlayed bytes (K.written out.old) (K.written out.new)) }
 
+    // `drive`, status 0: what the link was handed is the payloads of one flush per round, each once, in order: cut within the limit
+    // from the lines of the sequential state, for orders of its own; the report counts those that were sent, those that weren't,
+    // and what was left out.
+    ensures flushed { (to : RemoteText) → IsDriveTo (texts_of words.now) to → result ≡ 0 → IfSome (S.left source.old)
+        (λ bytes. (report : Report) × IsReported bytes to (record { sent = L.sent link.old; faults = L.faults link.old })
+        (record { sent = L.sent link.new; faults = L.faults link.new }) report) }
+
     // `merge`, status 0: the bytes are one stream, and what was written is the one page that its
     // pages become.
     ensures merged { IsMergeWords (texts_of words.now) → result ≡ 0 → IfSome (S.left source.old)
         (λ bytes. IsWithinLimit bytes × IsRelayed bytes (K.written out.old) (K.written out.new)) }
 
     // Each other status comes only by its cause.
-    ensures usage { (result ≡ 2) ↔ (¬ (IsForm (texts_of words.now))) }
+    ensures usage { result ≡ 2 → ¬ IsForm (texts_of words.now) }
+    ensures no_form { ¬ IsForm (texts_of words.now) → (result ≡ 2) ⊎ (result ≡ 8) }
     ensures bad_script { result ≡ 3 → IsDriveWords (texts_of words.now)
         × IfSome (S.left source.old) (λ bytes. (l : ℕ) × IsBadScript bytes l) }
-    ensures refused_setting { result ≡ 4 → IsDriveWords (texts_of words.now)
-        × IfSome (S.left source.old) (λ bytes. (fault : SettingFault) × IsRefusedSetting bytes fault) }
+    ensures refused_setting { result ≡ 4 → (to : RemoteText) × IsDriveTo (texts_of words.now) to
+        × IfSome (S.left source.old) (λ bytes. (fault : SettingFault) × IsRefusedSetting to bytes fault) }
     ensures too_long { result ≡ 5 → IfSome (S.left source.old) IsTooLong }
     ensures read_failed { result ≡ 6 → Rose (S.faults source.old) (S.faults source.new) }
     ensures write_failed { result ≡ 7 → Rose (K.faults out.old) (K.faults out.new) }
@@ -64,9 +79,14 @@ pub fn run<R: Threads + Wait + Sync, S: Source, K: Sink, E: Sink, G: Gate + Sync
         × IfSome (S.left source.old)
         (λ bytes. (page : ℕ) × (name : List ℕ) × IsUnmergeable bytes page name) }
 
-    // After 2 to 6, 10 and 11 nothing was written; after 7 a prefix of the pages; after 8 a
-    // prefix or nothing.
+    // After 2 to 6, 10 and 11 nothing was written or sent; after 7 a prefix of the pages and the flushes of the first rounds; after 8
+    // such a prefix and such flushes, or nothing. `merge` leaves the link as it was.
     ensures unplayed { IsUnplayed result → K.written out.new ≡ K.written out.old }
+    ensures unsent { IsUnplayed result → L.sent link.new ≡ L.sent link.old }
+    ensures flushed_in_part { (to : RemoteText) → IsDriveTo (texts_of words.now) to → (result ≡ 7) ⊎ (result ≡ 8)
+        → IfSome (S.left source.old) (λ bytes. (L.sent link.new ≡ L.sent link.old) ⊎ IsReportedInPart bytes to
+        (record { sent = L.sent link.old; faults = L.faults link.old }) (record { sent = L.sent link.new; faults = L.faults link.new })) }
+    ensures merge_sends_none { IsMergeWords (texts_of words.now) → link.new ≡ link.old }
     ensures prefix { IsDriveWords (texts_of words.now) → result ≡ 7 → IfSome (S.left source.old)
         (λ bytes. IsPlayedInPart bytes (K.written out.old) (K.written out.new)) }
     ensures merged_prefix { IsMergeWords (texts_of words.now) → result ≡ 7
@@ -79,29 +99,36 @@ pub fn run<R: Threads + Wait + Sync, S: Source, K: Sink, E: Sink, G: Gate + Sync
         ⊎ IsRelayedInPart bytes (K.written out.old) (K.written out.new)) }
 
     // Each cause brings its status, where neither device failed and memory was not wanting.
-    ensures complete { IsDriveWords (texts_of words.now) → IfSome (S.left source.old)
-        (λ bytes. IsComplete bytes (Rose (S.faults source.old) (S.faults source.new))
+    ensures complete { (to : RemoteText) → IsDriveTo (texts_of words.now) to → IfSome (S.left source.old)
+        (λ bytes. IsComplete to bytes (Rose (S.faults source.old) (S.faults source.new))
         (Rose (K.faults out.old) (K.faults out.new)) result) }
     ensures merged_complete { IsMergeWords (texts_of words.now) → IfSome (S.left source.old)
         (λ bytes. IsRelayComplete bytes (Rose (S.faults source.old) (S.faults source.new))
         (Rose (K.faults out.old) (K.faults out.new)) result) }
 
     // The line on `err` is that of the status.
-    ensures said { ¬ IsMergeWords (texts_of words.now) → IsSaid (S.left source.old)
+    ensures said { ¬ IsMergeWords (texts_of words.now) → IsSaid (texts_of words.now) (S.left source.old)
+        (record { sent = L.sent link.old; faults = L.faults link.old }) (record { sent = L.sent link.new; faults = L.faults link.new })
         (Rose (E.faults err.old) (E.faults err.new)) (E.written err.old) (E.written err.new)
         result }
     ensures merged_said { IsMergeWords (texts_of words.now) → IsRelaySaid (S.left source.old)
         (Rose (E.faults err.old) (E.faults err.new)) (E.written err.old) (E.written err.new)
         result }
 {
-    if is_word(words, "drive") {
-        return run_drive(rt, alloc, source, out, err, gate);
-    }
     if is_word(words, "merge") {
         return run_merge(alloc, source, out, err);
     }
-    say_usage(err);
-    2
+    match drive_address(alloc, words) {
+        Ok(Some(to)) => run_drive(rt, alloc, &to, source, out, err, link, gate),
+        Ok(None) => {
+            say_usage(err);
+            2
+        }
+        Err(_) => {
+            say_fault(err, DriveFault::Memory);
+            8
+        }
+    }
 }
 
 /// Whether the words are one word, and this one.
@@ -114,39 +141,49 @@ fn is_word(words: &[&str], word: &str) -> bool
     }
 }
 
-/// Does what the word `drive` asks for.
-fn run_drive<R: Threads + Wait + Sync, S: Source, K: Sink, E: Sink, G: Gate + Sync>(
+/// Does what the word `drive` asks for, where payloads go to an address.
+fn run_drive<R: Threads + Wait + Sync, S: Source, K: Sink, E: Sink, L: Link, G: Gate + Sync>(
     rt: &R,
     alloc: Global,
+    to: &RemoteAddr,
     source: &mut S,
     out: &mut K,
     err: &mut E,
+    link: &mut L,
     gate: &G,
 ) -> u8
     ensures headline { result ≡ 0 → IfSome (S.left source.old)
         (λ bytes. IsPlayed bytes (K.written out.old) (K.written out.new)) }
+    ensures flushed { result ≡ 0 → IfSome (S.left source.old)
+        (λ bytes. (report : Report) × IsReported bytes (remote_text to.now) (record { sent = L.sent link.old; faults = L.faults link.old })
+        (record { sent = L.sent link.new; faults = L.faults link.new }) report) }
     ensures others { ¬ IsNoDriveStatus result }
     ensures bad_script { result ≡ 3 → IfSome (S.left source.old)
         (λ bytes. (l : ℕ) × IsBadScript bytes l) }
     ensures refused_setting { result ≡ 4 → IfSome (S.left source.old)
-        (λ bytes. (fault : SettingFault) × IsRefusedSetting bytes fault) }
+        (λ bytes. (fault : SettingFault) × IsRefusedSetting (remote_text to.now) bytes fault) }
     ensures too_long { result ≡ 5 → IfSome (S.left source.old) IsTooLong }
     ensures read_failed { result ≡ 6 → Rose (S.faults source.old) (S.faults source.new) }
     ensures write_failed { result ≡ 7 → Rose (K.faults out.old) (K.faults out.new) }
     ensures unplayed { IsUnplayed result → K.written out.new ≡ K.written out.old }
+    ensures unsent { IsUnplayed result → L.sent link.new ≡ L.sent link.old }
+    ensures flushed_in_part { (result ≡ 7) ⊎ (result ≡ 8)
+        → IfSome (S.left source.old) (λ bytes. (L.sent link.new ≡ L.sent link.old) ⊎ IsReportedInPart bytes (remote_text to.now)
+        (record { sent = L.sent link.old; faults = L.faults link.old }) (record { sent = L.sent link.new; faults = L.faults link.new })) }
     ensures prefix { result ≡ 7 → IfSome (S.left source.old)
         (λ bytes. IsPlayedInPart bytes (K.written out.old) (K.written out.new)) }
     ensures no_memory { result ≡ 8 → IfSome (S.left source.old)
         (λ bytes. (K.written out.new ≡ K.written out.old)
         ⊎ IsPlayedInPart bytes (K.written out.old) (K.written out.new)) }
     ensures complete { IfSome (S.left source.old)
-        (λ bytes. IsComplete bytes (Rose (S.faults source.old) (S.faults source.new))
+        (λ bytes. IsComplete (remote_text to.now) bytes (Rose (S.faults source.old) (S.faults source.new))
         (Rose (K.faults out.old) (K.faults out.new)) result) }
-    ensures said { IsSaid (S.left source.old)
+    ensures said { (words : List (List ℕ)) → IsDriveTo words (remote_text to.now) → IsSaid words (S.left source.old)
+        (record { sent = L.sent link.old; faults = L.faults link.old }) (record { sent = L.sent link.new; faults = L.faults link.new })
         (Rose (E.faults err.old) (E.faults err.new)) (E.written err.old) (E.written err.new)
         result }
 {
-    match drive(rt, alloc, source, out, gate) {
+    match drive(rt, alloc, to, source, out, link, gate) {
         Ok(report) => {
             say_report(err, &report);
             0

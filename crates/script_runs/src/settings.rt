@@ -4,6 +4,7 @@ ghost use Rattle.std.specs.Prelude.{◌≡◌, ◌++◌, ◌||◌, None, Ok, IfO
 ghost use Rattle.std.specs.Int.NonZero.{non_zero_u32_get};
 ghost use Rattle.metrics_core.specs.Keys.{put_label};
 ghost use Rattle.prom_format.specs.LabelSets.{labels_of};
+ghost use Rattle.dsd_addresses.specs.Remotes.{RemoteText};
 ghost use Rattle.drive_script.specs.Texts.{settings_of, values_of};
 ghost use Rattle.script_runs.specs.Answers.{AreAllowed};
 ghost use Rattle.script_runs.specs.Play.{exporter_settings, native_text};
@@ -20,7 +21,7 @@ use std::num::NonZeroU32;
 
 /// A builder of an exporter with these settings, none of which is refused.
 pub(crate) fn builder_of(alloc: Global, settings: Settings) -> Result<PrometheusBuilder, Memory>
-    requires allowed { AreAllowed (settings_of settings) }
+    requires allowed { (to : RemoteText) × AreAllowed to (settings_of settings) }
     ensures { IfOk result (λ builder. builder.settings ≡ exporter_settings (settings_of settings)) }
 {
     let builder = PrometheusBuilder::new(alloc)?;

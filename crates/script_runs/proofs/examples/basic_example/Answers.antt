@@ -1,7 +1,7 @@
 use Rattle.std.specs.Fmt.{digits}
 use Rattle.std.specs.Str.{chars}
 use Rattle.drive_script.specs.Vectors.{basic}
-use Rattle.script_runs.specs.Vectors.{basic_pages, one_page}
+use Rattle.script_runs.specs.Vectors.{basic_pages, one_page, basic_framed, basic_payloads}
 use Rattle.script_runs.proofs.RunPages.{turns_are_pages}
 use Rattle.script_runs.proofs.examples.basic_example.Goals as goal
 
@@ -14,3 +14,9 @@ returns-clause-run c = turns_are_pages basic
 
 pub returns-clause-report : goal.returns-clause-report
 returns-clause-report c = one_page
+
+pub returns-clause-payloads : goal.returns-clause-payloads
+returns-clause-payloads c = basic_payloads
+
+pub returns-clause-framed : goal.returns-clause-framed
+returns-clause-framed c = basic_framed

@@ -1,4 +1,5 @@
-use Rattle.std.proofs.Common.{map, subst, sym}
+use Rattle.std.proofs.Common.{map, subst, sym, ◌∙◌}
+use Rattle.std.proofs.lemmas.List.{length-map}
 use Rattle.std.proofs.lemmas.List.Elements.{All-nil}
 use Rattle.metrics_core.specs.Outside.{GrewBy, GrewByPrefix}
 use Rattle.drive_script.specs.Texts.{script_of, settings_of, round_of}
@@ -7,6 +8,14 @@ use Rattle.script_runs.specs.Orders.{ForSomeRounds}
 use Rattle.script_runs.specs.Play.{PlayState}
 use Rattle.script_runs.specs.Timely.{IsTimelyState}
 use Rattle.script_runs.proofs.Returned.{on_handed_on}
+use Rattle.std.proofs.Common.{◌≡◌, [], refl}
+use Rattle.dsd_addresses.specs.Remotes.{remote_text}
+use Rattle.dsd_exporter.specs.State.{FlushItem}
+use Rattle.dsd_exporter.specs.declared.sending.FlushReport.{FlushReport}
+use Rattle.script_runs.specs.Flushes.{FlushPlay, ForSomeFlushes}
+use Rattle.script_runs.specs.Player.{flush_state_of}
+use Rattle.script_runs.specs.Sent.{Delivers, ForFirstFlushes, LinkTold, none_sent}
+use Rattle.script_runs.proofs.Delivered.{delivers-none}
 use Rattle.script_runs.proofs.RoundSteps.{unbegun}
 use Rattle.script_runs.proofs.play.play.Goals as goal
 
@@ -32,3 +41,40 @@ returns-in_err-played-clause-prefix g c =
     on_handed_on c.from_residual-in_err-played.result _
     (subst (λ (p : PlayState). ForSomeRounds (settings_of c.args.script.settings) p (map round_of c.args.script.rounds.items) (GrewByPrefix (g.K.Sink.written c.args.out.now) (g.K.Sink.written c.play_rounds-played.new.out))) c.in_ok-player.ensures.start
     (c.in_err-played.ensures.prefix (settings_of c.args.script.settings) c.in_ok-player.ensures.settings))
+
+pub play_rounds-played-requires-clause-lines_fit : goal.play_rounds-played-requires-clause-lines_fit
+play_rounds-played-requires-clause-lines_fit g c κs within = subst (λ (p : FlushPlay). CallsFit p.handles (map round_of c.args.script.rounds.items)) (sym c.in_ok-player.ensures.flush_start) c.requires.fit
+
+pub play_rounds-played-requires-clause-asks : goal.play_rounds-played-requires-clause-asks
+play_rounds-played-requires-clause-asks g c κs within = (settings_of c.args.script.settings, remote_text c.args.to.now, c.in_ok-player.ensures.asks, c.requires.aimed)
+
+pub returns-in_err-player-clause-sent_in_part : goal.returns-in_err-player-clause-sent_in_part
+returns-in_err-player-clause-sent_in_part g c =
+    on_handed_on c.from_residual.result _ ([], map round_of c.args.script.rounds.items, refl, ([], tt, (none_sent, delivers-none (settings_of c.args.script.settings) (remote_text c.args.to.now) _ none_sent)))
+
+pub returns-in_err-played-clause-sent_in_part : goal.returns-in_err-played-clause-sent_in_part
+returns-in_err-played-clause-sent_in_part g c =
+    let settings = settings_of c.args.script.settings in
+    let to = remote_text c.args.to.now in
+    let rounds = map round_of c.args.script.rounds.items in
+    let told : LinkTold = record { sent = g.L.Link.sent c.args.link.now; faults = g.L.Link.faults c.args.link.now } in
+    let tells : LinkTold = record { sent = g.L.Link.sent c.play_rounds-played.new.link; faults = g.L.Link.faults c.play_rounds-played.new.link } in
+    let part = c.in_err-played.ensures.sent_in_part settings to c.in_ok-player.ensures.asks c.requires.aimed in
+    on_handed_on c.from_residual-in_err-played.result _
+    (subst (λ (p : FlushPlay). ForFirstFlushes settings p rounds (λ flushes. (now : FlushReport) × Delivers settings to flushes told tells none_sent now)) c.in_ok-player.ensures.flush_start
+    (subst (λ (r : FlushReport). ForFirstFlushes settings (flush_state_of c.in_ok-player.player) rounds (λ flushes. (now : FlushReport) × Delivers settings to flushes told tells r now)) c.in_ok-player.ensures.none part))
+
+pub returns-clause-sent : goal.returns-clause-sent
+returns-clause-sent g c =
+    let settings = settings_of c.args.script.settings in
+    let to = remote_text c.args.to.now in
+    let rounds = map round_of c.args.script.rounds.items in
+    let told : LinkTold = record { sent = g.L.Link.sent c.args.link.now; faults = g.L.Link.faults c.args.link.now } in
+    let tells : LinkTold = record { sent = g.L.Link.sent c.play_rounds-played.new.link; faults = g.L.Link.faults c.play_rounds-played.new.link } in
+    let now = c.play_rounds-played.new.self.flushes.report in
+    let whole = c.in_ok-played.ensures.sent settings to c.in_ok-player.ensures.asks c.requires.aimed in
+    record {
+      pages = c.len-pages.ensures ∙ c.args.script.rounds.ok.0 ∙ sym (length-map c.args.script.rounds.items round_of);
+      flushed = subst (λ (p : FlushPlay). ForSomeFlushes settings p rounds (λ flushes. Delivers settings to flushes told tells none_sent now)) c.in_ok-player.ensures.flush_start
+          (subst (λ (r : FlushReport). ForSomeFlushes settings (flush_state_of c.in_ok-player.player) rounds (λ flushes. Delivers settings to flushes told tells r now)) c.in_ok-player.ensures.none whole);
+    }

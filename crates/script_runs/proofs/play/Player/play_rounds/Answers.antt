@@ -12,8 +12,12 @@ use Rattle.script_runs.specs.Play.{PlayState}
 use Rattle.script_runs.specs.Player.{state_of}
 use Rattle.script_runs.specs.Recorded.{AllRecordSome}
 use Rattle.script_runs.specs.Timely.{RiseFrom}
+use Rattle.script_runs.specs.Flushes.{FlushPlay, ForSomeFlushOrders, after_flush}
+use Rattle.script_runs.specs.Player.{flush_state_of}
+use Rattle.script_runs.specs.Sent.{LinkTold}
+use Rattle.script_runs.proofs.Delivered.{FlushedSoFar, flushed-cut, flushed-end, flushed-round, flushed-start}
 use Rattle.script_runs.proofs.DriveSteps.{play_fault_later}
-use Rattle.script_runs.proofs.Fits.{first_fits, rest_fits}
+use Rattle.script_runs.proofs.Fits.{first_fits, lines_rest_fits, rest_fits}
 use Rattle.script_runs.proofs.Returned.{if_handed_on, on_handed_on}
 use Rattle.script_runs.proofs.RoundSteps.{IsSoFar, so_far-cut, so_far-end, so_far-round, so_far-start}
 use Rattle.script_runs.proofs.TimelyRounds.{later_timely, round_timely}
@@ -23,6 +27,14 @@ pub play_round-requires-clause-fit : goal.play_round-requires-clause-fit
 play_round-requires-clause-fit g c κs within =
     let steps : into_iter_items c.loop-round.round-iterator ≡ c.in-Some.round ∷ into_iter_items c.next.new.self = c.in-Some.ensures.steps.0 in
     first_fits _ (round_of c.in-Some.round) _ (subst (CallsFit c.loop-round.self.handles.items) (ap (map round_of) steps) c.loop-round.invariant.fit)
+
+pub play_round-requires-clause-lines_fit : goal.play_round-requires-clause-lines_fit
+play_round-requires-clause-lines_fit g c κs within =
+    let steps : into_iter_items c.loop-round.round-iterator ≡ c.in-Some.round ∷ into_iter_items c.next.new.self = c.in-Some.ensures.steps.0 in
+    first_fits _ (round_of c.in-Some.round) _ (subst (CallsFit c.loop-round.self.line_handles.items) (ap (map round_of) steps) c.loop-round.invariant.lines_fit)
+
+pub play_round-requires-clause-lines_rest : goal.play_round-requires-clause-lines_rest
+play_round-requires-clause-lines_rest g c κs within = c.loop-round.invariant.lines_rest
 
 pub play_round-requires-clause-some : goal.play_round-requires-clause-some
 play_round-requires-clause-some g c κs within =
@@ -54,10 +66,27 @@ loop-round-preserved g c =
     let behind = ap (map round_of) steps in
     let (some_settings, are) = c.requires.settings in
     let played = c.in_ok-play_round.ensures.played some_settings (c.loop-round.invariant.settings ∙ are) in
+    let (asked, to, asks, aims) = c.requires.asks in
+    let so_asked = c.loop-round.invariant.flushed asked to asks aims in
+    let flushed = c.in_ok-play_round.ensures.flushed asked to so_asked.0 so_asked.1 in
     let rest = map round_of (into_iter_items c.next.new.self) in
     record {
       settings = c.in_ok-play_round.ensures.settings ∙ c.loop-round.invariant.settings;
       rest = c.in_ok-play_round.ensures.rest;
+      lines_rest = c.in_ok-play_round.ensures.lines_rest;
+      lines_fit = subst (λ (p : FlushPlay). CallsFit p.handles rest) (sym flushed.1.2.0) (lines_rest_fits (flush_state_of c.loop-round.self) (round_of c.in-Some.round) rest (subst (CallsFit c.loop-round.self.line_handles.items) behind c.loop-round.invariant.lines_fit));
+      flushed = λ settings to asks aims.
+          let before = c.loop-round.invariant.flushed settings to asks aims in
+          let round = c.in_ok-play_round.ensures.flushed settings to before.0 before.1 in
+          let start = flush_state_of c.args.self.now in
+          let all = map round_of c.args.rounds.items in
+          let told : LinkTold = record { sent = g.L.Link.sent c.args.link.now; faults = g.L.Link.faults c.args.link.now } in
+          let middle : LinkTold = record { sent = g.L.Link.sent c.loop-round.link; faults = g.L.Link.faults c.loop-round.link } in
+          let P : List RoundText → Type 0 = λ rounds. FlushedSoFar settings to start all (flush_state_of c.loop-round.self) rounds told middle c.args.self.now.flushes.report c.loop-round.self.flushes.report in (
+            round.0,
+            c.in_ok-play_round.ensures.aimed ∙ before.1,
+            flushed-round settings to start all (flush_state_of c.loop-round.self) _ (round_of c.in-Some.round) rest told middle _ c.args.self.now.flushes.report c.loop-round.self.flushes.report _ (subst P behind before.2) round.1,
+          );
       fit = subst (λ (p : PlayState). CallsFit p.handles rest) (sym played.2.0) (rest_fits (state_of c.loop-round.self) (round_of c.in-Some.round) rest (subst (CallsFit c.loop-round.self.handles.items) behind c.loop-round.invariant.fit));
       some = All-tail AllRecordSome (round_of c.in-Some.round) rest (subst (All AllRecordSome) behind c.loop-round.invariant.some);
       timely =
@@ -95,6 +124,16 @@ loop-round-init g c =
     record {
       settings = refl;
       rest = c.requires.rest;
+      lines_rest = c.requires.lines_rest;
+      lines_fit = subst (λ rs. CallsFit c.args.self.now.line_handles.items (map round_of rs)) (sym all) c.requires.lines_fit;
+      flushed = λ settings to asks aims.
+          let begin = flush_state_of c.args.self.now in
+          let tells : LinkTold = record { sent = g.L.Link.sent c.args.link.now; faults = g.L.Link.faults c.args.link.now } in (
+            asks,
+            aims,
+            subst (λ rs. FlushedSoFar settings to begin (map round_of c.args.rounds.items) begin (map round_of rs) tells tells c.args.self.now.flushes.report c.args.self.now.flushes.report) (sym all)
+                (flushed-start settings to begin (map round_of c.args.rounds.items) tells c.args.self.now.flushes.report),
+          );
       fit = subst (λ rs. CallsFit c.args.self.now.handles.items (map round_of rs)) (sym all) c.requires.fit;
       some = subst (λ rs. All AllRecordSome (map round_of rs)) (sym all) c.requires.some;
       timely = (c.requires.timely.0, c.requires.timely.1, subst (λ rs. RiseFrom c.requires.timely.0 (map round_of rs)) (sym all) c.requires.timely.2);
@@ -102,3 +141,21 @@ loop-round-init g c =
       so_far = λ settings same.
           subst (λ rs. IsSoFar settings start (map round_of c.args.rounds.items) start (map round_of rs) told told) (sym all) (so_far-start settings start (map round_of c.args.rounds.items) told);
     }
+
+pub returns-clause-sent : goal.returns-clause-sent
+returns-clause-sent g c = λ settings to asks aims.
+    let none : into_iter_items c.loop-round.round-iterator ≡ [] = nil_from_length _ (sym c.loop-round.round-iterator.rest.ok.0 ∙ c.in-None.ensures.steps.0) in
+    flushed-end settings to (flush_state_of c.args.self.now) (map round_of c.args.rounds.items) (flush_state_of c.loop-round.self) _ _ _ _ _ (ap (map round_of) none) (c.loop-round.invariant.flushed settings to asks aims).2
+
+pub returns-in_err-play_round-clause-sent_in_part : goal.returns-in_err-play_round-clause-sent_in_part
+returns-in_err-play_round-clause-sent_in_part g c = λ settings to asks aims.
+    let so_far = (c.loop-round.invariant.flushed settings to asks aims).2 in
+    let start = flush_state_of c.args.self.now in
+    let all = map round_of c.args.rounds.items in
+    let told : LinkTold = record { sent = g.L.Link.sent c.args.link.now; faults = g.L.Link.faults c.args.link.now } in
+    let ended : LinkTold = record { sent = g.L.Link.sent c.play_round.new.link; faults = g.L.Link.faults c.play_round.new.link } in
+    let before : LinkTold = record { sent = g.L.Link.sent c.loop-round.link; faults = g.L.Link.faults c.loop-round.link } in
+    let same : before ≡ ended = λ i. record { sent = g.L.Link.sent (sym c.in_err-play_round.ensures.unsent i); faults = g.L.Link.faults (sym c.in_err-play_round.ensures.unsent i) } in
+    let Cut : LinkTold → Type 0 = λ tells. FlushedSoFar settings to start all (flush_state_of c.loop-round.self) (map round_of (into_iter_items c.loop-round.round-iterator)) told tells c.args.self.now.flushes.report c.loop-round.self.flushes.report in
+    on_handed_on c.from_residual.result _ (flushed-cut settings to start all (flush_state_of c.loop-round.self) (map round_of (into_iter_items c.loop-round.round-iterator)) told ended c.args.self.now.flushes.report c.loop-round.self.flushes.report
+    (subst Cut same so_far))

@@ -1,6 +1,6 @@
 use Rattle.script_runs.proofs.RestingSteps.{counter_rests, gauge_rests, histogram_rests}
-use Rattle.script_runs.proofs.play.Player.register.Goals.{in-Counter+in_ok-id-in-Counter, in-Gauge+in_ok-id-in-Gauge, in-Histogram+in_ok-id-in-Histogram}
-use Rattle.script_runs.proofs.play.Player.register.Goals as goal
+use Rattle.script_runs.proofs.play.Player.register_row.Goals.{in-Counter+in_ok-id-in-Counter, in-Gauge+in_ok-id-in-Gauge, in-Histogram+in_ok-id-in-Histogram}
+use Rattle.script_runs.proofs.play.Player.register_row.Goals as goal
 
 pub returns-in_err-push-clause-rest : goal.returns-in_err-push-clause-rest
 returns-in_err-push-clause-rest c =
