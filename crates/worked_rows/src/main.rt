@@ -1,5 +1,5 @@
-//! The table of worked rows: each is a run over devices in memory, with the status, the pages and the line on `err` that
-//! must come of it. The rows lie in data/, and the head of data/rows says how they are written.
+//! The table of worked rows: each is a run over devices in memory, with the status, the pages, the payloads and the line on
+//! `err` that must come of it. The rows lie in data/, and the head of data/rows says how they are written.
 #![tactic(auto)]
 
 mod outcome;

@@ -1,6 +1,7 @@
 //! What comes of a row, beside what must come.
 
 use crate::row::{Device, Row};
+use dsd_exporter::MemoryLink;
 use metrics_core::{MemorySink, MemorySource};
 use script_runs::{Free, run};
 use std::alloc::Global;
@@ -10,12 +11,13 @@ use std::sync::Wait;
 use std::thread::Threads;
 use std::{fs, io};
 
-/// What a run answered, wrote and said.
+/// What a run answered, wrote, said and sent.
 #[derive(Drop)]
 struct Outcome {
     status: String,
     pages: Vec<u8>,
     said: Vec<u8>,
+    sent: Vec<u8>,
 }
 
 /// What a run is over.
@@ -24,6 +26,7 @@ struct Devices {
     source: MemorySource,
     out: MemorySink,
     err: MemorySink,
+    link: MemoryLink,
 }
 
 /// Whether what comes of a row is what must come. Where it isn't, it is printed.
@@ -46,7 +49,9 @@ fn is_told_right<R: Files + AllocGlobal + Print>(
     let same = outcome.status == row.status
         && is_wanted(rt, alloc, row, "said", &outcome.said)?
         && (is_wanted(rt, alloc, row, "page", &outcome.pages)?
-            || is_other(rt, alloc, row, &outcome.pages)?);
+            || is_other(rt, alloc, row, "other", &outcome.pages)?)
+        && (is_wanted(rt, alloc, row, "sent", &outcome.sent)?
+            || is_other(rt, alloc, row, "other-sent", &outcome.sent)?);
     if !same {
         print_outcome(rt, alloc, row, outcome)?;
     }
@@ -67,11 +72,13 @@ fn outcome_of<R: Files + AllocGlobal + Threads + Wait + Sync>(
 /// The devices of a row.
 fn devices_of<R: Files + AllocGlobal>(rt: &R, alloc: Global, row: &Row) -> io::Result<Devices> {
     let failing = row.source.failing.to_vec(alloc)?;
+    let unsent = row.unsent.to_vec(alloc)?;
     let script = script_of(rt, alloc, row)?;
     Ok(Devices {
         source: MemorySource::new(script, row.source.most.max(1), failing),
         out: sink(alloc, &row.out)?,
         err: sink(alloc, &row.err)?,
+        link: MemoryLink::new(alloc, unsent),
     })
 }
 
@@ -83,8 +90,13 @@ fn played<R: Threads + Wait + Sync>(
     devices: &mut Devices,
 ) -> io::Result<u8> {
     let words = words_of(alloc, &row.words)?;
-    let Devices { source, out, err } = devices;
-    Ok(run(rt, alloc, &words, source, out, err, &Free))
+    let Devices {
+        source,
+        out,
+        err,
+        link,
+    } = devices;
+    Ok(run(rt, alloc, &words, source, out, err, link, &Free))
 }
 
 /// What was answered, with what the devices were given.
@@ -92,20 +104,33 @@ fn told(alloc: Global, status: u8, devices: &Devices) -> io::Result<Outcome> {
     let status = format!(in alloc; "{status}")?;
     let pages = devices.out.written().to_vec(alloc)?;
     let said = devices.err.written().to_vec(alloc)?;
+    let sent = sent_by(alloc, &devices.link)?;
     Ok(Outcome {
         status,
         pages,
         said,
+        sent,
     })
+}
+
+/// The payloads that a link sent, each with an empty line behind it.
+fn sent_by(alloc: Global, link: &MemoryLink) -> io::Result<Vec<u8>> {
+    let mut bytes = Vec::new(alloc);
+    for payload in link.sent() {
+        bytes.extend_from_slice(payload.bytes())?;
+        bytes.push(b'\n')?;
+    }
+    Ok(bytes)
 }
 
 /// The words of a row.
 fn words_of(alloc: Global, words: &str) -> io::Result<Vec<&str>> {
     let mut list = Vec::new(alloc);
+    if words.is_empty() {
+        return Ok(list);
+    }
     for word in words.split(',') {
-        if !word.is_empty() {
-            list.push(word)?;
-        }
+        list.push(word)?;
     }
     Ok(list)
 }
@@ -141,14 +166,15 @@ fn is_wanted<R: Files + AllocGlobal>(
     }
 }
 
-/// Whether these are the other pages that may come of a row.
+/// Whether these are the bytes of a row's file with an ending for what may come in another's place.
 fn is_other<R: Files + AllocGlobal>(
     rt: &R,
     alloc: Global,
     row: &Row,
+    ending: &str,
     bytes: &[u8],
 ) -> io::Result<bool> {
-    match file(rt, alloc, row, "other")? {
+    match file(rt, alloc, row, ending)? {
         Some(wanted) => Ok(wanted.as_slice() == bytes),
         None => Ok(false),
     }
@@ -196,5 +222,7 @@ fn print_outcome<R: AllocGlobal + Print>(
         outcome.status,
         said.trim()
     )?;
-    println!(rt; "{pages}")
+    println!(rt; "{pages}")?;
+    let sent = String::from_utf8_lossy(alloc, &outcome.sent)?;
+    println!(rt; "{sent}")
 }

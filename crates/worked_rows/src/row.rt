@@ -25,6 +25,8 @@ pub struct Row {
     pub source: Device,
     pub out: Device,
     pub err: Device,
+    /// The numbers of the sends that fail, counted from 0.
+    pub unsent: Vec<u64>,
 }
 
 /// Reads a line of the table.
@@ -50,6 +52,7 @@ fn plain_row(alloc: Global, name: &str, status: &str) -> io::Result<Row> {
         source: sound_device(alloc),
         out: sound_device(alloc),
         err: sound_device(alloc),
+        unsent: Vec::new(alloc),
     })
 }
 
@@ -84,6 +87,7 @@ fn set(alloc: Global, row: &mut Row, setting: &str) -> io::Result<()> {
         "read-fails" => add(&mut row.source.failing, value)?,
         "write-fails" => add(&mut row.out.failing, value)?,
         "say-fails" => add(&mut row.err.failing, value)?,
+        "send-fails" => add(&mut row.unsent, value)?,
         _ => return Err(io::Error::from(ErrorKind::InvalidData)),
     }
     Ok(())
