@@ -18,6 +18,9 @@ pub mod AfterFlushLanes
 pub mod RestingSteps
 pub mod Unmapped
 pub mod Rendered
+pub mod ServingRounds
+pub mod ServingSteps
+pub mod ServingWords
 pub mod OverBoth
 pub mod Delivered
 pub mod SendSteps

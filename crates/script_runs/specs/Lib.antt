@@ -1,4 +1,5 @@
 pub mod Agent
+pub mod Served
 pub mod Play
 pub mod InTurn
 pub mod Headline

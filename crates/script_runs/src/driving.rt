@@ -64,7 +64,10 @@ pub fn drive<R: Threads + Wait + Sync, S: Source, K: Sink, L: Link, G: Gate + Sy
 }
 
 /// Reads the whole script from the source. Its bytes are let go at the end.
-fn read_whole_script<S: Source>(alloc: Global, source: &mut S) -> Result<Script, DriveFault>
+pub(crate) fn read_whole_script<S: Source>(
+    alloc: Global,
+    source: &mut S,
+) -> Result<Script, DriveFault>
     ensures read { IfOk result (λ script. IsReadAs (S.left source.old) (script_of script)) }
     ensures refused { IfErr result (IsUnread (S.left source.old) (Rose (S.faults source.old) (S.faults source.new))) }
 {

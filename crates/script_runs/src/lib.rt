@@ -1,7 +1,6 @@
-//! Runs of scripts: a script is read from a source, played on both exporters, and for each round a page is written and a
-//! flush is sent; and runs
-//! of the relay: pages are read from a source, and the one page that they become is written. A run ends with a status and a
-//! line that says why.
+//! Runs of scripts: a script is read from a source, played on both exporters, and for each round a page is written and a flush
+//! is sent; runs of the relay: pages are read from a source, and the one page that they become is written; and serving the page of
+//! a script. A run ends with a status and a line that says why.
 //!
 //! A run over a script in memory:
 //!
@@ -20,6 +19,9 @@ mod relaying;
 mod report;
 mod running;
 mod say;
+mod serving;
+mod serving_lines;
+mod serving_words;
 mod settings;
 
 pub use agent::default_agent;
@@ -30,3 +32,6 @@ pub use relaying::relay;
 pub use report::Report;
 pub use running::run;
 pub use say::say_fault;
+pub use serving::{ServeScriptFault, serve_script};
+pub use serving_lines::{say_serve_fault, say_served};
+pub use serving_words::serve_words;

@@ -111,7 +111,7 @@ impl Player {
     ghost use Rattle.script_runs.specs.Timely.{IsTimelyState, RiseFrom};
 
     /// A player before its first round, over exporters with these settings, whose payloads go to an address.
-    fn new(alloc: Global, settings: Settings, to: &RemoteAddr) -> Result<Player, Memory>
+    pub(crate) fn new(alloc: Global, settings: Settings, to: &RemoteAddr) -> Result<Player, Memory>
         requires allowed { AreAllowed (remote_text to.now) (settings_of settings) }
         ensures start { IfOk result (λ player. state_of player ≡ play_start) }
         ensures settings { IfOk result (λ player. player.exporters.prometheus.settings ≡ exporter_settings (settings_of settings)) }
@@ -183,7 +183,7 @@ impl Player {
     }
 
     /// Ends the exporter of the pages.
-    fn end<R: Wait>(self, rt: &R) {
+    pub(crate) fn end<R: Wait>(self, rt: &R) {
         let Player {
             exporters,
             handles: _,
@@ -275,7 +275,7 @@ impl Player {
 
     /// Does the setup lines in order. They are taken from the end of a list that is turned round, so that the room of those
     /// which are done is given back on the way.
-    fn set_up<R: Wait>(
+    pub(crate) fn set_up<R: Wait>(
         &mut self,
         rt: &R,
         alloc: Global,
@@ -429,7 +429,7 @@ impl Player {
 
     /// Makes the calls of a round: its lanes run side by side, each with its own passes, and all passes are back at the end.
     /// A lane that is refused memory makes no further call. The call lines are let go once the lanes have them.
-    fn make_calls<R: Threads + Wait + Sync, G: Gate + Sync>(
+    pub(crate) fn make_calls<R: Threads + Wait + Sync, G: Gate + Sync>(
         &mut self,
         rt: &R,
         alloc: Global,

@@ -164,7 +164,7 @@ pub fn say_relay_fault<E: Sink>(err: &mut E, fault: &RelayFault)
 }
 
 /// Writes some pieces, one after another. A failing `err` changes nothing else: what follows is left out.
-fn say<E: Sink>(err: &mut E, pieces: &[&[u8]])
+pub(crate) fn say<E: Sink>(err: &mut E, pieces: &[&[u8]])
     ensures said { IsSaidText (Rose (E.faults err.old) (E.faults err.new)) (E.written err.old) (E.written err.new) (flat_map (λ piece. piece.now) pieces.now) }
 {
     for piece in pieces {
