@@ -78,7 +78,7 @@ impl Gate for Turns {
 
 /// What a run wrote and sent.
 #[derive(Drop)]
-struct Told {
+struct Output {
     pages: Vec<u8>,
     payloads: Vec<u8>,
 }
@@ -88,7 +88,7 @@ fn told<R: Threads + Wait + Sync, G: Gate + Sync>(
     rt: &R,
     alloc: Global,
     gate: &G,
-) -> Result<Told, Fail> {
+) -> Result<Output, Fail> {
     let script = TWO_LANES.to_vec(alloc)?;
     let mut source = MemorySource::new(script, 65536, Vec::new(alloc));
     let mut out = MemorySink::new(alloc, 65536, Vec::new(alloc));
@@ -96,13 +96,20 @@ fn told<R: Threads + Wait + Sync, G: Gate + Sync>(
     let mut link = MemoryLink::new(alloc, Vec::new(alloc));
     let words = ["drive"];
     let _status = run(
-        rt, alloc, &words, &mut source, &mut out, &mut err, &mut link, gate,
+        rt,
+        alloc,
+        &words,
+        &mut source,
+        &mut out,
+        &mut err,
+        &mut link,
+        gate,
     );
     let mut payloads = Vec::new(alloc);
     for payload in link.sent() {
         payloads.extend_from_slice(payload.bytes())?;
     }
-    Ok(Told {
+    Ok(Output {
         pages: out.written().to_vec(alloc)?,
         payloads,
     })

@@ -49,9 +49,7 @@ fn run_words<R: Env + AllocGlobal + Net + Threads + Wait + Sync, S: Source, K: S
         views.push(word.as_str())?;
     }
     let mut link = SocketLink::new(rt);
-    Ok(run(
-        rt, alloc, &views, source, out, err, &mut link, &Free,
-    ))
+    Ok(run(rt, alloc, &views, source, out, err, &mut link, &Free))
 }
 
 /// The words after the program's name.
