@@ -1,0 +1,4 @@
+pub mod Draws
+pub mod CallSteps
+pub mod RoundLaws
+pub mod Validity

@@ -1,0 +1,4 @@
+pub mod Generator
+pub mod Bench
+pub mod Drawing
+pub mod Vectors
