@@ -5,7 +5,7 @@ use Rattle.std.proofs.lemmas.Option.{none-some}
 use Rattle.std.proofs.lemmas.Result.{err_from_is_err_and}
 use Rattle.metrics_core.specs.Outside.{Rose, GrewBy, GrewByPrefix}
 use Rattle.dsd_addresses.specs.Remotes.{RemoteText}
-use Rattle.drive_script.specs.Script.{ScriptText, SettingsText, lines_of}
+use Rattle.drive_script.specs.Script.{ScriptText, lines_of}
 use Rattle.drive_script.specs.Texts.{script_of}
 use Rattle.drive_script.specs.Valid.{IsScriptOf}
 use Rattle.drive_script.specs.declared.script.Script.{Script}
@@ -15,7 +15,7 @@ use Rattle.drive_script.specs.declared.faults.DriveFault.{DriveFault}
 use Rattle.drive_script.specs.declared.faults.DriveFault.TheVariants as faults
 use Rattle.script_runs.specs.Headline.{IsPlayed, IsPlayedInPart, IsGoodScript, script_limit}
 use Rattle.script_runs.specs.Orders.{ForSomeRun, run_text}
-use Rattle.drive_script.specs.Settings.{Refusal, refusal_of, refused_setting}
+use Rattle.drive_script.specs.Settings.{refusal_of, refused_setting}
 use Rattle.drive_script.specs.declared.faults.SettingFault.{SettingFault}
 use Rattle.script_runs.specs.Answers.{IfPlayedInPart, IfUnplayed, IsAllowed, IsComplete, IsBadScript, IsRefusedSetting, IsReported, IsReportedInPart, IsTooLong, IsPlayFault, LeavesPrefix, end_status, fault_status}
 use Rattle.script_runs.specs.Sent.{IsSent, IsSentInPart, LinkTold}

@@ -23,6 +23,11 @@ pub mod ServingSteps
 pub mod ServingWords
 pub mod OverBoth
 pub mod Delivered
+pub mod LastPages
+pub mod BenchSteps
 pub mod SendSteps
 pub mod LineSteps
 pub mod PayloadLimits
+pub mod CommandSteps
+pub mod ServeEnds
+pub mod BenchEnds

@@ -5,10 +5,9 @@ use Rattle.std.specs.Prelude.{◌&&◌, nat_lt, Option, Some, None, option_map, 
 use Rattle.std.proofs.lemmas.Bool.{ltb-false}
 use Rattle.dsd_addresses.specs.Limits.{fault_of_limit, is_udp}
 use Rattle.dsd_addresses.specs.Remotes.{RemoteText, Udp, Unix, Unixgram, default_limit}
-use Rattle.dsd_addresses.specs.declared.faults.LimitFault.{LimitFault}
 use Rattle.dsd_addresses.specs.declared.faults.LimitFault.TheVariants as limits
 use Rattle.drive_script.specs.Script.{SettingsText}
-use Rattle.drive_script.specs.Settings.{Refusal, Limit, Empty, Native, has_none, refused_limit, refused_native, refused_setting, refused_window, rule_has_none, window_settings}
+use Rattle.drive_script.specs.Settings.{Refusal, Limit, Empty, Native, refused_limit, refused_native, refused_setting, refused_window, window_settings}
 use Rattle.script_runs.specs.Flushes.{payload_limit}
 
 abbrev IsLimit : ℕ → Type 0

@@ -106,7 +106,7 @@ pub done_ends : (left : Option (List ℕ)) (items : List ℕ) (S K : Type 0) (wr
     → IsRelayEnd left S K written written' 0
 done_ends left items S K written written' whole within relayed = record {
   merged = λ e. of_told left items (λ bytes. IsWithinLimit bytes × IsRelayed bytes written written') whole (within, relayed);
-  others = (λ e. omega (arith, e), λ e. omega (arith, e), λ e. omega (arith, e));
+  others = (λ e. omega (arith, e), λ e. omega (arith, e), λ e. omega (arith, e), λ e. omega (arith, e));
   too_long = λ e. absurd (omega (arith, e));
   read_failed = λ e. absurd (omega (arith, e));
   write_failed = λ e. absurd (omega (arith, e));
@@ -123,7 +123,7 @@ pub refused_ends : (left : Option (List ℕ)) (items : List ℕ) (S K : Type 0) 
     → HasRelayCause items K fault → LeavesRelay items written written' fault → IsRelayEnd left S K written written' (relay_status fault)
 refused_ends left items S K written written' (relay.Syntax l) whole within cause leaves = record {
   merged = λ e. absurd (omega (arith, e));
-  others = (λ e. omega (arith, e), λ e. omega (arith, e), λ e. omega (arith, e));
+  others = (λ e. omega (arith, e), λ e. omega (arith, e), λ e. omega (arith, e), λ e. omega (arith, e));
   too_long = λ e. absurd (omega (arith, e));
   read_failed = λ e. absurd (omega (arith, e));
   write_failed = λ e. absurd (omega (arith, e));
@@ -136,7 +136,7 @@ refused_ends left items S K written written' (relay.Syntax l) whole within cause
 }
 refused_ends left items S K written written' (relay.Conflict page name) whole within cause leaves = record {
   merged = λ e. absurd (omega (arith, e));
-  others = (λ e. omega (arith, e), λ e. omega (arith, e), λ e. omega (arith, e));
+  others = (λ e. omega (arith, e), λ e. omega (arith, e), λ e. omega (arith, e), λ e. omega (arith, e));
   too_long = λ e. absurd (omega (arith, e));
   read_failed = λ e. absurd (omega (arith, e));
   write_failed = λ e. absurd (omega (arith, e));
@@ -149,7 +149,7 @@ refused_ends left items S K written written' (relay.Conflict page name) whole wi
 }
 refused_ends left items S K written written' relay.WriteFault whole within cause leaves = record {
   merged = λ e. absurd (omega (arith, e));
-  others = (λ e. omega (arith, e), λ e. omega (arith, e), λ e. omega (arith, e));
+  others = (λ e. omega (arith, e), λ e. omega (arith, e), λ e. omega (arith, e), λ e. omega (arith, e));
   too_long = λ e. absurd (omega (arith, e));
   read_failed = λ e. absurd (omega (arith, e));
   write_failed = λ e. cause;
@@ -162,7 +162,7 @@ refused_ends left items S K written written' relay.WriteFault whole within cause
 }
 refused_ends left items S K written written' relay.Memory whole within cause leaves = record {
   merged = λ e. absurd (omega (arith, e));
-  others = (λ e. omega (arith, e), λ e. omega (arith, e), λ e. omega (arith, e));
+  others = (λ e. omega (arith, e), λ e. omega (arith, e), λ e. omega (arith, e), λ e. omega (arith, e));
   too_long = λ e. absurd (omega (arith, e));
   read_failed = λ e. absurd (omega (arith, e));
   write_failed = λ e. absurd (omega (arith, e));

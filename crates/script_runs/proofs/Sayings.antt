@@ -10,8 +10,7 @@ use Rattle.drive_script.specs.declared.faults.DriveFault.{DriveFault}
 use Rattle.drive_script.specs.declared.faults.DriveFault.TheVariants as faults
 use Rattle.dsd_addresses.specs.Remotes.{RemoteText}
 use Rattle.script_runs.specs.Sent.{LinkTold}
-use Rattle.script_runs.specs.Answers.{IsDriveTo, IsRefusedSetting, IsSaidText, IsLineOf, HasCause, fault_status, done, bad_script, setting_refused, too_long, read_failed, write_failed, no_memory}
-use Rattle.script_runs.specs.declared.report.Report.{Report}
+use Rattle.script_runs.specs.Answers.{IsDriveTo, IsRefusedSetting, IsSaidText, IsLineOf, HasCause, fault_status, bad_script, setting_refused, too_long, read_failed, write_failed, no_memory}
 
 -- a text that is the line of a fault, said of that fault
 pub said_of : (Failed : Type 0) (said said' : Option (List ℕ)) (fault is : DriveFault) (text : List ℕ) → fault ≡ is → text ≡ line (fault_text is)

@@ -1,6 +1,6 @@
 -- A flush that was sent is that of the sequential state.
-use Rattle.std.proofs.Common.{◌≡◌, ℕ, ◌+◌, ◌^◌, Bool, List, [], ◌∷◌, ◌++◌, length, map, refl, sym, ap, subst, ◌∙◌, append-nil, arith}
-use Rattle.std.specs.Prelude.{Option, Some, None}
+use Rattle.std.proofs.Common.{◌≡◌, ℕ, ◌+◌, ◌^◌, Bool, List, [], ◌∷◌, ◌++◌, length, refl, sym, ap, subst, ◌∙◌, append-nil, arith}
+use Rattle.std.specs.Prelude.{Option, Some}
 use Rattle.std.proofs.Math.Nat.{add-mod-mod, mod-add-mod}
 use Rattle.metrics_core.specs.Numbers.{in_64_bits}
 use Rattle.metrics_core.specs.Outside.{GrewBy}
@@ -10,12 +10,11 @@ use Rattle.metrics_registry.specs.Live.{LiveSeries}
 use Rattle.dsd_addresses.specs.Remotes.{RemoteText}
 use Rattle.dsd_writer.specs.Lines.{payloads_of}
 use Rattle.dsd_writer.specs.Packing.{framed_payloads}
-use Rattle.dsd_writer.specs.Writers.{IsEmptied, WriterText}
+use Rattle.dsd_writer.specs.Writers.{WriterText}
 use Rattle.dsd_exporter.specs.Exporter.{AllHome, Exporter, state_seen}
 use Rattle.dsd_exporter.specs.Flushing.{FlushesAll}
-use Rattle.dsd_exporter.specs.Links.{SentText}
 use Rattle.dsd_exporter.specs.Sending.{SendsFlush, addressed, payloads_in, sent_of, unsent_of}
-use Rattle.dsd_exporter.specs.State.{DogStatsDSettings, DogStatsDState, FlushItem, flush_items, flush_step, histogram_items, items_of_counters, items_of_gauges, items_of_histograms, left_out_of_items, lines_of_items}
+use Rattle.dsd_exporter.specs.State.{DogStatsDState, FlushItem, flush_items, flush_step, histogram_items, items_of_counters, items_of_gauges, items_of_histograms, left_out_of_items, lines_of_items}
 use Rattle.dsd_exporter.specs.Updates.{UpdateText}
 use Rattle.dsd_exporter.specs.declared.sending.FlushReport.{FlushReport}
 use Rattle.drive_script.specs.Script.{SettingsText}

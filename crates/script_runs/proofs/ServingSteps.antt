@@ -1,7 +1,6 @@
 -- From the parts of serving a script to what it says as a whole.
-use Rattle.std.proofs.Common.{◌≡◌, ℕ, ◌≤◌, ◌⊎◌, inl, inr, List, length, refl, sym, ap, subst, ◌∙◌, arith}
-use Rattle.std.specs.Prelude.{Option, Some, None, IfSome, Result, Ok, Err, IfErr, OnOk, IsErrAnd}
-use Rattle.std.proofs.lemmas.Option.{none-some}
+use Rattle.std.proofs.Common.{◌≡◌, ℕ, ◌⊎◌, inl, inr, List, refl, sym, subst}
+use Rattle.std.specs.Prelude.{Option, Some, None, IfSome, Result, Ok, Err, IfErr, IsErrAnd}
 use Rattle.std.proofs.lemmas.Result.{err_from_is_err_and}
 use Rattle.net_addresses.specs.Addresses.{NetworkText}
 use Rattle.prom_serve.specs.Refusals.{excepted}
@@ -9,8 +8,7 @@ use Rattle.prom_serve.specs.Serving.{Listening}
 use Rattle.prom_serve.specs.declared.errors.ServeError.{ServeError}
 use Rattle.prom_serve.specs.declared.errors.ServeError.TheVariants as errors
 use Rattle.prom_serve.specs.declared.serving.Served.{Served}
-use Rattle.drive_script.specs.Script.{ScriptText, lines_of}
-use Rattle.drive_script.specs.Valid.{IsScriptOf}
+use Rattle.drive_script.specs.Script.{ScriptText}
 use Rattle.drive_script.specs.Settings.{refusal_of, refused_setting}
 use Rattle.drive_script.specs.declared.faults.DriveFault.{DriveFault}
 use Rattle.drive_script.specs.declared.faults.DriveFault.TheVariants as faults
@@ -19,7 +17,7 @@ use Rattle.script_runs.specs.Agent.{default_agent}
 use Rattle.script_runs.specs.Answers.{IsAllowed, IsComplete, fault_status}
 use Rattle.script_runs.specs.Headline.{IsGoodScript}
 use Rattle.script_runs.specs.Reading.{IsReadAs, IsUnread}
-use Rattle.script_runs.specs.Served.{Answers, AnswersInPart, ForSomePage, HasListenerCause, HasServeCause, HasServeDeviceCause, IfUnserved, IsScriptServed, IsScriptServedInPart, IsServeComplete, LeavesServed, serve_end_status, serve_fault, serve_status}
+use Rattle.script_runs.specs.Served.{Answers, AnswersInPart, ForSomePage, HasListenerCause, HasServeCause, HasServeDeviceCause, IfUnserved, IsScriptServed, IsServeComplete, LeavesServed, serve_end_status, serve_fault, serve_status}
 use Rattle.script_runs.specs.declared.serving.ServeScriptFault.{ServeScriptFault}
 use Rattle.script_runs.specs.declared.serving.ServeScriptFault.TheVariants as serving
 use Rattle.script_runs.proofs.DriveSteps.{good_complete, refused_answers, setting_refused, unread_answers}

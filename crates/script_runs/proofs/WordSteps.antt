@@ -7,9 +7,9 @@ use Rattle.dsd_addresses.specs.Remotes.{remote_text}
 use Rattle.dsd_addresses.specs.declared.remote_addr.RemoteAddr.{RemoteAddr}
 use Rattle.std.proofs.lemmas.Slice.Eq.{bytes_eq-Decides}
 use Rattle.std.specs.Prelude.{codes, Option, Some, None}
-use Rattle.dsd_addresses.specs.Remotes.{RemoteText, IsRemote}
+use Rattle.dsd_addresses.specs.Remotes.{RemoteText}
 use Rattle.script_runs.specs.Agent.{default_agent}
-use Rattle.script_runs.specs.Answers.{HasAddress, IsAddress, IsDriveTo, IsServed, IsServedAs, texts_of}
+use Rattle.script_runs.specs.Answers.{HasAddress, IsAddress, IsServedAs, texts_of}
 
 word_is : (word is : List ℕ) (b : Bool) → b ≡ bytes_eq word is → IsTrue b ↔ (word ∷ [] ≡ is ∷ [])
 word_is word is b e =

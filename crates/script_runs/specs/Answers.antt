@@ -34,7 +34,7 @@ IsAddress [] to = to ≡ default_agent
 IsAddress (text ∷ []) to = IsRemote text to × IsServed to
 IsAddress (_ ∷ (_ ∷ _)) to = ⊥
 
--- the words of the two forms: the command `drive`, alone or with the text of an address, and the command `merge`
+-- the words of the command `drive`, alone or with the text of an address, and of the command `merge`
 abbrev pub IsDriveTo : List (List ℕ) → RemoteText → Type 0
 IsDriveTo words to = (behind : List (List ℕ)) × (words ≡ codes "drive" ∷ behind) × IsAddress behind to
 
@@ -43,9 +43,6 @@ IsDriveWords words = (to : RemoteText) × IsDriveTo words to
 
 abbrev pub IsMergeWords : List (List ℕ) → Type 0
 IsMergeWords words = words ≡ codes "merge" ∷ []
-
-abbrev pub IsForm : List (List ℕ) → Type 0
-IsForm words = IsDriveWords words ⊎ IsMergeWords words
 
 -- the words of the command `drive` have this address and no other, or none
 abbrev pub HasAddress : List (List ℕ) → Option RemoteText → Type 0
@@ -148,7 +145,7 @@ IsUnplayed status =
 
 -- the statuses that are none of the command `drive`
 abbrev pub IsNoDriveStatus : ℕ → Type 0
-IsNoDriveStatus status = (status ≡ 2) ⊎ ((status ≡ 10) ⊎ (status ≡ 11))
+IsNoDriveStatus status = (status ≡ 2) ⊎ ((status ≡ 9) ⊎ ((status ≡ 10) ⊎ (status ≡ 11)))
 
 -- ---- lines on `err`
 

@@ -1,5 +1,5 @@
 -- The flushes of a script: what its rounds do to the DogStatsD exporter, for a choice of orders (this project's rule).
-use Rattle.std.specs.Prelude.{◌≡◌, ℕ, ◌+◌, Bool, true, false, not, List, [], ◌∷◌, ◌++◌, map, filter, flat_map, fold, zip, Option, None, option_map, slice_get, unwrap_or}
+use Rattle.std.specs.Prelude.{◌≡◌, ℕ, ◌+◌, Bool, true, false, not, List, [], ◌∷◌, ◌++◌, map, filter, flat_map, fold, zip, None, option_map, slice_get, unwrap_or}
 use Rattle.std.specs.List.{AllZip}
 use Rattle.metrics_core.specs.declared.calls.SeriesCall.{SeriesCall}
 use Rattle.metrics_core.specs.declared.calls.SeriesCall.TheVariants as calls
@@ -10,8 +10,8 @@ use Rattle.dsd_addresses.specs.Remotes.{RemoteText, Udp, Unix, Unixgram, default
 use Rattle.dsd_writer.specs.Lines.{payloads_of}
 use Rattle.dsd_writer.specs.Packing.{framed_payloads}
 use Rattle.dsd_exporter.specs.CallSteps.{after_calls, counter_step, gauge_step, samples_step}
-use Rattle.dsd_exporter.specs.State.{DogStatsDSettings, DogStatsDState, FlushItem, SeriesStates, no_series_states, number_given, register, flush_items, flush_step, left_out_of_items, lines_of_items, with_cell_of}
-use Rattle.drive_script.specs.Script.{SettingsText, RoundText, ScriptText, SetupLine, Describe, Register, Act, Inc, Abs, Add, Sub, Set, Rec, RecN, CallLine}
+use Rattle.dsd_exporter.specs.State.{DogStatsDSettings, DogStatsDState, FlushItem, no_series_states, number_given, register, flush_items, flush_step, left_out_of_items, lines_of_items, with_cell_of}
+use Rattle.drive_script.specs.Script.{SettingsText, RoundText, SetupLine, Describe, Register, Act, Inc, Abs, Add, Sub, Set, Rec, RecN, CallLine}
 use Rattle.script_runs.specs.Play.{IsOrderOf, RoundOrders}
 
 -- ---- settings

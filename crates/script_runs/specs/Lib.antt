@@ -1,4 +1,5 @@
 pub mod Agent
+pub mod Benched
 pub mod Served
 pub mod Play
 pub mod InTurn
@@ -6,6 +7,9 @@ pub mod Headline
 pub mod Flushes
 pub mod Sent
 pub mod Answers
+pub mod BenchWords
+pub mod Commands
+pub mod BenchSaid
 pub mod Relay
 pub mod Reading
 pub mod Player

@@ -99,7 +99,7 @@ pub record IsRelayEnd (left : Option (List ℕ)) (SourceFailed SinkFailed : Type
     (written written' : Option (List ℕ)) (status : ℕ) : Type 0 where
   pub merged : status ≡ 0
       → IfSome left (λ bytes. IsWithinLimit bytes × IsRelayed bytes written written')
-  pub others : (status ≢ 2) × (status ≢ 3) × (status ≢ 4)
+  pub others : (status ≢ 2) × (status ≢ 3) × (status ≢ 4) × (status ≢ 9)
   pub too_long : status ≡ 5 → IfSome left IsTooLong
   pub read_failed : status ≡ 6 → SourceFailed
   pub write_failed : status ≡ 7 → SinkFailed

@@ -1,6 +1,6 @@
 -- What a run of a script does that is played whole and then served: to the exporter of the pages, and to those who fetch the page
 -- (this project's rule).
-use Rattle.std.specs.Prelude.{◌≡◌, ℕ, ◌-◌, ◌^◌, ◌<◌, ◌≤◌, ◌⊎◌, List, [], ◌∷◌, ◌++◌, length, take, Option, Some, None, IfSome, All, Result, Ok, Err, codes, decimal}
+use Rattle.std.specs.Prelude.{◌≡◌, ◌≢◌, ℕ, ◌+◌, ◌-◌, ◌^◌, ◌<◌, ◌≤◌, ◌⊎◌, List, [], ◌∷◌, ◌++◌, length, take, Option, Some, None, IfSome, All, Result, Ok, Err, codes, decimal}
 use Rattle.std.specs.List.{AllZip}
 use Rattle.net_addresses.specs.Addresses.{NetworkText, IsNetwork}
 use Rattle.prom_format.specs.Pages.{Family, body_text}
@@ -13,10 +13,10 @@ use Rattle.prom_serve.specs.declared.errors.ServeError.TheVariants as errors
 use Rattle.drive_script.specs.Script.{ScriptText, RoundText}
 use Rattle.drive_script.specs.Faults.{fault_text}
 use Rattle.drive_script.specs.declared.faults.SettingFault.{SettingFault}
-use Rattle.drive_script.specs.declared.faults.DriveFault.{DriveFault}
 use Rattle.drive_script.specs.declared.faults.DriveFault.TheVariants as faults
 use Rattle.script_runs.specs.Agent.{default_agent}
-use Rattle.script_runs.specs.Answers.{IsAllowed, IsBadScript, IsRefusedSetting, IsTooLong, fault_status}
+use Rattle.metrics_core.specs.Characters.{line}
+use Rattle.script_runs.specs.Answers.{IsAllowed, IsBadScript, IsRefusedSetting, IsSaidText, IsTooLong, fault_status}
 use Rattle.script_runs.specs.Headline.{IsGoodScript}
 use Rattle.script_runs.specs.Play.{PlayState, RoundOrders, AreOrdersOf, after_calls, after_setup, exporter_settings, play_start}
 use Rattle.script_runs.specs.declared.serving.ServeScriptFault.{ServeScriptFault}
@@ -166,6 +166,20 @@ pub record IsServeComplete (bytes : List ℕ) (SourceFailed ListenerFailed : Typ
   pub refused_setting : (fault : SettingFault) → IsRefusedSetting default_agent bytes fault → ¬ SourceFailed → (status ≡ 4) ⊎ (status ≡ 8)
   pub good_script : (script : ScriptText) → IsGoodScript bytes script → IsAllowed default_agent script → ¬ SourceFailed → ¬ ListenerFailed → (status ≡ 0) ⊎ (status ≡ 8)
 
+-- What a status of a run of the command says, over a source that left these bytes and a listener that told this before and tells this now.
+pub record IsServeEnd (count : ℕ) (networks : List NetworkText) (left : Option (List ℕ)) (SourceFailed ListenerFailed : Type 0) (old new : Listening) (status : ℕ) : Type 0 where
+  pub served : status ≡ 0 → IfSome left (λ bytes. IsScriptServed bytes networks count old new)
+  pub given : status ≡ 0 → CountedOn old.given new.given count
+  pub others : (status ≢ 2) × (status ≢ 7) × (status ≢ 10) × (status ≢ 11)
+  pub bad_script : status ≡ 3 → IfSome left (λ bytes. (l : ℕ) × IsBadScript bytes l)
+  pub refused_setting : status ≡ 4 → IfSome left (λ bytes. (fault : SettingFault) × IsRefusedSetting default_agent bytes fault)
+  pub too_long : status ≡ 5 → IfSome left IsTooLong
+  pub read_failed : status ≡ 6 → SourceFailed
+  pub listener_failed : status ≡ 9 → ListenerFailed
+  pub in_part : status ≡ 9 → IfSome left (λ bytes. IsScriptServedInPart bytes networks count 0 old new)
+  pub no_memory : status ≡ 8 → IfSome left (λ bytes. (new ≡ old) ⊎ IsScriptServedInPart bytes networks count 1 old new)
+  pub complete : IfSome left (λ bytes. IsServeComplete bytes SourceFailed ListenerFailed status)
+
 -- ---- words
 
 -- a decimal number of 32 bits, without zeros or a sign in front
@@ -198,3 +212,21 @@ served_text served = codes "served " ++ decimal served.served ++ codes " failed 
 abbrev pub serve_fault_text : ServeScriptFault → List ℕ
 serve_fault_text (serving.Drive fault) = fault_text fault
 serve_fault_text serving.FailedToCreateHTTPListener = codes "failed to create HTTP listener"
+
+-- The line that each status has, where the listener's count of lost connections was and is this. What it says of the script holds where the
+-- source tells its bytes. Connections that failed are those that were lost.
+pub data IsServeLineOf (count : ℕ) (left : Option (List ℕ)) (lost lost' : ℕ) : ℕ → List ℕ → Type 0 where
+  done : (served : Served) → served.served + served.failed ≡ count → CountedOn lost lost' served.failed → IsServeLineOf count left lost lost' 0 (line (served_text served))
+  bad_script : (l : ℕ) → IfSome left (λ bytes. IsBadScript bytes l) → IsServeLineOf count left lost lost' 3 (line (fault_text (faults.Script l)))
+  setting_refused : (fault : SettingFault) → IfSome left (λ bytes. IsRefusedSetting default_agent bytes fault)
+      → IsServeLineOf count left lost lost' 4 (line (fault_text (faults.Setting fault)))
+  too_long : IsServeLineOf count left lost lost' 5 (line (fault_text faults.TooLong))
+  read_failed : IsServeLineOf count left lost lost' 6 (line (fault_text faults.ReadFault))
+  no_memory : IsServeLineOf count left lost lost' 8 (line (fault_text faults.Memory))
+  listener_failed : IsServeLineOf count left lost lost' 9 (line (serve_fault_text serving.FailedToCreateHTTPListener))
+
+-- `err` got the line of the status, where it tells and didn't fail
+pub record IsServeSaid (count : ℕ) (left : Option (List ℕ)) (lost lost' : ℕ) (ErrFailed : Type 0) (said said' : Option (List ℕ)) (status : ℕ) : Type 0 where
+  pub text : List ℕ
+  pub meant : IsServeLineOf count left lost lost' status text
+  pub written : IsSaidText ErrFailed said said' text

@@ -4,10 +4,13 @@
 //!
 //! A run over a script in memory:
 //!
-//!     let status = run(rt, alloc, &["drive"], &mut source, &mut out, &mut err, &mut link, &Free);
+//!     let status = run(rt, alloc, &["drive"], &mut source, &mut out, &mut err, &mut link, &Free, &mut listener);
 #![tactic(auto)]
 
 mod agent;
+mod bench_words;
+mod benching;
+mod command;
 mod driving;
 mod examples;
 mod flushes;
@@ -25,6 +28,7 @@ mod serving_words;
 mod settings;
 
 pub use agent::default_agent;
+pub use benching::bench;
 pub use driving::drive;
 pub use examples::{basic_example, described_example, empty_example, sampled_example};
 pub use gates::{Free, Gate};

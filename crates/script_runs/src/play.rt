@@ -200,7 +200,7 @@ impl Player {
     }
 
     /// Plays a round: its setup, its calls, its page, its flush.
-    fn play_round<R: Threads + Wait + Sync, G: Gate + Sync, K: Sink, L: Link>(
+    pub(crate) fn play_round<R: Threads + Wait + Sync, G: Gate + Sync, K: Sink, L: Link>(
         &mut self,
         rt: &R,
         alloc: Global,

@@ -46,7 +46,7 @@ fn read_networks(alloc: Global, texts: &[&str]) -> Result<Option<Vec<Network>>, 
 }
 
 /// The number of 32 bits that a text writes in decimal, without zeros or a sign in front.
-fn read_count(text: &str) -> Option<u32>
+pub(crate) fn read_count(text: &str) -> Option<u32>
     ensures { Reads IsCount text.now result }
 {
     if !begins_as_number(text.as_bytes()) {

@@ -1,13 +1,12 @@
 use Rattle.std.proofs.Common.{[], refl}
-use Rattle.std.specs.Prelude.{IfSome, Some, None}
+use Rattle.std.specs.Prelude.{IfSome}
 use Rattle.std.proofs.lemmas.Result.{IfOk-weaker, on_ok_weaker, on_err_weaker}
-use Rattle.script_runs.specs.Sent.{IsSent, IsSentInPart, LinkTold}
+use Rattle.script_runs.specs.Sent.{IsSent, LinkTold}
 use Rattle.script_runs.proofs.Delivered.{sent-earlier, sent_in_part-earlier}
 use Rattle.metrics_core.specs.Outside.{Rose}
-use Rattle.drive_script.specs.Settings.{refusal_of}
 use Rattle.drive_script.specs.Texts.{script_of}
 use Rattle.script_runs.specs.Answers.{IsPlayFault, LeavesPrefix, end_status}
-use Rattle.script_runs.proofs.DriveSteps.{complete_handed_on, err_with, good_answers, in_part_by, none_reported, play_ends, played_on, played_prefix, played_whole, refused_answers, reported, reported_in_part, unread_answers, unsent_by}
+use Rattle.script_runs.proofs.DriveSteps.{complete_handed_on, err_with, good_answers, play_ends, played_on, played_prefix, played_whole, refused_answers, reported, reported_in_part, unread_answers}
 use Rattle.script_runs.proofs.RecordedRounds.{script_records}
 use Rattle.script_runs.proofs.TimelyRounds.{rise_from_start}
 use Rattle.script_runs.proofs.driving.drive.Goals as goal

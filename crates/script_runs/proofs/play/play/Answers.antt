@@ -8,9 +8,8 @@ use Rattle.script_runs.specs.Orders.{ForSomeRounds}
 use Rattle.script_runs.specs.Play.{PlayState}
 use Rattle.script_runs.specs.Timely.{IsTimelyState}
 use Rattle.script_runs.proofs.Returned.{on_handed_on}
-use Rattle.std.proofs.Common.{◌≡◌, [], refl}
+use Rattle.std.proofs.Common.{[], refl}
 use Rattle.dsd_addresses.specs.Remotes.{remote_text}
-use Rattle.dsd_exporter.specs.State.{FlushItem}
 use Rattle.dsd_exporter.specs.declared.sending.FlushReport.{FlushReport}
 use Rattle.script_runs.specs.Flushes.{FlushPlay, ForSomeFlushes}
 use Rattle.script_runs.specs.Player.{flush_state_of}

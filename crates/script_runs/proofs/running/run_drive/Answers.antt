@@ -1,4 +1,4 @@
-use Rattle.std.proofs.Common.{ℕ, List, subst, sym, ◌∙◌}
+use Rattle.std.proofs.Common.{ℕ, subst, sym, ◌∙◌}
 use Rattle.dsd_addresses.specs.Remotes.{remote_text}
 use Rattle.metrics_core.specs.Characters.{line}
 use Rattle.drive_script.specs.Faults.{fault_text}

@@ -7,7 +7,7 @@ use Rattle.drive_script.specs.Texts.{script_of}
 use Rattle.drive_script.specs.declared.faults.DriveFault.TheVariants as faults
 use Rattle.script_runs.specs.Agent.{default_agent}
 use Rattle.script_runs.specs.Answers.{IsAllowed}
-use Rattle.script_runs.specs.Served.{HasServeCause, HasServeDeviceCause, IfUnserved, LeavesServed, serve_fault}
+use Rattle.script_runs.specs.Served.{HasServeCause, HasServeDeviceCause, IfUnserved, LeavesServed}
 use Rattle.script_runs.specs.declared.serving.ServeScriptFault.TheVariants as serving
 use Rattle.script_runs.proofs.RecordedRounds.{script_records}
 use Rattle.script_runs.proofs.Returned.{if_handed_on}

@@ -1,4 +1,3 @@
-use Rattle.std.proofs.Common.{ap}
 use Rattle.dsd_exporter.proofs.Resting.{flush_rests, rests_for_lanes}
 use Rattle.script_runs.specs.Sent.{LinkTold}
 use Rattle.script_runs.proofs.SendSteps.{flush_delivers}

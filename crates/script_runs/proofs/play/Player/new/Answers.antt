@@ -1,5 +1,5 @@
 use Rattle.std.proofs.Common.{ap, ◌∙◌}
-use Rattle.std.specs.Prelude.{Option, option_map, string_bytes}
+use Rattle.std.specs.Prelude.{option_map, string_bytes}
 use Rattle.prom_format.specs.LabelSets.{labels_of}
 use Rattle.dsd_exporter.proofs.Resting.{begins_at_rest}
 use Rattle.drive_script.specs.Texts.{settings_of}

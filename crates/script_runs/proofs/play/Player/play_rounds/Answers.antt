@@ -12,7 +12,7 @@ use Rattle.script_runs.specs.Play.{PlayState}
 use Rattle.script_runs.specs.Player.{state_of}
 use Rattle.script_runs.specs.Recorded.{AllRecordSome}
 use Rattle.script_runs.specs.Timely.{RiseFrom}
-use Rattle.script_runs.specs.Flushes.{FlushPlay, ForSomeFlushOrders, after_flush}
+use Rattle.script_runs.specs.Flushes.{FlushPlay}
 use Rattle.script_runs.specs.Player.{flush_state_of}
 use Rattle.script_runs.specs.Sent.{LinkTold}
 use Rattle.script_runs.proofs.Delivered.{FlushedSoFar, flushed-cut, flushed-end, flushed-round, flushed-start}

@@ -3,7 +3,6 @@ use Rattle.std.specs.Prelude.{All}
 use Rattle.std.proofs.lemmas.List.{nil_from_length}
 use Rattle.std.proofs.lemmas.List.Elements.{All-head, All-tail}
 use Rattle.std.specs.Vec.Iter.{into_iter_items}
-use Rattle.drive_script.specs.Script.{RoundText}
 use Rattle.drive_script.specs.Texts.{round_of}
 use Rattle.script_runs.specs.Fitting.{CallsFit}
 use Rattle.script_runs.specs.Play.{PlayState}

@@ -1,4 +1,4 @@
-use Rattle.std.proofs.Common.{◌≡◌, map, ℕ}
+use Rattle.std.proofs.Common.{map}
 use Rattle.std.specs.Prelude.{option_copied}
 use Rattle.metrics_core.specs.Outside.{Rose}
 use Rattle.prom_exporter.specs.Exporter.{body_shown}
