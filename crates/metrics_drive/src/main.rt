@@ -1,22 +1,23 @@
-//! The program: it plays a script of rounds on both exporters, writes a page and sends a flush for each round; or it makes one page of
-//! several.
+//! The program: it plays a script of rounds on both exporters, writes a page and sends a flush for each round; or it serves the page of a
+//! script over HTTP; or it makes one page of several.
 #![tactic(auto)]
 
 use drive_script::DriveFault;
 use dsd_exporter::SocketLink;
 use metrics_core::{Memory, Reading, Sink, Source, Writing};
+use prom_serve::SocketListener;
 use script_runs::{Free, run, say_fault};
 use std::alloc::Global;
 use std::env;
 use std::env::Args;
 use std::io::ErrorKind;
-use std::net::Net;
+use std::net::{Ipv4Addr, Net, SocketAddr, SocketAddrV4, TcpListener, TcpStream};
 use std::process::ExitCode;
 use std::rt::Env;
 use std::sync::Wait;
 use std::thread::Threads;
 
-/// Makes the real source, sinks and link, calls `run`, and ends with its status.
+/// Makes the real source, sinks, link and listener, calls `run`, and ends with its status.
 fn main(rt: HostRuntime) -> ExitCode {
     let alloc = rt.alloc();
     let mut source = Reading::new(rt.stdin());
@@ -32,13 +33,12 @@ fn main(rt: HostRuntime) -> ExitCode {
 }
 
 /// Calls `run` with the words after the program's name. Words that aren't text are no form of words.
-fn run_words<R: Env + AllocGlobal + Net + Threads + Wait + Sync, S: Source, K: Sink, E: Sink>(
-    rt: &R,
-    alloc: Global,
-    source: &mut S,
-    out: &mut K,
-    err: &mut E,
-) -> Result<u8, Memory> {
+fn run_words<
+    R: Env + AllocGlobal + Net<Listener = TcpListener, Stream = TcpStream> + Threads + Wait + Sync,
+    S: Source,
+    K: Sink,
+    E: Sink,
+>(rt: &R, alloc: Global, source: &mut S, out: &mut K, err: &mut E) -> Result<u8, Memory> {
     let words = match env::args(rt) {
         Ok(arguments) => texts(alloc, arguments)?,
         Err(error) if error.kind() == ErrorKind::OutOfMemory => return Err(Memory),
@@ -49,7 +49,23 @@ fn run_words<R: Env + AllocGlobal + Net + Threads + Wait + Sync, S: Source, K: S
         views.push(word.as_str())?;
     }
     let mut link = SocketLink::new(rt);
-    Ok(run(rt, alloc, &views, source, out, err, &mut link, &Free))
+    let mut listener = SocketListener::new(page_address());
+    Ok(run(
+        rt,
+        alloc,
+        &views,
+        source,
+        out,
+        err,
+        &mut link,
+        &Free,
+        &mut listener,
+    ))
+}
+
+/// Where the page is served: port 9000 of this host, 127.0.0.1:9000. It is bound at the first connection that is wanted.
+fn page_address() -> SocketAddr {
+    SocketAddr::V4(SocketAddrV4::new(Ipv4Addr::LOCALHOST, 9000))
 }
 
 /// The words after the program's name.
