@@ -2,8 +2,10 @@
 
 use dsd_exporter::MemoryLink;
 use metrics_core::{MemorySink, MemorySource};
+use prom_serve::MemoryListener;
 use script_runs::{Gate, run};
 use std::alloc::Global;
+use std::net::{Net, TcpListener, TcpStream};
 use std::sync::Wait;
 use std::sync::atomic::{AtomicBool, Ordering};
 use std::test::Fail;
@@ -83,8 +85,36 @@ struct Output {
     payloads: Vec<u8>,
 }
 
+/// Drives a script at a gate, with no connections to be served.
+fn drive<
+    R: Net<Listener = TcpListener, Stream = TcpStream> + Threads + Wait + Sync,
+    G: Gate + Sync,
+>(
+    rt: &R,
+    alloc: Global,
+    source: &mut MemorySource,
+    out: &mut MemorySink,
+    link: &mut MemoryLink,
+    gate: &G,
+) {
+    let mut err = MemorySink::new(alloc, 65536, Vec::new(alloc));
+    let mut listener = MemoryListener::new(alloc, Vec::new(alloc));
+    let words = ["drive"];
+    let _status = run(
+        rt,
+        alloc,
+        &words,
+        source,
+        out,
+        &mut err,
+        link,
+        gate,
+        &mut listener,
+    );
+}
+
 /// What the two lanes write and send at a gate.
-fn told<R: Threads + Wait + Sync, G: Gate + Sync>(
+fn told<R: Net<Listener = TcpListener, Stream = TcpStream> + Threads + Wait + Sync, G: Gate + Sync>(
     rt: &R,
     alloc: Global,
     gate: &G,
@@ -92,19 +122,8 @@ fn told<R: Threads + Wait + Sync, G: Gate + Sync>(
     let script = TWO_LANES.to_vec(alloc)?;
     let mut source = MemorySource::new(script, 65536, Vec::new(alloc));
     let mut out = MemorySink::new(alloc, 65536, Vec::new(alloc));
-    let mut err = MemorySink::new(alloc, 65536, Vec::new(alloc));
     let mut link = MemoryLink::new(alloc, Vec::new(alloc));
-    let words = ["drive"];
-    let _status = run(
-        rt,
-        alloc,
-        &words,
-        &mut source,
-        &mut out,
-        &mut err,
-        &mut link,
-        gate,
-    );
+    drive(rt, alloc, &mut source, &mut out, &mut link, gate);
     let mut payloads = Vec::new(alloc);
     for payload in link.sent() {
         payloads.extend_from_slice(payload.bytes())?;
@@ -116,7 +135,10 @@ fn told<R: Threads + Wait + Sync, G: Gate + Sync>(
 }
 
 /// Whether the lanes meet in time, and the page is written.
-fn meet<R: Threads + Wait + Sync>(rt: &R, alloc: Global) -> Result<bool, Fail> {
+fn meet<R: Net<Listener = TcpListener, Stream = TcpStream> + Threads + Wait + Sync>(
+    rt: &R,
+    alloc: Global,
+) -> Result<bool, Fail> {
     let gate = Meeting {
         first: AtomicBool::new(false),
         second: AtomicBool::new(false),
@@ -127,7 +149,7 @@ fn meet<R: Threads + Wait + Sync>(rt: &R, alloc: Global) -> Result<bool, Fail> {
 }
 
 /// Whether the page and the payload are these where the lane `held` waits for the other one.
-fn shows<R: Threads + Wait + Sync>(
+fn shows<R: Net<Listener = TcpListener, Stream = TcpStream> + Threads + Wait + Sync>(
     rt: &R,
     alloc: Global,
     held: u8,
