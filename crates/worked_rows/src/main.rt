@@ -3,11 +3,13 @@
 #![tactic(auto)]
 
 mod outcome;
+mod peers;
 mod row;
 
 use outcome::holds;
 use row::read_row;
 use std::alloc::Global;
+use std::net::{Net, TcpListener, TcpStream};
 use std::rt::Files;
 use std::sync::Wait;
 use std::thread::Threads;
@@ -31,11 +33,15 @@ fn is_row(line: &str) -> bool {
 }
 
 /// Plays the row of a line, and answers whether it holds.
-fn plays<R: Files + AllocGlobal + Print + Threads + Wait + Sync>(
-    rt: &R,
-    alloc: Global,
-    line: &str,
-) -> io::Result<bool> {
+fn plays<
+    R: Files
+        + AllocGlobal
+        + Print
+        + Net<Listener = TcpListener, Stream = TcpStream>
+        + Threads
+        + Wait
+        + Sync,
+>(rt: &R, alloc: Global, line: &str) -> io::Result<bool> {
     match read_row(alloc, line) {
         Ok(row) => holds(rt, alloc, &row),
         Err(fault) => {

@@ -1,23 +1,27 @@
 //! What comes of a row, beside what must come.
 
+use crate::peers::{add_peers, answers_of};
 use crate::row::{Device, Row};
 use dsd_exporter::MemoryLink;
 use metrics_core::{MemorySink, MemorySource};
+use prom_serve::MemoryListener;
 use script_runs::{Free, run};
 use std::alloc::Global;
 use std::io::ErrorKind;
+use std::net::{Net, TcpListener, TcpStream};
 use std::rt::Files;
 use std::sync::Wait;
 use std::thread::Threads;
 use std::{fs, io};
 
-/// What a run answered, wrote, said and sent.
+/// What a run ended with, wrote, said, sent and answered.
 #[derive(Drop)]
 struct Outcome {
     status: String,
     pages: Vec<u8>,
     said: Vec<u8>,
     sent: Vec<u8>,
+    answers: Vec<u8>,
 }
 
 /// What a run is over.
@@ -27,14 +31,19 @@ struct Devices {
     out: MemorySink,
     err: MemorySink,
     link: MemoryLink,
+    listener: MemoryListener,
 }
 
 /// Whether what comes of a row is what must come. Where it isn't, it is printed.
-pub fn holds<R: Files + AllocGlobal + Print + Threads + Wait + Sync>(
-    rt: &R,
-    alloc: Global,
-    row: &Row,
-) -> io::Result<bool> {
+pub fn holds<
+    R: Files
+        + AllocGlobal
+        + Print
+        + Net<Listener = TcpListener, Stream = TcpStream>
+        + Threads
+        + Wait
+        + Sync,
+>(rt: &R, alloc: Global, row: &Row) -> io::Result<bool> {
     let outcome = outcome_of(rt, alloc, row)?;
     is_told_right(rt, alloc, row, &outcome)
 }
@@ -51,7 +60,8 @@ fn is_told_right<R: Files + AllocGlobal + Print>(
         && (is_wanted(rt, alloc, row, "page", &outcome.pages)?
             || is_other(rt, alloc, row, "other", &outcome.pages)?)
         && (is_wanted(rt, alloc, row, "sent", &outcome.sent)?
-            || is_other(rt, alloc, row, "other-sent", &outcome.sent)?);
+            || is_other(rt, alloc, row, "other-sent", &outcome.sent)?)
+        && is_wanted(rt, alloc, row, "answers", &outcome.answers)?;
     if !same {
         print_outcome(rt, alloc, row, outcome)?;
     }
@@ -59,31 +69,51 @@ fn is_told_right<R: Files + AllocGlobal + Print>(
 }
 
 /// Plays a row over devices in memory.
-fn outcome_of<R: Files + AllocGlobal + Threads + Wait + Sync>(
-    rt: &R,
-    alloc: Global,
-    row: &Row,
-) -> io::Result<Outcome> {
+fn outcome_of<
+    R: Files
+        + AllocGlobal
+        + Net<Listener = TcpListener, Stream = TcpStream>
+        + Threads
+        + Wait
+        + Sync,
+>(rt: &R, alloc: Global, row: &Row) -> io::Result<Outcome> {
     let mut devices = devices_of(rt, alloc, row)?;
+    let peers = add_peers_of(rt, alloc, row, &mut devices.listener)?;
     let status = played(rt, alloc, row, &mut devices)?;
-    told(alloc, status, &devices)
+    let answers = answers_of(alloc, &mut devices.listener, peers)?;
+    told(alloc, status, answers, &devices)
 }
 
 /// The devices of a row.
 fn devices_of<R: Files + AllocGlobal>(rt: &R, alloc: Global, row: &Row) -> io::Result<Devices> {
     let failing = row.source.failing.to_vec(alloc)?;
     let unsent = row.unsent.to_vec(alloc)?;
+    let unaccepted = row.unaccepted.to_vec(alloc)?;
     let script = script_of(rt, alloc, row)?;
     Ok(Devices {
         source: MemorySource::new(script, row.source.most.max(1), failing),
         out: sink(alloc, &row.out)?,
         err: sink(alloc, &row.err)?,
         link: MemoryLink::new(alloc, unsent),
+        listener: MemoryListener::new(alloc, unaccepted),
     })
 }
 
+/// Lets the peers of a row wait at a listener, and answers how many they are.
+fn add_peers_of<R: Files + AllocGlobal>(
+    rt: &R,
+    alloc: Global,
+    row: &Row,
+    listener: &mut MemoryListener,
+) -> io::Result<usize> {
+    match file(rt, alloc, row, "peers")? {
+        Some(peers) => add_peers(alloc, listener, &peers),
+        None => Ok(0),
+    }
+}
+
 /// Runs a row over its devices, and answers the status.
-fn played<R: Threads + Wait + Sync>(
+fn played<R: Net<Listener = TcpListener, Stream = TcpStream> + Threads + Wait + Sync>(
     rt: &R,
     alloc: Global,
     row: &Row,
@@ -95,12 +125,13 @@ fn played<R: Threads + Wait + Sync>(
         out,
         err,
         link,
+        listener,
     } = devices;
-    Ok(run(rt, alloc, &words, source, out, err, link, &Free))
+    Ok(run(rt, alloc, &words, source, out, err, link, &Free, listener))
 }
 
-/// What was answered, with what the devices were given.
-fn told(alloc: Global, status: u8, devices: &Devices) -> io::Result<Outcome> {
+/// The outcome of a run that ended with a status and gave answers, with what the devices were given.
+fn told(alloc: Global, status: u8, answers: Vec<u8>, devices: &Devices) -> io::Result<Outcome> {
     let status = format!(in alloc; "{status}")?;
     let pages = devices.out.written().to_vec(alloc)?;
     let said = devices.err.written().to_vec(alloc)?;
@@ -110,6 +141,7 @@ fn told(alloc: Global, status: u8, devices: &Devices) -> io::Result<Outcome> {
         pages,
         said,
         sent,
+        answers,
     })
 }
 
@@ -224,5 +256,7 @@ fn print_outcome<R: AllocGlobal + Print>(
     )?;
     println!(rt; "{pages}")?;
     let sent = String::from_utf8_lossy(alloc, &outcome.sent)?;
-    println!(rt; "{sent}")
+    println!(rt; "{sent}")?;
+    let answers = String::from_utf8_lossy(alloc, &outcome.answers)?;
+    println!(rt; "{answers}")
 }

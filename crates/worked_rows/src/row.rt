@@ -27,6 +27,8 @@ pub struct Row {
     pub err: Device,
     /// The numbers of the sends that fail, counted from 0.
     pub unsent: Vec<u64>,
+    /// The numbers of the accepts that fail, counted from 0.
+    pub unaccepted: Vec<u64>,
 }
 
 /// Reads a line of the table.
@@ -53,11 +55,12 @@ fn plain_row(alloc: Global, name: &str, status: &str) -> io::Result<Row> {
         out: sound_device(alloc),
         err: sound_device(alloc),
         unsent: Vec::new(alloc),
+        unaccepted: Vec::new(alloc),
     })
 }
 
 /// A device that doesn't fail.
-fn sound_device(alloc: Global) -> Device {
+pub fn sound_device(alloc: Global) -> Device {
     Device {
         most: 65536,
         failing: Vec::new(alloc),
@@ -88,13 +91,14 @@ fn set(alloc: Global, row: &mut Row, setting: &str) -> io::Result<()> {
         "write-fails" => add(&mut row.out.failing, value)?,
         "say-fails" => add(&mut row.err.failing, value)?,
         "send-fails" => add(&mut row.unsent, value)?,
+        "accept-fails" => add(&mut row.unaccepted, value)?,
         _ => return Err(io::Error::from(ErrorKind::InvalidData)),
     }
     Ok(())
 }
 
 /// A number of bytes of at least 1.
-fn count(value: &str) -> io::Result<usize> {
+pub fn count(value: &str) -> io::Result<usize> {
     match value.parse::<usize>() {
         Ok(number) => Ok(number.max(1)),
         Err(_) => Err(io::Error::from(ErrorKind::InvalidData)),
@@ -102,7 +106,7 @@ fn count(value: &str) -> io::Result<usize> {
 }
 
 /// Adds the number of a call that fails.
-fn add(failing: &mut Vec<u64>, value: &str) -> io::Result<()> {
+pub fn add(failing: &mut Vec<u64>, value: &str) -> io::Result<()> {
     match value.parse::<u64>() {
         Ok(number) => Ok(failing.push(number)?),
         Err(_) => Err(io::Error::from(ErrorKind::InvalidData)),
