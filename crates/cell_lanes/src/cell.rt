@@ -89,6 +89,22 @@ pub trait SharedCell: Send + Sync + Drop {
         ensures root { (view pass.new ≡ view pass.old) × Settled (view pass.old) };
 }
 
+/// A cell that is read at less cost where nothing waits in it.
+pub trait StillCell: SharedCell {
+    ghost use Rattle.std.specs.Prelude.{◌≡◌, IfSome, IfNone};
+
+    /// Nothing had waited in the cell where this is read.
+    ghost is_still: { Self.Reading → Type 0 };
+
+    /// Reads the cell with a pass where nothing waits in it. Elsewhere it reads nothing, and changes nothing.
+    fn read_still<R: Wait>(&self, rt: &R, pass: &mut Self::Pass) -> Option<Self::Reading>
+        requires { Self.is_pass self.now pass.old }
+        ensures pass { Self.is_pass self.now pass.new }
+        ensures read { IfSome result (λ reading. Self.reads (Self.view pass.old) reading (Self.view pass.new)) }
+        ensures still { IfSome result is_still }
+        ensures unread { IfNone result (Self.view pass.new ≡ Self.view pass.old) };
+}
+
 /// A cell of which a reading is its value, never waits and changes nothing.
 pub trait ValueCell: SharedCell {
     ghost use Rattle.std.specs.Prelude.{List};

@@ -22,7 +22,7 @@ mod owned;
 mod reading;
 mod round;
 
-pub use cell::{CountedCell, SharedCell, ValueCell};
+pub use cell::{CountedCell, SharedCell, StillCell, ValueCell};
 pub use fit::{lane_fits, lanes_fit};
 pub use hook::{LaneHook, NoHook};
 pub use lane::{Job, Lane, Line, Slot};

@@ -3,7 +3,7 @@ ghost use Rattle.std.specs.Prelude.{◌≡◌, ◌-◌, ℕ, true};
 ghost use Rattle.cell_lanes.specs.Owned.{counts};
 ghost use Rattle.std.specs.Arc.{arc_value};
 
-use crate::cell::{CountedCell, SharedCell, ValueCell};
+use crate::cell::{CountedCell, SharedCell, StillCell, ValueCell};
 use crate::lender::Lender;
 use crate::lent::LentCell;
 use metrics_core::Memory;
@@ -127,6 +127,22 @@ fn one_less(out: u32) -> u32
         out
     } else {
         out.saturating_sub(1)
+    }
+}
+
+impl<C: StillCell> OwnedCell<C> {
+    ghost use Rattle.std.specs.Prelude.{IfSome, IfNone};
+    ghost use Rattle.cell_lanes.specs.Calls.{Found};
+
+    /// Reads the cell with the root pass where nothing waits in it. Elsewhere it reads nothing, and changes nothing.
+    pub fn read_still<R: Wait>(&mut self, rt: &R) -> Option<C::Reading>
+        ensures read { IfSome result (λ reading. C.reads self.old.root reading self.new.root) }
+        ensures still { IfSome result C.is_still }
+        ensures stands { IfSome result (λ reading. Found (C.read_as reading) self.old.root self.new.root) }
+        ensures unread { IfNone result (self.new ≡ self.old) }
+        ensures cell { self.new.fixed ≡ self.old.fixed }
+    {
+        self.cell.read_still(rt, &mut self.root)
     }
 }
 

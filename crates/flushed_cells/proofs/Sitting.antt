@@ -9,7 +9,7 @@ use Rattle.legal_history.specs.History.{first, nobody, lender, child, taker, aft
 use Rattle.legal_history.specs.Object.{Told}
 use Rattle.legal_history.proofs.Steps.{some_below, at_snoc_index}
 use Rattle.legal_history.proofs.Objects.{turn, tells, forks, merges, opens}
-use Rattle.flushed_cells.specs.Seats.{Sit, Seated, Exchanged}
+use Rattle.flushed_cells.specs.Seats.{Sit, Seated, Exchanged, Looked}
 
 module _ {C : Type 0} where
   number_is : (v w : View C) → v ≡ w → v.number ≡ w.number
@@ -155,6 +155,21 @@ module _ {S C : Type 0} (Step : C → S → S → Type 0) (start : S) where
   exchanges_as x old new same alike unlike seats i v c d expected p q live s k at =
       subst (λ (u : C × S). (w : View C) × Seated Step start (if same then new else x) (set seats i w) × Exchanged Step start u.0 u.1 v x w)
       (λ t. (sym p t, sym q t)) (exchanges x old new same alike unlike seats i v c live s k at)
+
+  -- a call that leaves the state as it is, where the state is still, or nothing
+  pub looks : (x : S) (still : Bool) (seats : List (View C)) (i : ℕ) (v : View C) (c : C) → v.live ≡ true → (still ≡ true → Step c x x) → Seated Step start x seats → get_elem? seats i ≡ some v
+      → (w : View C) × Seated Step start x (set seats i w) × Looked Step start c still v w
+  looks x true seats i v c live s k at =
+      let t = turn Step start x x k.passes v.number v c live (s refl) k.keeps (k.sit.there i v at live) in (
+        t.0,
+        record { passes = set k.passes v.number t.0; keeps = t.1; sit = sit_set k.passes seats i v t.0 k.sit at live (number_is t.0 (after v t.2.0 (c ∷ [])) t.2.6) },
+        ((λ e. t.2), (λ e. absurd (true≢false e))),
+      )
+  looks x false seats i v c live s k at = (
+    v,
+    record { passes = k.passes; keeps = k.keeps; sit = sit_same k.passes seats i v k.sit at },
+    ((λ e. absurd (true≢false (sym e))), (λ e. refl)),
+  )
 
   pub peeks : (x : S) (seats : List (View C)) (i : ℕ) (v : View C) → Seated Step start x seats → get_elem? seats i ≡ some v → (w : View C) × Seated Step start x (set seats i w) × (w ≡ v)
   peeks x seats i v k at = (v, record { passes = k.passes; keeps = k.keeps; sit = sit_same k.passes seats i v k.sit at }, refl)

@@ -1,5 +1,5 @@
 -- The counter of one thread that is flushed (this project's rule).
-use Rattle.std.specs.Prelude.{◌≡◌, ℕ, ◌+◌, ◌-◌, max, List, [], ◌∷◌}
+use Rattle.std.specs.Prelude.{◌≡◌, ℕ, ◌+◌, ◌-◌, ◌&&◌, max, nat_eq, Bool, List, [], ◌∷◌}
 use Rattle.metrics_core.specs.Numbers.{in_64_bits}
 use Rattle.legal_history.specs.declared.history.View.{View}
 use Rattle.legal_history.specs.History.{calls}
@@ -34,6 +34,10 @@ absolute n s = absolute_in s.mode n s
 -- a flush leaves no delta and no updates
 abbrev pub flushed : CounterState → CounterState
 flushed s = counter_of s.mode s.total 0 0
+
+-- nothing waits: a flush would leave the counter as it is
+abbrev pub is_still : CounterState → Bool
+is_still s = nat_eq s.delta 0 && nat_eq s.updates 0
 
 -- one call, with its answer, takes the counter from one state to the next
 abbrev pub CounterStep : CounterCall → CounterState → CounterState → Type 0

@@ -1,5 +1,5 @@
 -- The gauge of one thread that is flushed (this project's rule).
-use Rattle.std.specs.Prelude.{◌≡◌, ℕ, ◌+◌, ◌^◌, nat_lt, if◌then◌else◌, ℤ, pos, negsuc, List, [], ◌∷◌}
+use Rattle.std.specs.Prelude.{◌≡◌, ℕ, ◌+◌, ◌^◌, nat_eq, nat_lt, Bool, if◌then◌else◌, ℤ, pos, negsuc, List, [], ◌∷◌}
 use Rattle.std.specs.Int.{w64, cast_unsigned}
 use Rattle.metrics_core.specs.declared.numbers.Fixed.{Fixed as FixedOf}
 use Rattle.metrics_core.specs.Numbers.{in_64_bits}
@@ -18,6 +18,10 @@ gauge_of value updates = record { value = value; updates = updates }
 
 abbrev pub gauge_start : GaugeState
 gauge_start = gauge_of (of_billionths (pos 0)) 0
+
+-- nothing waits: a flush would leave the gauge as it is
+abbrev pub is_still : GaugeState → Bool
+is_still s = nat_eq s.updates 0
 
 -- one call, with its answer, takes the gauge from one state to the next. An update sets the value, adds to it or takes off it, modulo 2 ^ 64 billionths, and is counted, modulo 2 ^ 64. A flush keeps the value
 abbrev pub GaugeStep : GaugeCall → GaugeState → GaugeState → Type 0

@@ -1,5 +1,5 @@
 -- Seats of a shared cell, on which the passes of its history sit. A pass can move to another seat, so its seat says nothing of its number.
-use Rattle.std.specs.Prelude.{◌≡◌, ℕ, List, true}
+use Rattle.std.specs.Prelude.{◌≡◌, ℕ, List, Bool, true, false}
 use mathlib.Core.Option.{some}
 use lib.ListN.{get_elem?}
 use Rattle.legal_history.specs.declared.history.View.{View}
@@ -20,3 +20,7 @@ module _ {S C : Type 0} (Step : C → S → S → Type 0) (start : S) where
   -- the call was made where the state was as expected; elsewhere nothing was done
   abbrev pub Exchanged : C → S → View C → S → View C → Type 0
   Exchanged c expected v x w = (x ≡ expected → Made Step start c v w) × (¬ (x ≡ expected) → w ≡ v)
+
+  -- a look makes the call where it finds the state still; elsewhere nothing was done
+  abbrev pub Looked : C → Bool → View C → View C → Type 0
+  Looked c still v w = (still ≡ true → Made Step start c v w) × (still ≡ false → w ≡ v)

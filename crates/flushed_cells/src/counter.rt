@@ -72,6 +72,17 @@ impl Outcome<CounterState, View<CounterCall>> for CounterLook {
     ghost then = { λ v x y w. (w ≡ v) × Told CounterStep counter_start v x };
 }
 
+/// A look that is a flush where nothing waits.
+pub struct CounterRest;
+
+impl Outcome<CounterState, View<CounterCall>> for CounterRest {
+    ghost use Rattle.flushed_cells.specs.declared.counter_calls.CounterCall.TheVariants.{Flush};
+    ghost use Rattle.flushed_cells.specs.Seats.{Looked};
+    ghost use Rattle.flushed_cells.specs.Counters.{CounterStep, counter_start, is_still};
+
+    ghost then = { λ v x y w. Looked CounterStep counter_start (Flush 0 0) (is_still x) v w };
+}
+
 /// A pass of a counter.
 pub type CounterPass = DsdPass<CounterState, CounterCall>;
 
@@ -124,8 +135,23 @@ impl DsdCounter {
         ensures pass { IsCounterPass self.now pass.new }
         ensures call { Called (Flush result.0 result.1) (view_of pass.old) (view_of pass.new) }
     {
+        if self.flush_still(rt, pass) {
+            return (0, 0);
+        }
         let found = self.turn(rt, &mut pass.seat, CounterChange::Flush);
         (found.delta, found.updates)
+    }
+
+    /// Flushes where nothing waits, by a look alone. Elsewhere nothing is done.
+    pub fn flush_still<R: Wait>(&self, rt: &R, pass: &mut CounterPass) -> bool
+        requires { IsCounterPass self.now pass.old }
+        ensures pass { IsCounterPass self.now pass.new }
+        ensures call { OnTrue result (Called (Flush 0 0) (view_of pass.old) (view_of pass.new)) }
+        ensures none { OnFalse result (view_of pass.new ≡ view_of pass.old) }
+    {
+        self.cell
+            .load_as::<CounterRest, R>(rt, &mut pass.seat)
+            .is_still()
     }
 
     /// A new pass of this counter, for another caller. It knows what the root knows, and has made no call.

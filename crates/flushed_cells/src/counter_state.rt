@@ -1,7 +1,7 @@
 //! The state of a counter that is flushed.
 
 ghost use Rattle.std.specs.Prelude.{◌≡◌};
-ghost use Rattle.flushed_cells.specs.Counters.{words_of_counter, incremented, absolute, changed};
+ghost use Rattle.flushed_cells.specs.Counters.{words_of_counter, incremented, absolute, changed, is_still};
 
 use crate::counter_calls::CounterChange;
 use crossbeam_utils::atomic::Words;
@@ -51,6 +51,13 @@ impl CounterState {
                 ..self
             },
         }
+    }
+
+    /// Whether nothing waits, so that a flush would leave the state as it is.
+    pub fn is_still(self) -> bool
+        ensures { result ≡ is_still self }
+    {
+        self.delta == 0 && self.updates == 0
     }
 
     fn incremented(self, value: u64) -> CounterState

@@ -72,6 +72,17 @@ impl Outcome<GaugeState, View<GaugeCall>> for GaugeLook {
     ghost then = { λ v x y w. (w ≡ v) × Told GaugeStep gauge_start v x };
 }
 
+/// A look that is a flush where nothing waits.
+pub struct GaugeRest;
+
+impl Outcome<GaugeState, View<GaugeCall>> for GaugeRest {
+    ghost use Rattle.flushed_cells.specs.declared.gauge_calls.GaugeCall.TheVariants.{Flush};
+    ghost use Rattle.flushed_cells.specs.Seats.{Looked};
+    ghost use Rattle.flushed_cells.specs.Gauges.{GaugeStep, gauge_start, is_still};
+
+    ghost then = { λ v x y w. Looked GaugeStep gauge_start (Flush x.value 0) (is_still x) v w };
+}
+
 /// A pass of a gauge.
 pub type GaugePass = DsdPass<GaugeState, GaugeCall>;
 
@@ -142,6 +153,10 @@ impl DsdGauge {
         ensures pass { IsGaugePass self.now pass.new }
         ensures call { Called (Flush result.0 result.1) (view_of pass.old) (view_of pass.new) }
     {
+        let seen = self.cell.load_as::<GaugeRest, R>(rt, &mut pass.seat);
+        if seen.is_still() {
+            return (seen.value, 0);
+        }
         let found = self.turn(rt, &mut pass.seat, GaugeChange::Flush);
         (found.value, found.updates)
     }

@@ -1,7 +1,7 @@
 //! The state of a gauge that is flushed.
 
 ghost use Rattle.std.specs.Prelude.{◌≡◌};
-ghost use Rattle.flushed_cells.specs.Gauges.{words_of_gauge, changed};
+ghost use Rattle.flushed_cells.specs.Gauges.{words_of_gauge, changed, is_still};
 
 use crate::gauge_calls::GaugeChange;
 use crossbeam_utils::atomic::Words;
@@ -34,6 +34,13 @@ impl GaugeState {
             },
             GaugeChange::Flush => GaugeState { updates: 0, ..self },
         }
+    }
+
+    /// Whether nothing waits, so that a flush would leave the state as it is.
+    pub fn is_still(self) -> bool
+        ensures { result ≡ is_still self }
+    {
+        self.updates == 0
     }
 }
 

@@ -4,7 +4,7 @@ use crate::counter::{CounterPass, DsdCounter};
 use crate::counter_calls::{CounterCall, CounterChange};
 use crate::gauge::{DsdGauge, GaugePass};
 use crate::gauge_calls::{GaugeCall, GaugeChange};
-use cell_lanes::{OwnedCell, SharedCell};
+use cell_lanes::{OwnedCell, SharedCell, StillCell};
 use metrics_core::{Fixed, Memory};
 use std::alloc::Global;
 use std::sync::Wait;
@@ -62,6 +62,20 @@ impl SharedCell for DsdCounter {
 
     fn settle<R: Wait>(&self, rt: &R, pass: &mut CounterPass) {
         DsdCounter::settle(self, rt, pass);
+    }
+}
+
+impl StillCell for DsdCounter {
+    ghost use Rattle.std.specs.Prelude.{◌≡◌};
+
+    ghost is_still = { λ reading. reading ≡ (0, 0) };
+
+    fn read_still<R: Wait>(&self, rt: &R, pass: &mut CounterPass) -> Option<(u64, u64)> {
+        if self.flush_still(rt, pass) {
+            Some((0, 0))
+        } else {
+            None
+        }
     }
 }
 
