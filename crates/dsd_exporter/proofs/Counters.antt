@@ -1,5 +1,5 @@
 -- Counters that are flushed, one after the other.
-use Rattle.std.proofs.Common.{◌≡◌, ℕ, ◌<◌, ◌^◌, Bool, true, false, ◌&&◌, cond, List, [], ◌∷◌, ◌++◌, length, refl, sym, ap, subst, ◌∙◌}
+use Rattle.std.proofs.Common.{◌≡◌, ℕ, ◌<◌, ◌^◌, Bool, true, false, true≢false, ◌&&◌, cond, List, [], ◌∷◌, ◌++◌, length, refl, sym, ap, subst, ◌∙◌, Option, Some, None, is_some, IfSome, IfNone}
 use Rattle.std.specs.Prelude.{◌==◌, nat_lt, decimal, option_map, slice_get}
 use Rattle.metrics_core.specs.Keys.{KeyText, LabelText}
 use Rattle.metrics_core.specs.declared.kinds.MetricKind.TheVariants as kinds
@@ -17,7 +17,7 @@ use Rattle.dsd_exporter.specs.State.{DogStatsDSettings, is_quiet, idle_at, count
 use Rattle.dsd_exporter.specs.Updates.{UpdateText}
 use Rattle.dsd_exporter.specs.Exporter.{Exporter, CounterThing}
 use Rattle.dsd_exporter.specs.Flushing.{TakesCounter, ChangesAt, HasKeyAt, with_found, with_mark, with_series, WritesOne, Sends, counter_line, FlushesCounter, CountersFlushed}
-use Rattle.dsd_exporter.proofs.Marks.{idle-behind, mark-next}
+use Rattle.dsd_exporter.proofs.Marks.{idle-behind, mark-next, mark-stays}
 use Rattle.dsd_exporter.proofs.Sent.{sends_nothing, sends_then, sends_behind, counter_sent}
 use Rattle.dsd_exporter.proofs.Taken.{key-there, key-same, next-taken, key-next, counters-next}
 
@@ -71,6 +71,29 @@ module _ (settings : DogStatsDSettings) (moment place : ℕ) (old new : List (Li
         let sent = sends_behind (counter_item settings v.global_tags moment writes.0 found ∷ []) w v x u n same lines (counter_sent settings moment writes.0 v x written u n found wrote counts) in
         subst (λ items. Sends items w x u n) (sym one) (subst (λ tags. Sends (counter_item settings tags moment writes.0 found ∷ []) w x u n) same.same_tags sent));
   }
+
+-- a counter from which nothing was taken held nothing that waits
+pub nothing_taken : (s t : CounterThing) (answer : ℕ × ℕ) → Flushes CounterStep counter_start counter_flush s.root answer t.root → t.fixed ≡ s.fixed → answer.0 ≡ 0 → answer.1 ≡ 0
+    → (x : CounterState) × (x.delta ≡ 0) × (x.updates ≡ 0) × TakesCounter s x t
+nothing_taken s t answer m same delta updates =
+    let taken = counter_taken s t answer m same in
+    (taken.0, ap (λ (a : ℕ × ℕ). a.0) (sym taken.1) ∙ delta, ap (λ (a : ℕ × ℕ). a.1) (sym taken.1) ∙ updates, taken.2)
+
+-- what was read of a still counter, if anything was
+pub nothing_read : (s t : CounterThing) (read : Option (ℕ × ℕ)) → is_some read ≡ true → IfSome read (λ answer. Flushes CounterStep counter_start counter_flush s.root answer t.root) → IfSome read (λ answer. answer ≡ (0, 0))
+    → t.fixed ≡ s.fixed → (x : CounterState) × (x.delta ≡ 0) × (x.updates ≡ 0) × TakesCounter s x t
+nothing_read s t None is reads still same = absurd (true≢false (sym is))
+nothing_read s t (Some answer) is reads still same = nothing_taken s t answer reads same (ap (λ (a : ℕ × ℕ). a.0) still) (ap (λ (a : ℕ × ℕ). a.1) still)
+
+pub unread_counter : (s t : CounterThing) (read : Option (ℕ × ℕ)) → is_some read ≡ false → IfNone read (t ≡ s) → t ≡ s
+unread_counter s t None is same = same
+unread_counter s t (Some answer) is same = absurd (true≢false is)
+
+-- one that is idle and in which nothing waits is passed over
+pub passed_over : (settings : DogStatsDSettings) (moment place : ℕ) (old new : List (LiveSeries CounterThing)) (marks : List Bool) (w : WriterText) (u : UpdateText) (found : CounterState) → found.delta ≡ 0 → found.updates ≡ 0
+    → ChangesAt place (λ c d. TakesCounter c found d) old new → idle_at marks place ≡ true → FlushesCounter settings moment place old new marks marks w w u u
+passed_over settings moment place old new marks w u found delta updates takes idle =
+    flushed_idle settings moment place old new marks marks w w u found (0, 0) (λ j. (sym delta j, sym updates j)) takes (mark-stays marks place idle) (record { same_limit = refl; same_start = refl; same_tags = refl }) refl idle
 
 -- the room that was made for the line is there when the counter was taken
 pub counter_room : (moment place : ℕ) (old mid : Exporter) (w v : WriterText) (d : CounterThing) → mid.series.counters ≡ with_cell_at old.series.counters place d

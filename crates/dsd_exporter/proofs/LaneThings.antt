@@ -36,6 +36,7 @@ use Rattle.dsd_exporter.specs.declared.lanes.SeriesEntry.TheVariants as entry
 use Rattle.dsd_exporter.specs.Exporter.{Exporter, CounterThing, GaugeThing, Queued, unused}
 use Rattle.dsd_exporter.specs.Lending.{with_one_out, with_one_back, queue_out, queue_back}
 use Rattle.dsd_exporter.specs.LanePasses.{IsPassOf, of_counter, of_gauge, of_histogram, counter_thing, gauge_thing, histogram_thing, things_of, ids_of, pass_known, unheard, frame_of}
+use Rattle.dsd_exporter.proofs.Taken.{with-same}
 
 -- ---- lists, one behind the other
 
@@ -108,11 +109,6 @@ module _ {X : Type 0} where
     put [] i cell = refl
     put (x ∷ es) zero cell = refl
     put (x ∷ es) (suc i) cell = ap (λ l. thing x ∷ l) (put es i cell)
-
-  same : (es : List (LiveSeries X)) (i : ℕ) (cell : X) → Got es i cell → with_cell_at es i cell ≡ es
-  same [] i cell e = refl
-  same (x ∷ es) zero cell e = (λ j. record x { cell = sym (same_Some x.cell cell e) j } ∷ es)
-  same (x ∷ es) (suc i) cell e = ap (λ l. x ∷ l) (same es i cell e)
 
   -- each cell as far as a round leaves it
   module _ (f : X → X) where
@@ -277,13 +273,13 @@ module _ (e : Exporter) where
 
   -- the same cell
   pub counter_kept : (place : ℕ) (cell new : CounterThing) → Got e.series.counters place cell → new ≡ cell → with_counter_at e place new ≡ e
-  counter_kept place cell new got is = ap (with_counter_at e place) is ∙ ap (λ l. record e { series = record e.series { counters = l } }) (same e.series.counters place cell got)
+  counter_kept place cell new got is = ap (with_counter_at e place) is ∙ ap (λ l. record e { series = record e.series { counters = l } }) (with-same e.series.counters place cell got)
 
   pub gauge_kept : (place : ℕ) (cell new : GaugeThing) → Got e.series.gauges place cell → new ≡ cell → with_gauge_at e place new ≡ e
-  gauge_kept place cell new got is = ap (with_gauge_at e place) is ∙ ap (λ l. record e { series = record e.series { gauges = l } }) (same e.series.gauges place cell got)
+  gauge_kept place cell new got is = ap (with_gauge_at e place) is ∙ ap (λ l. record e { series = record e.series { gauges = l } }) (with-same e.series.gauges place cell got)
 
   pub histogram_kept : (place : ℕ) (cell new : Queued) → Got e.series.histograms place cell → new ≡ cell → with_histogram_at e place new ≡ e
-  histogram_kept place cell new got is = ap (with_histogram_at e place) is ∙ ap (λ l. record e { series = record e.series { histograms = l } }) (same e.series.histograms place cell got)
+  histogram_kept place cell new got is = ap (with_histogram_at e place) is ∙ ap (λ l. record e { series = record e.series { histograms = l } }) (with-same e.series.histograms place cell got)
 
   -- ---- what lanes leave as it is
 

@@ -1,5 +1,5 @@
 -- Marks by their places, and set one after the other.
-use Rattle.std.proofs.Common.{◌≡◌, ◌≤◌, ◌<◌, ℕ, zero, suc, Bool, false, List, [], ◌∷◌, ◌++◌, length, refl, ap, arith, slice_index_or, slice_set}
+use Rattle.std.proofs.Common.{◌≡◌, ◌≤◌, ◌<◌, ℕ, zero, suc, Bool, true, false, true≢false, sym, List, [], ◌∷◌, ◌++◌, length, refl, ap, arith, slice_index_or, slice_set}
 use Rattle.flushed_cells.specs.declared.counter_state.CounterState.{CounterState}
 use Rattle.dsd_exporter.specs.State.{is_quiet, idle_at, marks_after}
 use Rattle.dsd_exporter.specs.Flushing.{with_mark}
@@ -38,3 +38,9 @@ mark-next [] x [] = refl
 mark-next [] x (mark ∷ marks) = refl
 mark-next (s ∷ found) x [] = ap (λ l. is_quiet s ∷ l) (mark-next found x [])
 mark-next (s ∷ found) x (mark ∷ marks) = ap (λ l. is_quiet s ∷ l) (mark-next found x marks)
+
+-- a mark that is there stays
+pub mark-stays : (marks : List Bool) (n : ℕ) → idle_at marks n ≡ true → marks ≡ with_mark n true marks
+mark-stays [] n e = absurd (true≢false (sym e))
+mark-stays (m ∷ marks) zero e = ap (λ b. b ∷ marks) e
+mark-stays (m ∷ marks) (suc n) e = ap (λ l. m ∷ l) (mark-stays marks n e)

@@ -36,6 +36,12 @@ module _ {X : Type 0} where
   length-with (s ∷ live) zero d = refl
   length-with (s ∷ live) (suc n) d = ap suc (length-with live n d)
 
+  -- the cell that is there changes nothing
+  pub with-same : (live : List (LiveSeries X)) (n : ℕ) (c : X) → option_map (λ (s : LiveSeries X). s.cell) (slice_get live n) ≡ Some c → with_cell_at live n c ≡ live
+  with-same [] n c at = refl
+  with-same (s ∷ live) zero c at = (λ j. record s { cell = sym (same_Some s.cell c at) j } ∷ live)
+  with-same (s ∷ live) (suc n) c at = ap (λ l. s ∷ l) (with-same live n c at)
+
 -- ---- one after the other
 
 pub length-next : {Y : Type 0} (found : List Y) (y : Y) → length (found ++ y ∷ []) ≡ length found + 1

@@ -2,7 +2,7 @@
 
 ghost use Rattle.std.specs.Prelude.{◌≡◌, IfOk, IfErr, Some, None, true};
 ghost use Rattle.dsd_addresses.specs.declared.faults.BuildError.TheVariants as causes;
-ghost use Rattle.dsd_addresses.specs.Remotes.{IsRemote, IsRefusal};
+ghost use Rattle.dsd_addresses.specs.Remotes.{IsRemote, IsRefusal, remote_text};
 ghost use Rattle.dsd_addresses.specs.Limits.{fault_of_limit};
 ghost use Rattle.dsd_exporter.specs.Builders.{IsDefault, limit_of, interval_of};
 
@@ -39,6 +39,25 @@ impl Model for DogStatsDBuilder {
       labels = builder.global_labels.items;
       configuration = builder.configuration;
     } };
+}
+
+/// The settings of a builder, with the payload limit and the flush interval that hold where none was set.
+#[derive(Drop)]
+pub struct BuilderParts {
+    /// Where lines are sent.
+    pub remote_addr: RemoteAddr,
+    /// The payload limit, in bytes.
+    pub max_payload_len: u64,
+    /// How long a write may take, in nanoseconds.
+    pub write_timeout: u64,
+    /// How long to wait between two flushes, in nanoseconds.
+    pub flush_interval: u64,
+    /// Whether sends on the caller's own thread were asked for.
+    pub synchronous: bool,
+    /// The labels that every line has, behind those of its series.
+    pub global_labels: Vec<Label>,
+    /// What the state is to be built with.
+    pub configuration: StateConfiguration,
 }
 
 impl DogStatsDBuilder {
@@ -209,6 +228,29 @@ impl DogStatsDBuilder {
             (Some(interval), _) => interval,
             (None, AggregationMode::Conservative) => 3_000_000_000,
             (None, AggregationMode::Aggressive) => 10_000_000_000,
+        }
+    }
+
+    /// The settings, each with its own field. It takes no memory.
+    pub fn into_parts(self) -> BuilderParts
+        ensures remote { remote_text result.remote_addr ≡ self.remote }
+        ensures limit { result.max_payload_len ≡ limit_of self }
+        ensures write_timeout { result.write_timeout ≡ self.write_timeout }
+        ensures interval { result.flush_interval ≡ interval_of self }
+        ensures synchronous { result.synchronous ≡ self.synchronous }
+        ensures labels { result.global_labels.items ≡ self.labels }
+        ensures configuration { result.configuration ≡ self.configuration }
+    {
+        let max_payload_len = self.get_max_payload_len();
+        let flush_interval = self.get_flush_interval();
+        BuilderParts {
+            remote_addr: self.remote_addr,
+            max_payload_len,
+            write_timeout: self.write_timeout,
+            flush_interval,
+            synchronous: self.synchronous,
+            global_labels: self.global_labels,
+            configuration: self.configuration,
         }
     }
 }

@@ -43,6 +43,16 @@ pub(crate) fn reserve_mark(marks: &mut Vec<bool>) -> Result<(), Memory>
     Ok(())
 }
 
+/// Whether the counter at a place is marked as idle.
+pub(crate) fn has_mark(marks: &[bool], place: usize) -> bool
+    ensures { result ≡ idle_at marks.now place }
+{
+    match marks.get(place) {
+        Some(mark) => *mark,
+        None => false,
+    }
+}
+
 /// Whether the counter at a place was marked as idle; it has this mark then. There is room for one more.
 pub(crate) fn replace_mark(marks: &mut Vec<bool>, place: usize, mark: bool) -> bool
     requires { vec_len marks.old < vec_capacity marks.old }

@@ -1,6 +1,7 @@
 //! A flush: what waits in each series is taken, written and counted, series by series.
 
-ghost use Rattle.std.specs.Prelude.{◌≡◌, ◌&&◌, ◌<◌, ℕ, ℤ, ◌^◌, List, ◌∷◌, [], length, decimal, vec_len, vec_capacity, OnOk, OnErr, FitsSigned};
+ghost use Rattle.std.specs.Prelude.{◌≡◌, ◌&&◌, ◌<◌, ℕ, ℤ, ◌^◌, List, ◌∷◌, [], length, decimal, vec_len, vec_capacity, OnOk, OnErr, FitsSigned, true};
+ghost use Rattle.std.specs.Bool.{OnTrue, OnFalse};
 ghost use Rattle.std.specs.Int.{w64};
 ghost use Rattle.metrics_core.specs.Keys.{KeyText};
 ghost use Rattle.metrics_core.specs.Numbers.{dogstatsd_number};
@@ -8,10 +9,11 @@ ghost use Rattle.dsd_writer.specs.Lines.{lines_of};
 ghost use Rattle.dsd_writer.specs.Writers.{HasRoomFor, SameSettings};
 ghost use Rattle.flushed_cells.specs.declared.counter_state.CounterState.{CounterState};
 ghost use Rattle.flushed_cells.specs.declared.gauge_state.GaugeState.{GaugeState};
+ghost use Rattle.dsd_exporter.specs.State.{idle_at};
 ghost use Rattle.dsd_exporter.specs.Exporter.{AllHome};
 ghost use Rattle.dsd_exporter.specs.Flushing.{Found, Flushes, FlushesAll, IsWhole, HasKeyAt, ChangesAt, TakesCounter, TakesGauge, WritesOne, Sends, FlushesCounter, FlushesGauge, CountersFlushed, GaugesFlushed, counter_line, gauge_line};
 
-use crate::flush_state::{FlushState, replace_mark, reserve_mark};
+use crate::flush_state::{FlushState, has_mark, replace_mark, reserve_mark};
 use crate::state::State;
 use crate::update::TelemetryUpdate;
 use dsd_writer::{PayloadWriter, WriteResult};
@@ -56,6 +58,30 @@ impl State {
         self.series.counter_at(place).read(rt)
     }
 
+    /// Takes what waits in the counter at a place where that is nothing: no delta, and no updates. Elsewhere nothing changes.
+    fn take_nothing<R: Wait>(&mut self, rt: &R, place: usize) -> bool
+        requires { place < length self.old.series.counters }
+        ensures taken { OnTrue result ((found : CounterState) × (found.delta ≡ 0) × (found.updates ≡ 0)
+            × ChangesAt place (λ c d. TakesCounter c found d) self.old.series.counters self.new.series.counters) }
+        ensures none { OnFalse result (self.new ≡ self.old) }
+        ensures others { self.new ≡ record self.old { series = record self.old.series { counters = self.new.series.counters } } }
+    {
+        let read = self.series.counter_at(place).read_still(rt);
+        read.is_some()
+    }
+
+    /// Flushes the counter at a place where it is idle and nothing waits in it: it is not sent, and stays idle. Elsewhere
+    /// nothing changes.
+    fn pass_over_counter<R: Wait>(&mut self, rt: &R, place: usize, marks: &[bool]) -> bool
+        requires { place < length self.old.series.counters }
+        ensures taken { OnTrue result ((idle_at marks.now place ≡ true) × (found : CounterState) × (found.delta ≡ 0) × (found.updates ≡ 0)
+            × ChangesAt place (λ c d. TakesCounter c found d) self.old.series.counters self.new.series.counters) }
+        ensures none { OnFalse result (self.new ≡ self.old) }
+        ensures others { self.new ≡ record self.old { series = record self.old.series { counters = self.new.series.counters } } }
+    {
+        has_mark(marks, place) && self.take_nothing(rt, place)
+    }
+
     /// Writes the line of the counter at a place, for which there is room.
     fn write_counter(
         &self,
@@ -81,8 +107,9 @@ impl State {
         written
     }
 
-    /// Flushes the counter at a place. Where memory is refused nothing changes.
-    fn flush_counter<R: Wait>(
+    /// Flushes the counter at a place, whatever waits in it: the room of its line is made first. Where memory is refused nothing
+    /// changes.
+    fn take_and_write_counter<R: Wait>(
         &mut self,
         rt: &R,
         place: usize,
@@ -109,6 +136,29 @@ impl State {
         let written = self.write_counter(place, delta, moment, writer);
         telemetry.count_number(MetricKind::Counter, updates, &written);
         Ok(())
+    }
+
+    /// Flushes the counter at a place. Where memory is refused nothing changes.
+    fn flush_counter<R: Wait>(
+        &mut self,
+        rt: &R,
+        place: usize,
+        marks: &mut Vec<bool>,
+        writer: &mut PayloadWriter,
+        telemetry: &mut TelemetryUpdate,
+        moment: u64,
+    ) -> Result<(), Memory>
+        requires { place < length self.old.series.counters }
+        ensures flushed { OnOk result (FlushesCounter self.old.settings moment place self.old.series.counters self.new.series.counters
+            marks.old.items marks.new.items writer.old writer.new telemetry.old telemetry.new) }
+        ensures others { self.new ≡ record self.old { series = record self.old.series { counters = self.new.series.counters } } }
+        ensures refused { OnErr result ((self.new.series.counters ≡ self.old.series.counters) × (marks.new.items ≡ marks.old.items)
+            × Sends [] writer.old writer.new telemetry.old telemetry.new) }
+    {
+        if self.pass_over_counter(rt, place, marks.as_slice()) {
+            return Ok(());
+        }
+        self.take_and_write_counter(rt, place, marks, writer, telemetry, moment)
     }
 
     /// Flushes all counters, in order. Where memory is refused those before the refused one were flushed.

@@ -27,7 +27,7 @@ mod socket_link;
 mod state;
 mod update;
 
-pub use builder::DogStatsDBuilder;
+pub use builder::{BuilderParts, DogStatsDBuilder};
 pub use configuration::{AggregationMode, StateConfiguration};
 pub use dsd_addresses::{
     BuildError, LimitFault, RemoteAddr, limit_fault, remote_texts_have_one_reading,

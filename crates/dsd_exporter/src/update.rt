@@ -171,6 +171,83 @@ impl TelemetryUpdate {
         self.count_series(kind, points, written.points_dropped());
     }
 
+    /// The counters that were sent, modulo 2^64.
+    pub fn counter_contexts(&self) -> u64
+        ensures { result ≡ self.now.counter_contexts }
+    {
+        self.counter_contexts
+    }
+
+    /// The gauges that were sent, modulo 2^64.
+    pub fn gauge_contexts(&self) -> u64
+        ensures { result ≡ self.now.gauge_contexts }
+    {
+        self.gauge_contexts
+    }
+
+    /// The histograms that were sent, modulo 2^64.
+    pub fn histogram_contexts(&self) -> u64
+        ensures { result ≡ self.now.histogram_contexts }
+    {
+        self.histogram_contexts
+    }
+
+    /// The updates of counters that lines tell of, modulo 2^64.
+    pub fn counter_points(&self) -> u64
+        ensures { result ≡ self.now.counter_points }
+    {
+        self.counter_points
+    }
+
+    /// The updates of gauges that lines tell of, modulo 2^64.
+    pub fn gauge_points(&self) -> u64
+        ensures { result ≡ self.now.gauge_points }
+    {
+        self.gauge_points
+    }
+
+    /// The samples of histograms that lines tell of, modulo 2^64.
+    pub fn histogram_points(&self) -> u64
+        ensures { result ≡ self.now.histogram_points }
+    {
+        self.histogram_points
+    }
+
+    /// The payloads that were sent, modulo 2^64.
+    pub fn packets_sent(&self) -> u64
+        ensures { result ≡ self.now.packets_sent }
+    {
+        self.packets_sent
+    }
+
+    /// The bytes of the payloads that were sent, modulo 2^64.
+    pub fn bytes_sent(&self) -> u64
+        ensures { result ≡ self.now.bytes_sent }
+    {
+        self.bytes_sent
+    }
+
+    /// The payloads whose send failed, modulo 2^64.
+    pub fn packets_unsent(&self) -> u64
+        ensures { result ≡ self.now.packets_unsent }
+    {
+        self.packets_unsent
+    }
+
+    /// The bytes of the payloads whose send failed, modulo 2^64.
+    pub fn bytes_unsent(&self) -> u64
+        ensures { result ≡ self.now.bytes_unsent }
+    {
+        self.bytes_unsent
+    }
+
+    /// The series of which points were left out, modulo 2^64.
+    pub fn failed_serializations(&self) -> u64
+        ensures { result ≡ self.now.failed_serializations }
+    {
+        self.failed_serializations
+    }
+
     /// The points that were left out, modulo 2^64. It is none of the exporter's own counters.
     pub(crate) fn points_left_out(&self) -> u64
         ensures { result ≡ self.now.points_left_out }
