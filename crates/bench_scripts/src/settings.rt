@@ -17,20 +17,7 @@ pub fn bench_settings(alloc: Global) -> Result<Settings, Memory>
 {
     let mut bounds = Vec::with_capacity(alloc, 1)?;
     bounds.push(BOUND)?;
-    Ok(Settings {
-        quantiles: None,
-        buckets: Some(bounds),
-        buckets_for: Vec::new(alloc),
-        native_for: Vec::new(alloc),
-        summary: None,
-        idle: None,
-        naming: false,
-        units: false,
-        globals: Vec::new(alloc),
-        dsd_limit: None,
-        dsd_aggressive: false,
-        dsd_prefix: None,
-        dsd_globals: Vec::new(alloc),
-        dsd_histograms: false,
-    })
+    let mut settings = Settings::new(alloc);
+    settings.buckets = Some(bounds);
+    Ok(settings)
 }

@@ -52,8 +52,8 @@ pub struct Settings {
 }
 
 impl Settings {
-    /// No header line.
-    pub(crate) fn new(alloc: Global) -> Settings
+    /// The settings of a script without header lines.
+    pub fn new(alloc: Global) -> Settings
         ensures { settings_of result ≡ only_globals [] }
     {
         Settings {

@@ -1,5 +1,11 @@
 //! Pages of several exporters: a stream of pages is read, its first bad line is named where it is none, pages are merged,
-//! and pages are written (Prometheus text exposition format, version 0.0.4).
+//! and pages are written (Prometheus text exposition format, version 0.0.4). A `Page` has families, a `Family` rows, and a
+//! `RelayFault` says which line is bad or which family does not merge.
+//!
+//! The pages of a stream made one, and written:
+//!
+//!     let pages = read_pages(alloc, &bytes)?;
+//!     write_page(alloc, &merge(alloc, &pages)?, &mut out)?;
 #![tactic(auto)]
 
 mod cursor;
