@@ -114,7 +114,8 @@ pub fn run<
         (λ bytes. (page : ℕ) × (name : List ℕ) × IsUnmergeable bytes page name) }
 
     // After 2 to 6, 10 and 11 nothing was written or sent, and no connection accepted; after 7 a prefix of the pages and the flushes of the first
-    // rounds; after 8 such a prefix and such flushes, or nothing. Only `drive` touches the link, only `serve` the listener; `serve` writes no page, and `bench` reads nothing.
+    // rounds; after 8 such a prefix and such flushes, or nothing. Only `drive` touches the link, only `serve` the listener; `serve` writes no page, `bench` reads nothing, and
+    // words that are no form do neither.
     ensures unplayed { IsUnplayed result → K.written out.new ≡ K.written out.old }
     ensures unsent { IsUnplayed result → L.sent link.new ≡ L.sent link.old }
     ensures unserved { IsUnplayed result → listener.new ≡ listener.old }
@@ -123,6 +124,7 @@ pub fn run<
         (record { sent = L.sent link.old; faults = L.faults link.old }) (record { sent = L.sent link.new; faults = L.faults link.new })) }
     ensures only_drive_sends { ¬ IsDriveWords (texts_of words.now) → link.new ≡ link.old }
     ensures only_serve_listens { ¬ IsServeWords (texts_of words.now) → listener.new ≡ listener.old }
+    ensures no_form_leaves { ¬ IsForm (texts_of words.now) → (out.new ≡ out.old) × (source.new ≡ source.old) }
     ensures serve_writes_none { IsServeWords (texts_of words.now) → out.new ≡ out.old }
     ensures bench_reads_none { IsBenchWords (texts_of words.now) → source.new ≡ source.old }
     ensures prefix { IsDriveWords (texts_of words.now) → result ≡ 7 → IfSome (S.left source.old)
