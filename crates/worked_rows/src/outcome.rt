@@ -1,7 +1,7 @@
 //! What comes of a row, beside what must come.
 
 use crate::peers::{add_peers, answers_of};
-use crate::row::{Device, Row};
+use crate::row::{Cut, Device, Row, with_number};
 use dsd_exporter::MemoryLink;
 use metrics_core::{MemorySink, MemorySource};
 use prom_serve::MemoryListener;
@@ -12,7 +12,7 @@ use std::net::{Net, TcpListener, TcpStream};
 use std::rt::Files;
 use std::sync::Wait;
 use std::thread::Threads;
-use std::{fs, io};
+use std::{fs, io, str};
 
 /// What a run ended with, wrote, said, sent and answered.
 #[derive(Drop)]
@@ -212,8 +212,47 @@ fn is_other<R: Files + AllocGlobal>(
     }
 }
 
-/// The file of a row with an ending, or that of the row which it is like.
+/// The file of a row with an ending, as the row's run takes it.
 fn file<R: Files + AllocGlobal>(
+    rt: &R,
+    alloc: Global,
+    row: &Row,
+    ending: &str,
+) -> io::Result<Option<Vec<u8>>> {
+    let Some(mut bytes) = file_of(rt, alloc, row, ending)? else {
+        return Ok(None);
+    };
+    for cut in &row.cuts {
+        if cut.file.as_str() == ending {
+            leave_out(&mut bytes, cut)?;
+        }
+    }
+    if ending == "peers" || ending == "answers" {
+        return Ok(Some(numbered(alloc, bytes, &row.number)?));
+    }
+    Ok(Some(bytes))
+}
+
+/// Leaves bytes of a file out, which must be there.
+fn leave_out(bytes: &mut Vec<u8>, cut: &Cut) -> io::Result<()> {
+    let (from, to) = (cut.from, cut.to);
+    if to < from || bytes.len() < to {
+        return Err(io::Error::from(ErrorKind::InvalidData));
+    }
+    bytes.drain(from..to);
+    Ok(())
+}
+
+/// The bytes of a file in which the number of a run stands for each `{run}`, where they are text.
+fn numbered(alloc: Global, bytes: Vec<u8>, number: &str) -> io::Result<Vec<u8>> {
+    match str::from_utf8(&bytes) {
+        Ok(text) => Ok(with_number(alloc, text, number)?.into_bytes()),
+        Err(_) => Ok(bytes),
+    }
+}
+
+/// The file of a row with an ending, or that of the row which it is like.
+fn file_of<R: Files + AllocGlobal>(
     rt: &R,
     alloc: Global,
     row: &Row,
@@ -249,8 +288,9 @@ fn print_outcome<R: AllocGlobal + Print>(
     let pages = String::from_utf8_lossy(alloc, &outcome.pages)?;
     let said = String::from_utf8_lossy(alloc, &outcome.said)?;
     println!(rt;
-        "{} differs: status {}, said {}",
+        "{} differs in run {}: status {}, said {}",
         row.name,
+        row.number,
         outcome.status,
         said.trim()
     )?;
