@@ -1,0 +1,7 @@
+//! Tests of recorders and their handles.
+#![tactic(auto)]
+
+#[cfg(test)]
+mod idle_series;
+#[cfg(test)]
+mod prometheus;
