@@ -1,0 +1,4 @@
+pub mod Added
+pub mod Given
+pub mod Registered
+pub mod Runs

@@ -1,0 +1,148 @@
+//! With ample memory, a forwarder's first run sends what was counted, and its second one what the first one did.
+
+use dsd_exporter::{BuildError, DogStatsDBuilder, MemoryLink};
+use dsd_forwarder::*;
+use metrics_core::{Key, Lcg, Level, Memory, Metadata};
+use metrics_facade::{Recorder, RecorderOnceCell};
+use std::alloc::Global;
+use std::str;
+use std::sync::Wait;
+use std::test::Fail;
+
+/// Counts once at a recorder.
+fn count<R: Wait>(rt: &R, alloc: Global, recorder: &DogStatsDRecorder) -> Result<(), Memory> {
+    let metadata = Metadata::new("tests", Level::INFO, None);
+    let key = Key::from_static_name("c");
+    let mut counter = HeldCounter::new(recorder.register_counter(rt, alloc, &key, &metadata)?);
+    counter.increment(rt, 1);
+    Ok(())
+}
+
+/// Records the values 1 to 5 at a recorder.
+fn record<R: Wait>(rt: &R, alloc: Global, recorder: &DogStatsDRecorder) -> Result<(), Fail> {
+    let metadata = Metadata::new("tests", Level::INFO, None);
+    let key = Key::from_static_name("h");
+    let lent = recorder.register_histogram(rt, alloc, &key, &metadata)?;
+    let mut histogram = HeldHistogram::new(lent);
+    for value in 1..6u8 {
+        histogram.record(rt, alloc, value)?;
+    }
+    Ok(())
+}
+
+/// Whether the payload at a place has this line at a place.
+fn has_line(link: &MemoryLink, payload: usize, place: usize, line: &str) -> bool {
+    let Some(sent) = link.sent().get(payload) else {
+        return false;
+    };
+    match str::from_utf8(sent.bytes()) {
+        Ok(text) => text.lines().nth(place) == Some(line),
+        Err(_) => false,
+    }
+}
+
+/// What a run of the forwarder is to send.
+#[derive(Clone, Copy)]
+enum Look {
+    /// One counter, and in the next run the exporter's own.
+    OwnCounters,
+    /// Two of five samples.
+    Samples,
+}
+
+/// The first run sends the counter alone, and the second one the exporter's own counters behind it.
+fn sends_own<R: Wait>(
+    rt: &R,
+    alloc: Global,
+    forwarder: &mut Forwarder,
+    link: &mut MemoryLink,
+) -> Result<bool, Memory> {
+    let mut words = Lcg::new(0);
+    forwarder.run_once(rt, alloc, 0, &mut words, link)?;
+    let alone = link.sent().len() == 1 && link.sent()[0].bytes() == b"c:1|c\n".as_slice();
+    forwarder.run_once(rt, alloc, 0, &mut words, link)?;
+    let own =
+        "datadog.dogstatsd.client.packets_sent:1|c|#client:rust,client_version:0.9.8,client_transport:udp";
+    Ok(alone && has_line(link, 1, 0, "c:0|c") && has_line(link, 1, 5, own))
+}
+
+/// The three words behind 0 have the rests 1, 2 and 3 modulo 3, 4 and 5: so the third value takes the second place, and the
+/// last two have none.
+fn sends_samples<R: Wait>(
+    rt: &R,
+    alloc: Global,
+    forwarder: &mut Forwarder,
+    link: &mut MemoryLink,
+) -> Result<bool, Memory> {
+    forwarder.run_once(rt, alloc, 0, &mut Lcg::new(0), link)?;
+    Ok(link.sent().len() == 1 && link.sent()[0].bytes() == b"h:1.0:3.0|d|@0.4\n".as_slice())
+}
+
+fn look_at<R: Wait>(
+    rt: &R,
+    alloc: Global,
+    recorder: &DogStatsDRecorder,
+    forwarder: &mut Forwarder,
+    link: &mut MemoryLink,
+    look: Look,
+) -> Result<bool, Fail> {
+    match look {
+        Look::OwnCounters => {
+            count(rt, alloc, recorder)?;
+            Ok(sends_own(rt, alloc, forwarder, link)?)
+        }
+        Look::Samples => {
+            record(rt, alloc, recorder)?;
+            Ok(sends_samples(rt, alloc, forwarder, link)?)
+        }
+    }
+}
+
+/// A recorder and a forwarder that samples with room for two values.
+fn built(alloc: Global) -> Result<(DogStatsDRecorder, Forwarder), BuildError> {
+    let Ok(builder) = DogStatsDBuilder::new(alloc) else {
+        return Err(BuildError::Memory);
+    };
+    builder
+        .with_histogram_sampling(true)
+        .with_histogram_reservoir_size(2)
+        .build(alloc)
+}
+
+/// Whether it holds of a new recorder and its forwarder. Here alone they are dropped.
+fn holds<R: Wait>(rt: &R, alloc: Global, look: Look) -> Result<bool, Fail> {
+    let (recorder, mut forwarder) = built(alloc)?;
+    let mut link = MemoryLink::new(alloc, Vec::new(alloc));
+    look_at(rt, alloc, &recorder, &mut forwarder, &mut link, look)
+}
+
+/// Installs a recorder, and answers whether it is refused since there is one.
+fn is_there(alloc: Global, cell: &RecorderOnceCell<DogStatsDRecorder>) -> Result<bool, Memory> {
+    let builder = DogStatsDBuilder::new(alloc)?;
+    match builder.install(alloc, cell, &mut cell.note()) {
+        Ok(_forwarder) => Ok(false),
+        Err(BuildError::FailedToInstall) => Ok(true),
+        Err(_) => Err(Memory),
+    }
+}
+
+#[test]
+fn a_run_sends_what_the_last_one_did(rt: HostRuntime) -> Result<(), Fail> {
+    assert!(rt; holds(&rt, rt.alloc(), Look::OwnCounters)?);
+    Ok(())
+}
+
+#[test]
+fn a_sample_is_sent_with_its_rate(rt: HostRuntime) -> Result<(), Fail> {
+    assert!(rt; holds(&rt, rt.alloc(), Look::Samples)?);
+    Ok(())
+}
+
+#[test]
+fn a_second_recorder_is_refused(rt: HostRuntime) -> Result<(), Fail> {
+    let cell = RecorderOnceCell::new(rt.alloc());
+    let first = is_there(rt.alloc(), &cell)?;
+    let second = is_there(rt.alloc(), &cell)?;
+    assert!(rt; !first && second);
+    Ok(())
+}
