@@ -1,4 +1,5 @@
 pub mod Live
+pub mod KeyLists
 pub mod Places
 pub mod Retained
 pub mod Stored

@@ -1,5 +1,5 @@
 -- A sample of values that come one after another (reservoir sampling with words that are handed in; this project's rule).
-use Rattle.std.specs.Prelude.{◌≡◌, ℕ, ◌+◌, ◌-◌, ◌*◌, ◌/◌, ◌%◌, ◌<◌, ◌≤◌, min, max, nat_lt, nat_le, List, [], ◌∷◌, ◌++◌, length, drop, slice_set, ℤ, pos, if◌then◌else◌}
+use Rattle.std.specs.Prelude.{ℕ, ◌-◌, ◌*◌, ◌/◌, ◌%◌, max, nat_lt, nat_le, List, [], ◌∷◌, ◌++◌, length, drop, slice_set, pos, if◌then◌else◌}
 use Rattle.metrics_core.specs.declared.numbers.Fixed.{Fixed as FixedOf}
 use Rattle.metrics_core.specs.Devices.{one_more}
 use Rattle.metrics_core.specs.Numbers.{one}

@@ -7,7 +7,7 @@ ghost use Rattle.metrics_core.specs.Keys.{KeyText};
 ghost use Rattle.metrics_registry.specs.Live.{LiveSeries, id_of_key, cell_of, is_live, with_last, without};
 ghost use Rattle.metrics_registry.specs.Retained.{AskedAt, Retains};
 
-use indexmap::IndexSet;
+use crate::key_list::KeyList;
 use metrics_core::{Key, Memory, SeriesId};
 use std::alloc::Global;
 use std::marker::Model;
@@ -39,7 +39,7 @@ impl<T> Column<T> {
     }
 
     /// Makes room for so many more series.
-    pub(crate) fn reserve(&mut self, keys: &mut IndexSet<Key>, count: usize) -> Result<(), Memory>
+    pub(crate) fn reserve(&mut self, keys: &mut KeyList, count: usize) -> Result<(), Memory>
         ensures keys { keys.new.keys ≡ keys.old.keys }
         ensures items { self.new.items.items ≡ self.old.items.items }
     {
@@ -49,11 +49,11 @@ impl<T> Column<T> {
     }
 
     /// The id of the series with an equal key.
-    pub(crate) fn find(&self, keys: &IndexSet<Key>, key: &Key) -> Option<SeriesId>
+    pub(crate) fn find(&self, keys: &KeyList, key: &Key) -> Option<SeriesId>
         requires { AreStored keys.now.keys self.now.items.items }
         ensures { result ≡ id_of_key key.now (live_of keys.now.keys self.now.items.items) }
     {
-        let place = keys.get_index_of(key)?;
+        let place = keys.place_of(key)?;
         Some(self.items[place].id)
     }
 
@@ -112,7 +112,7 @@ impl<T> Column<T> {
     /// Adds a series behind the others. Where memory is refused, key and cell come back.
     pub(crate) fn add(
         &mut self,
-        keys: &mut IndexSet<Key>,
+        keys: &mut KeyList,
         key: Key,
         id: SeriesId,
         cell: T,
@@ -134,17 +134,17 @@ impl<T> Column<T> {
                 return Err((key, cell));
             }
         }
-        match keys.insert(key) {
-            Ok(_) => Ok(()),
-            Err(refused) => {
+        match keys.push(key) {
+            Ok(()) => Ok(()),
+            Err(key) => {
                 let Series { id: _, cell } = self.items.pop().unwrap();
-                Err((refused.value, cell))
+                Err((key, cell))
             }
         }
     }
 
     /// Removes the series with the id. The others keep their order.
-    pub(crate) fn delete(&mut self, keys: &mut IndexSet<Key>, id: SeriesId) -> bool
+    pub(crate) fn delete(&mut self, keys: &mut KeyList, id: SeriesId) -> bool
     where
         T: Drop,
         requires { AreStored keys.old.keys self.old.items.items }
@@ -155,7 +155,7 @@ impl<T> Column<T> {
     {
         match self.place(id) {
             Some(place) => {
-                remove_key(keys, place);
+                keys.remove(place);
                 let _series = self.items.remove(place);
                 true
             }
@@ -166,7 +166,7 @@ impl<T> Column<T> {
     /// Keeps the series for which a test holds, in one pass and in their order. The test may change the cells.
     pub(crate) fn retain<F: FnMut(SeriesId, &mut T) -> bool>(
         &mut self,
-        keys: &mut IndexSet<Key>,
+        keys: &mut KeyList,
         mut keep: F,
     )
     where
@@ -189,7 +189,7 @@ impl<T> Column<T> {
     }
 
     /// Takes the last series away, as if it had never been added.
-    pub(crate) fn take_back(&mut self, keys: &mut IndexSet<Key>)
+    pub(crate) fn take_back(&mut self, keys: &mut KeyList)
     where
         T: Drop,
         requires { AreStored keys.old.keys self.old.items.items }
@@ -204,7 +204,7 @@ impl<T> Column<T> {
     }
 
     /// The series in order.
-    pub(crate) fn iter<'a>(&'a self, keys: &'a IndexSet<Key>) -> SeriesIter<'a, T>
+    pub(crate) fn iter<'a>(&'a self, keys: &'a KeyList) -> SeriesIter<'a, T>
         ensures { result ≡ live_of keys.now.keys self.now.items.items }
     {
         SeriesIter {
@@ -225,7 +225,7 @@ fn ask<T, F: FnMut(SeriesId, &mut T) -> bool>(keep: &mut F, series: &mut Series<
 }
 
 /// Exchanges the series at a place with one that stands before it; at the same place nothing moves.
-fn move_up<T>(keys: &mut IndexSet<Key>, items: &mut Vec<Series<T>>, to: usize, from: usize)
+fn move_up<T>(keys: &mut KeyList, items: &mut Vec<Series<T>>, to: usize, from: usize)
     requires before { to ≤ from }
     requires keys { from < length keys.old.keys }
     requires items { from < length items.old.items }
@@ -234,15 +234,8 @@ fn move_up<T>(keys: &mut IndexSet<Key>, items: &mut Vec<Series<T>>, to: usize, f
 {
     if to < from {
         items.swap(to, from);
-        keys.swap_indices(to, from);
+        keys.swap(to, from);
     }
-}
-
-/// Removes the key at a place. The others keep their order.
-fn remove_key(keys: &mut IndexSet<Key>, place: usize)
-    ensures { keys.new.keys ≡ remove keys.old.keys place }
-{
-    keys.shift_remove_index(place);
 }
 
 /// The live series of one kind, in order of registration: of each its id, its key and its cell. A contract sees it as

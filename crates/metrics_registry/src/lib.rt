@@ -10,6 +10,7 @@
 mod bag;
 mod columns;
 mod cumulative;
+mod key_list;
 mod laws;
 mod quantiles;
 mod ranks;

@@ -9,21 +9,21 @@ ghost use Rattle.metrics_registry.specs.Places.{IsPlace};
 ghost use Rattle.metrics_registry.specs.Retained.{Retains};
 
 use crate::columns::{Column, SeriesIter};
-use indexmap::IndexSet;
+use crate::key_list::KeyList;
 use metrics_core::{Key, Memory, MetricKind, SeriesId};
 use std::alloc::Global;
 use std::marker::Model;
 
 /// The live series of a state: those of each kind in order of registration, each with its id, its key and its cell.
 /// Numbers of ids count all series that were ever made in it, whatever their kind. Look-ups by a key take constant time,
-/// those by an id logarithmic time.
+/// or, among keys of one hash, logarithmic time; those by an id take logarithmic time.
 #[derive(Drop)]
 pub struct Registry<C, G, H> {
-    counter_keys: IndexSet<Key>,
+    counter_keys: KeyList,
     counters: Column<C>,
-    gauge_keys: IndexSet<Key>,
+    gauge_keys: KeyList,
     gauges: Column<G>,
-    histogram_keys: IndexSet<Key>,
+    histogram_keys: KeyList,
     histograms: Column<H>,
     made: u64,
 }
@@ -54,11 +54,11 @@ impl<C: Drop, G: Drop, H: Drop> Registry<C, G, H> {
         ensures no_memory { IsOk result }
     {
         Ok(Registry {
-            counter_keys: IndexSet::new(alloc),
+            counter_keys: KeyList::new(alloc),
             counters: Column::new(alloc),
-            gauge_keys: IndexSet::new(alloc),
+            gauge_keys: KeyList::new(alloc),
             gauges: Column::new(alloc),
-            histogram_keys: IndexSet::new(alloc),
+            histogram_keys: KeyList::new(alloc),
             histograms: Column::new(alloc),
             made: 0,
         })

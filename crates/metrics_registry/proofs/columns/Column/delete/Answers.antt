@@ -15,13 +15,13 @@ returns-in-Some-clause-was_live g c =
 
 pub returns-in-Some-clause-rest : goal.returns-in-Some-clause-rest
 returns-in-Some-clause-rest g c =
-    (λ j. live_of (c.remove_key.ensures j) (c.remove-series.ensures.items j))
+    (λ j. live_of (c.remove.ensures j) (c.remove-series.ensures.items j))
     ∙ live_of-remove c.args.keys.now.keys c.args.self.now.items.items c.in-Some.place c.requires.beside
     ∙ without-place c.args.id (live_of c.args.keys.now.keys c.args.self.now.items.items) c.in-Some.place c.requires.rises (c.in-Some.ensures c.args.keys.now.keys c.requires)
 
 pub returns-in-Some-clause-stored : goal.returns-in-Some-clause-stored
 returns-in-Some-clause-stored g c =
-    rw (c.remove_key.ensures, c.remove-series.ensures.items)
+    rw (c.remove.ensures, c.remove-series.ensures.items)
     (stored-remove c.args.keys.now.keys c.args.self.now.items.items c.args.id c.in-Some.place c.requires (c.in-Some.ensures c.args.keys.now.keys c.requires))
 
 pub returns-in-None-clause-rest : goal.returns-in-None-clause-rest
