@@ -1,8 +1,8 @@
 //! With ample memory, a forwarder's first run sends what was counted, and its second one what the first one did.
 
-use dsd_exporter::{BuildError, DogStatsDBuilder, MemoryLink};
+use dsd_exporter::{AggregationMode, BuildError, DogStatsDBuilder, MemoryLink};
 use dsd_forwarder::*;
-use metrics_core::{Key, Lcg, Level, Memory, Metadata};
+use metrics_core::{Key, Label, Lcg, Level, Memory, Metadata};
 use metrics_facade::{Recorder, RecorderOnceCell};
 use std::alloc::Global;
 use std::str;
@@ -30,6 +30,21 @@ fn record<R: Wait>(rt: &R, alloc: Global, recorder: &DogStatsDRecorder) -> Resul
     Ok(())
 }
 
+/// Calls a counter and a gauge.
+fn count_and_set<R: Wait>(rt: &R, alloc: Global, recorder: &DogStatsDRecorder) -> Result<(), Fail> {
+    let metadata = Metadata::new("tests", Level::INFO, None);
+    let key = Key::from_static_name("c");
+    let mut counter = HeldCounter::new(recorder.register_counter(rt, alloc, &key, &metadata)?);
+    counter.absolute(rt, 42);
+    counter.absolute(rt, 108);
+    let key = Key::from_static_name("g");
+    let mut gauge = HeldGauge::new(recorder.register_gauge(rt, alloc, &key, &metadata)?);
+    gauge.set(rt, 3u8)?;
+    gauge.increment(rt, 2u8)?;
+    gauge.decrement(rt, 1u8)?;
+    Ok(())
+}
+
 /// Whether the payload at a place has this line at a place.
 fn has_line(link: &MemoryLink, payload: usize, place: usize, line: &str) -> bool {
     let Some(sent) = link.sent().get(payload) else {
@@ -48,6 +63,8 @@ enum Look {
     OwnCounters,
     /// Two of five samples.
     Samples,
+    /// A counter and a gauge, as the settings say.
+    Settings,
 }
 
 /// The first run sends the counter alone, and the second one the exporter's own counters behind it.
@@ -78,6 +95,18 @@ fn sends_samples<R: Wait>(
     Ok(link.sent().len() == 1 && link.sent()[0].bytes() == b"h:1.0:3.0|d|@0.4\n".as_slice())
 }
 
+/// The lines have the prefix, the label of all lines, and the moment in whole seconds.
+fn sends_with_settings<R: Wait>(
+    rt: &R,
+    alloc: Global,
+    forwarder: &mut Forwarder,
+    link: &mut MemoryLink,
+) -> Result<bool, Memory> {
+    forwarder.run_once(rt, alloc, 2_500_000_000, &mut Lcg::new(0), link)?;
+    let lines = b"p.c:66|c|#e:f|T2\np.g:4.0|g|#e:f|T2\n".as_slice();
+    Ok(link.sent().len() == 1 && link.sent()[0].bytes() == lines)
+}
+
 fn look_at<R: Wait>(
     rt: &R,
     alloc: Global,
@@ -95,14 +124,37 @@ fn look_at<R: Wait>(
             record(rt, alloc, recorder)?;
             Ok(sends_samples(rt, alloc, forwarder, link)?)
         }
+        Look::Settings => {
+            count_and_set(rt, alloc, recorder)?;
+            Ok(sends_with_settings(rt, alloc, forwarder, link)?)
+        }
     }
 }
 
-/// A recorder and a forwarder that samples with room for two values.
-fn built(alloc: Global) -> Result<(DogStatsDRecorder, Forwarder), BuildError> {
+/// A builder with settings of lines.
+fn with_settings(alloc: Global, builder: DogStatsDBuilder) -> Result<DogStatsDBuilder, Memory> {
+    let mut labels = Vec::new(alloc);
+    labels.push(Label::from_static_parts("e", "f"))?;
+    let prefix = String::from_str(alloc, "p")?;
+    Ok(
+        builder
+            .with_global_labels(labels)
+            .set_global_prefix(prefix)
+            .with_aggregation_mode(AggregationMode::Aggressive),
+    )
+}
+
+/// A recorder and a forwarder: with settings of lines, or with sampling and room for two values.
+fn built(alloc: Global, look: Look) -> Result<(DogStatsDRecorder, Forwarder), BuildError> {
     let Ok(builder) = DogStatsDBuilder::new(alloc) else {
         return Err(BuildError::Memory);
     };
+    if let Look::Settings = look {
+        let Ok(builder) = with_settings(alloc, builder) else {
+            return Err(BuildError::Memory);
+        };
+        return builder.build(alloc);
+    }
     builder
         .with_histogram_sampling(true)
         .with_histogram_reservoir_size(2)
@@ -111,7 +163,7 @@ fn built(alloc: Global) -> Result<(DogStatsDRecorder, Forwarder), BuildError> {
 
 /// Whether it holds of a new recorder and its forwarder. Here alone they are dropped.
 fn holds<R: Wait>(rt: &R, alloc: Global, look: Look) -> Result<bool, Fail> {
-    let (recorder, mut forwarder) = built(alloc)?;
+    let (recorder, mut forwarder) = built(alloc, look)?;
     let mut link = MemoryLink::new(alloc, Vec::new(alloc));
     look_at(rt, alloc, &recorder, &mut forwarder, &mut link, look)
 }
@@ -135,6 +187,12 @@ fn a_run_sends_what_the_last_one_did(rt: HostRuntime) -> Result<(), Fail> {
 #[test]
 fn a_sample_is_sent_with_its_rate(rt: HostRuntime) -> Result<(), Fail> {
     assert!(rt; holds(&rt, rt.alloc(), Look::Samples)?);
+    Ok(())
+}
+
+#[test]
+fn lines_are_as_the_settings_say(rt: HostRuntime) -> Result<(), Fail> {
+    assert!(rt; holds(&rt, rt.alloc(), Look::Settings)?);
     Ok(())
 }
 
