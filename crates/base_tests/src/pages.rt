@@ -1,5 +1,6 @@
 //! What stands on a page: printed texts, numbers, rows and their labels, and matchers of names.
 
+use hash_starts::HashStart;
 use indexmap::IndexMap;
 use metrics_core::{Key, Label, Memory, Unit};
 use prom_format::{
@@ -11,8 +12,11 @@ use std::alloc::Global;
 use std::test::Fail;
 
 /// Global labels.
-fn globals(alloc: Global, pairs: &[(&str, &str)]) -> Result<IndexMap<String, String>, Memory> {
-    let mut globals = IndexMap::new(alloc);
+fn globals(
+    alloc: Global,
+    pairs: &[(&str, &str)],
+) -> Result<IndexMap<String, String, HashStart>, Memory> {
+    let mut globals = IndexMap::with_hasher(alloc, HashStart::fixed());
     for (key, value) in pairs {
         globals.insert(
             String::from_str(alloc, key)?,

@@ -10,6 +10,7 @@ ghost use Rattle.drive_script.specs.Valid.{Registration, PrintApart};
 
 use crate::headers::HeaderLine;
 use crate::{Round, Setup};
+use hash_starts::HashStart;
 use indexmap::IndexMap;
 use metrics_core::{Key, Memory, MetricKind};
 use prom_format::{prints_plainly, put_label, row_head};
@@ -19,18 +20,18 @@ use std::alloc::Global;
 /// such keys print alike.
 #[derive(Drop)]
 pub(crate) struct Heads {
-    globals: IndexMap<String, String>,
+    globals: IndexMap<String, String, HashStart>,
     table: Option<HeadTable>,
 }
 
 impl Heads {
-    /// No global label and no key.
-    pub(crate) fn new(alloc: Global) -> Heads
+    /// No global label and no key. Both are looked up by hashes from a start.
+    pub(crate) fn new(alloc: Global, start: HashStart) -> Heads
         ensures globals { labels_of result.globals.entries ≡ [] }
         ensures noted { AreNoted [] result.table [] }
     {
         Heads {
-            globals: IndexMap::new(alloc),
+            globals: IndexMap::with_hasher(alloc, start),
             table: None,
         }
     }
@@ -80,21 +81,21 @@ impl Heads {
 /// Under what the rows of each register line begin with, its key.
 #[derive(Drop)]
 pub(crate) struct HeadTable {
-    keys: IndexMap<String, Key>,
+    keys: IndexMap<String, Key, HashStart>,
 }
 
 impl HeadTable {
     /// The table of the register lines of rounds, all of which print plainly.
     fn of_rounds(
         alloc: Global,
-        globals: &IndexMap<String, String>,
+        globals: &IndexMap<String, String, HashStart>,
         rounds: &[Round],
     ) -> Result<HeadTable, Memory>
         ensures { AllPrintPlainly (labels_of globals.now.entries) (registrations_of rounds.now)
             → IfOk result (λ table. AreHeadsOf (labels_of globals.now.entries) (keys_by_head table.keys.entries) (registrations_of rounds.now)) }
     {
         let mut table = HeadTable {
-            keys: IndexMap::new(alloc),
+            keys: IndexMap::with_hasher(alloc, *globals.hasher()),
         };
         for round in rounds {
             table.note_setup(alloc, globals, &round.setup)?;
@@ -106,7 +107,7 @@ impl HeadTable {
     fn note_setup(
         &mut self,
         alloc: Global,
-        globals: &IndexMap<String, String>,
+        globals: &IndexMap<String, String, HashStart>,
         setup: &[Setup],
     ) -> Result<(), Memory>
         ensures { (earlier : List Registration)
@@ -126,7 +127,7 @@ impl HeadTable {
     fn note(
         &mut self,
         alloc: Global,
-        globals: &IndexMap<String, String>,
+        globals: &IndexMap<String, String, HashStart>,
         kind: MetricKind,
         key: &Key,
     ) -> Result<bool, Memory>
@@ -150,7 +151,7 @@ impl HeadTable {
 /// The kind, and what each row of a series with this key begins with.
 fn head_of(
     alloc: Global,
-    globals: &IndexMap<String, String>,
+    globals: &IndexMap<String, String, HashStart>,
     kind: MetricKind,
     key: &Key,
 ) -> Result<String, Memory>

@@ -21,6 +21,6 @@ mod settings;
 pub use examples::{basic_example, empty_example, sampled_example, settings_example};
 pub use facts::{beginnings, lines_say_one_thing, one_first_bad_line, one_reading};
 pub use faults::{DriveFault, SettingFault};
-pub use reader::read_script;
+pub use reader::{read_script, read_script_from};
 pub use script::{Act, CallLine, Round, Script, Settings, Setup};
 pub use settings::check_settings;

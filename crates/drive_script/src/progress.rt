@@ -15,6 +15,7 @@ use crate::heads::Heads;
 use crate::lines::{Statement, read_line};
 use crate::recent::Recent;
 use crate::{CallLine, Round, Script, Settings, Setup};
+use hash_starts::HashStart;
 use metrics_core::{Key, Memory, MetricKind, Unit};
 use std::alloc::Global;
 
@@ -39,14 +40,14 @@ pub(crate) struct ScriptSoFar {
 
 impl ScriptSoFar {
     /// Nothing is said yet.
-    pub(crate) fn new(alloc: Global) -> ScriptSoFar
+    pub(crate) fn new(alloc: Global, start: HashStart) -> ScriptSoFar
         ensures { StandsBehind [] result }
     {
         ScriptSoFar {
             settings: Settings::new(alloc),
             rounds: Vec::new(alloc),
             kinds: Vec::new(alloc),
-            heads: Heads::new(alloc),
+            heads: Heads::new(alloc, start),
             samples_left: MAX_SAMPLES,
             least_place: 0,
         }

@@ -9,15 +9,26 @@ ghost use Rattle.drive_script.specs.Valid.{IsScriptOf};
 use crate::progress::ScriptSoFar;
 use crate::recent::Recent;
 use crate::{DriveFault, Script};
+use hash_starts::HashStart;
 use memchr::memchr;
 use std::alloc::Global;
 
-/// Reads a script. Bytes that are no valid script are refused with their first bad line.
+/// Reads a script. Bytes that are no valid script are refused with their first bad line. Labels and keys are looked up by hashes
+/// from the fixed start.
 pub fn read_script(alloc: Global, bytes: &[u8]) -> Result<Script, DriveFault>
     ensures valid { IfOk result (λ script. IsScriptOf bytes.now (script_of script)) }
     ensures refused { IfErr result (IsScriptFault bytes.now) }
 {
-    let mut progress = ScriptSoFar::new(alloc);
+    read_script_from(alloc, HashStart::fixed(), bytes)
+}
+
+/// Reads a script as `read_script` does. Labels and keys are looked up by hashes from a start, which should be drawn where the
+/// script is a stranger's.
+pub fn read_script_from(alloc: Global, start: HashStart, bytes: &[u8]) -> Result<Script, DriveFault>
+    ensures valid { IfOk result (λ script. IsScriptOf bytes.now (script_of script)) }
+    ensures refused { IfErr result (IsScriptFault bytes.now) }
+{
+    let mut progress = ScriptSoFar::new(alloc, start);
     let mut recent = Recent::new(alloc);
     let mut rest = bytes;
     let mut line = 0;

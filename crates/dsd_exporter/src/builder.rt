@@ -8,6 +8,7 @@ ghost use Rattle.dsd_exporter.specs.Builders.{IsDefault, limit_of, interval_of};
 
 use crate::configuration::{AggregationMode, StateConfiguration};
 use dsd_addresses::{BuildError, RemoteAddr, limit_fault};
+use hash_starts::HashStart;
 use metrics_core::{Label, Memory};
 use std::alloc::Global;
 use std::marker::Model;
@@ -21,6 +22,7 @@ pub struct DogStatsDBuilder {
     flush_interval: Option<u64>,
     synchronous: bool,
     global_labels: Vec<Label>,
+    hash_start: HashStart,
     configuration: StateConfiguration,
 }
 
@@ -56,6 +58,8 @@ pub struct BuilderParts {
     pub synchronous: bool,
     /// The labels that every line has, behind those of its series.
     pub global_labels: Vec<Label>,
+    /// Where the hashes begin by which keys are looked up.
+    pub hash_start: HashStart,
     /// What the state is to be built with.
     pub configuration: StateConfiguration,
 }
@@ -63,7 +67,15 @@ pub struct BuilderParts {
 impl DogStatsDBuilder {
     /// The default settings: `127.0.0.1:8125` over UDP, a write timeout of 1 s, conservative, telemetry on, sampling off with
     /// room for 1024 values, histograms as distributions, no labels and no prefix.
+    /// Keys are looked up by hashes from the fixed start.
     pub fn new(alloc: Global) -> Result<DogStatsDBuilder, Memory>
+        ensures defaults { IfOk result IsDefault }
+    {
+        DogStatsDBuilder::starting_from(alloc, HashStart::fixed())
+    }
+
+    /// The default settings, and keys are looked up by hashes from a start, which should be drawn where strangers choose them.
+    pub fn starting_from(alloc: Global, start: HashStart) -> Result<DogStatsDBuilder, Memory>
         ensures defaults { IfOk result IsDefault }
     {
         let Ok(remote_addr) = RemoteAddr::from_text(alloc, "127.0.0.1:8125") else {
@@ -76,6 +88,7 @@ impl DogStatsDBuilder {
             flush_interval: None,
             synchronous: false,
             global_labels: Vec::new(alloc),
+            hash_start: start,
             configuration: StateConfiguration {
                 agg_mode: AggregationMode::Conservative,
                 telemetry: true,
@@ -250,6 +263,7 @@ impl DogStatsDBuilder {
             flush_interval,
             synchronous: self.synchronous,
             global_labels: self.global_labels,
+            hash_start: self.hash_start,
             configuration: self.configuration,
         }
     }

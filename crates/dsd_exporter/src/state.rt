@@ -13,6 +13,7 @@ use crate::lent::Lent;
 use crate::queued::QueuedSamples;
 use cell_lanes::OwnedCell;
 use flushed_cells::{CounterPass, DsdCounter, DsdGauge, GaugePass};
+use hash_starts::HashStart;
 use metrics_core::{Fixed, Key, Memory, MetricKind, SeriesId};
 use metrics_registry::Registry;
 use sample_queue::{DsdHistogram, SamplePass};
@@ -37,13 +38,25 @@ impl Model for State {
 }
 
 impl State {
-    /// An exporter without series. It takes no memory.
+    /// An exporter without series. Keys are looked up by hashes from the fixed start. It takes no memory.
     pub fn new(alloc: Global, config: StateConfiguration) -> Result<State, Memory>
+        ensures { IfOk result (λ made. made ≡ record { settings = settings_of config; series = no_cells }) }
+    {
+        State::starting_from(alloc, HashStart::fixed(), config)
+    }
+
+    /// An exporter without series. Keys are looked up by hashes from a start, which should be drawn where strangers choose them.
+    /// It takes no memory.
+    pub fn starting_from(
+        alloc: Global,
+        start: HashStart,
+        config: StateConfiguration,
+    ) -> Result<State, Memory>
         ensures { IfOk result (λ made. made ≡ record { settings = settings_of config; series = no_cells }) }
     {
         Ok(State {
             configuration: config,
-            series: Registry::new(alloc)?,
+            series: Registry::starting_from(alloc, start)?,
         })
     }
 

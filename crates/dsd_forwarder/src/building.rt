@@ -8,6 +8,7 @@ use crate::forwarder::Forwarder;
 use crate::recorder::DogStatsDRecorder;
 use dsd_addresses::{BuildError, limit_fault};
 use dsd_exporter::{DogStatsDBuilder, State, StateConfiguration};
+use hash_starts::HashStart;
 use metrics_core::Memory;
 use metrics_facade::{Note, RecorderOnceCell};
 use std::alloc::Global;
@@ -53,15 +54,17 @@ pub trait BuildForwarder {
 /// A state with these settings, behind a lock.
 fn locked_state(
     alloc: Global,
+    start: HashStart,
     configuration: StateConfiguration,
 ) -> Result<Arc<Mutex<State>>, Memory> {
-    let state = State::new(alloc, configuration)?;
+    let state = State::starting_from(alloc, start, configuration)?;
     Ok(Arc::new(alloc, Mutex::new(state))?)
 }
 
 /// A recorder and a forwarder of one state.
 fn build_both(
     alloc: Global,
+    start: HashStart,
     configuration: ForwarderConfiguration,
     state_configuration: StateConfiguration,
 ) -> Result<(DogStatsDRecorder, Forwarder), Memory>
@@ -70,7 +73,7 @@ fn build_both(
     ensures { IfOk result (λ made. IsMadeWith configuration state_configuration.telemetry made.1) }
 {
     let counts_own = state_configuration.telemetry;
-    let state = locked_state(alloc, state_configuration)?;
+    let state = locked_state(alloc, start, state_configuration)?;
     let recorder = DogStatsDRecorder::of(Arc::try_clone(&state)?);
     let forwarder = Forwarder::new(alloc, configuration, counts_own, state)?;
     Ok((recorder, forwarder))
@@ -91,7 +94,7 @@ impl BuildForwarder for DogStatsDBuilder {
             write_timeout: parts.write_timeout,
             global_labels: parts.global_labels,
         };
-        match build_both(alloc, configuration, parts.configuration) {
+        match build_both(alloc, parts.hash_start, configuration, parts.configuration) {
             Ok(both) => Ok(both),
             Err(Memory) => Err(BuildError::Memory),
         }

@@ -6,6 +6,7 @@ use prom_serve::MemoryListener;
 use script_runs::{Gate, run};
 use std::alloc::Global;
 use std::net::{Net, TcpListener, TcpStream};
+use std::random::RandomSource;
 use std::sync::Wait;
 use std::sync::atomic::{AtomicBool, Ordering};
 use std::test::Fail;
@@ -87,7 +88,7 @@ struct Output {
 
 /// Drives a script at a gate, with no connections to be served.
 fn drive<
-    R: Net<Listener = TcpListener, Stream = TcpStream> + Threads + Wait + Sync,
+    R: Net<Listener = TcpListener, Stream = TcpStream> + RandomSource + Threads + Wait + Sync,
     G: Gate + Sync,
 >(
     rt: &R,
@@ -114,11 +115,10 @@ fn drive<
 }
 
 /// What the two lanes write and send at a gate.
-fn told<R: Net<Listener = TcpListener, Stream = TcpStream> + Threads + Wait + Sync, G: Gate + Sync>(
-    rt: &R,
-    alloc: Global,
-    gate: &G,
-) -> Result<Output, Fail> {
+fn told<
+    R: Net<Listener = TcpListener, Stream = TcpStream> + RandomSource + Threads + Wait + Sync,
+    G: Gate + Sync,
+>(rt: &R, alloc: Global, gate: &G) -> Result<Output, Fail> {
     let script = TWO_LANES.to_vec(alloc)?;
     let mut source = MemorySource::new(script, 65536, Vec::new(alloc));
     let mut out = MemorySink::new(alloc, 65536, Vec::new(alloc));
@@ -135,7 +135,7 @@ fn told<R: Net<Listener = TcpListener, Stream = TcpStream> + Threads + Wait + Sy
 }
 
 /// Whether the lanes meet in time, and the page is written.
-fn meet<R: Net<Listener = TcpListener, Stream = TcpStream> + Threads + Wait + Sync>(
+fn meet<R: Net<Listener = TcpListener, Stream = TcpStream> + RandomSource + Threads + Wait + Sync>(
     rt: &R,
     alloc: Global,
 ) -> Result<bool, Fail> {
@@ -149,7 +149,7 @@ fn meet<R: Net<Listener = TcpListener, Stream = TcpStream> + Threads + Wait + Sy
 }
 
 /// Whether the page and the payload are these where the lane `held` waits for the other one.
-fn shows<R: Net<Listener = TcpListener, Stream = TcpStream> + Threads + Wait + Sync>(
+fn shows<R: Net<Listener = TcpListener, Stream = TcpStream> + RandomSource + Threads + Wait + Sync>(
     rt: &R,
     alloc: Global,
     held: u8,

@@ -11,7 +11,8 @@ ghost use Rattle.metric_descriptions.specs.Written.{said_of, stored, written, Is
 ghost use Rattle.metric_descriptions.specs.Book.{IsBook, HasBook, text_of, text_in};
 
 use evmap_contents::KeyClone;
-use evmap_core::{EvmapFault, Keep, KeepAll, Options, PlainHasher, ReadHandle, WriteHandle};
+use evmap_core::{EvmapFault, Keep, KeepAll, Options, ReadHandle, WriteHandle};
+use hash_starts::HashStart;
 use metrics_core::{Memory, SharedString, Unit};
 use std::alloc::Global;
 use std::marker::Model;
@@ -21,10 +22,10 @@ use std::sync::Wait;
 /// A text with its unit, as the map of descriptions has it.
 type Text = (SharedString, Option<Unit>);
 
-type Writer = WriteHandle<String, Text, (), KeepAll, PlainHasher>;
+type Writer = WriteHandle<String, Text, (), KeepAll, HashStart>;
 
 /// A reader of the published descriptions, which may move to another thread.
-pub type DescriptionReader = ReadHandle<String, Text, (), KeepAll, PlainHasher>;
+pub type DescriptionReader = ReadHandle<String, Text, (), KeepAll, HashStart>;
 
 /// What is said of a metric name.
 #[derive(Clone, Copy)]
@@ -38,6 +39,8 @@ pub struct Described<'a> {
 pub struct Descriptions {
     // It is made at the first description, or for the first reader.
     writer: Option<Writer>,
+    // Where the hashes of metric names begin in it.
+    start: HashStart,
 }
 
 impl Model for Descriptions {
@@ -52,11 +55,14 @@ impl Model for Descriptions {
 }
 
 impl Descriptions {
-    /// Nothing is described. It takes no memory.
-    pub fn new() -> Descriptions
+    /// Nothing is described. Metric names are looked up by hashes from a start. It takes no memory.
+    pub fn new(start: HashStart) -> Descriptions
         ensures { result ≡ nothing_described }
     {
-        Descriptions { writer: None }
+        Descriptions {
+            writer: None,
+            start,
+        }
     }
 
     /// Describes a metric by its name, as pages print it. Nothing changes where the name is published; otherwise the
@@ -72,7 +78,7 @@ impl Descriptions {
         ensures described { OnOk result (self.new ≡ describe (record { name = string_bytes name; text = cow_text text.entry; unit = unit }) self.old) }
         ensures refused { OnErr result (self.new ≡ self.old) }
     {
-        make(&mut self.writer, rt, alloc)?;
+        make(&mut self.writer, rt, alloc, self.start)?;
         match &mut self.writer {
             Some(writer) => put(writer, name, (text, unit)),
             None => unreachable!(),
@@ -113,7 +119,7 @@ impl Descriptions {
         ensures same { self.new ≡ self.old }
         ensures told { IfOk result (λ reader. IsToldOf (after ⟦<String as KeyClone>⟧.same ⟦<Text as PartialEq>⟧.eq ⟦<KeepAll as Keep<Text>>⟧.keeps) self.old.published (known reader)) }
     {
-        make(&mut self.writer, rt, alloc)?;
+        make(&mut self.writer, rt, alloc, self.start)?;
         match &mut self.writer {
             Some(writer) => tell(writer),
             None => unreachable!(),
@@ -122,7 +128,7 @@ impl Descriptions {
 
     /// Ends the map. It waits for the readers that are reading, which read nothing from then on.
     pub fn end<R: Wait>(self, rt: &R) {
-        let Self { writer } = self;
+        let Self { writer, start: _ } = self;
         if let Some(writer) = writer {
             writer.end(rt);
         }
@@ -130,7 +136,12 @@ impl Descriptions {
 }
 
 // Makes the map where there is none.
-fn make<R: Wait>(writer: &mut Option<Writer>, rt: &R, alloc: Global) -> Result<(), Memory>
+fn make<R: Wait>(
+    writer: &mut Option<Writer>,
+    rt: &R,
+    alloc: Global,
+    start: HashStart,
+) -> Result<(), Memory>
     ensures made { OnOk result (is_some writer.new ≡ true) }
     ensures same { text_in writer.new ≡ text_in writer.old }
     ensures kept { HasBook writer.old → HasBook writer.new }
@@ -138,7 +149,7 @@ fn make<R: Wait>(writer: &mut Option<Writer>, rt: &R, alloc: Global) -> Result<(
     if writer.is_some() {
         return Ok(());
     }
-    match Options::default().construct(rt, alloc) {
+    match Options::default().with_hasher(start).construct(rt, alloc) {
         Ok((made, _reader)) => {
             if let Some(former) = replace(writer, Some(made)) {
                 former.end(rt);

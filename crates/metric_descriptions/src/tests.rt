@@ -1,6 +1,7 @@
 //! What is published is found, also by a reader in another thread.
 use crate::{DescriptionReader, Descriptions};
 use evmap_core::EvmapFault;
+use hash_starts::HashStart;
 use metrics_core::{Memory, SharedString, Unit};
 use std::alloc::Global;
 use std::sync::Wait;
@@ -68,7 +69,7 @@ fn read_beside<R: Wait + Threads + Sync>(
 
 /// Whether all of it holds. Here alone descriptions are made and ended.
 fn holds<R: Wait + Threads + Sync>(rt: &R, alloc: Global) -> Result<bool, EvmapFault> {
-    let mut descriptions = Descriptions::new();
+    let mut descriptions = Descriptions::new(HashStart::fixed());
     let last = last_counts(rt, alloc, &mut descriptions);
     let read = read_beside(rt, alloc, &mut descriptions);
     descriptions.end(rt);

@@ -13,6 +13,7 @@ use std::env::Args;
 use std::io::ErrorKind;
 use std::net::{Ipv4Addr, Net, SocketAddr, SocketAddrV4, TcpListener, TcpStream};
 use std::process::ExitCode;
+use std::random::RandomSource;
 use std::rt::Env;
 use std::sync::Wait;
 use std::thread::Threads;
@@ -34,7 +35,13 @@ fn main(rt: HostRuntime) -> ExitCode {
 
 /// Calls `run` with the words after the program's name. Words that aren't text are no form of words.
 fn run_words<
-    R: Env + AllocGlobal + Net<Listener = TcpListener, Stream = TcpStream> + Threads + Wait + Sync,
+    R: Env
+        + AllocGlobal
+        + Net<Listener = TcpListener, Stream = TcpStream>
+        + RandomSource
+        + Threads
+        + Wait
+        + Sync,
     S: Source,
     K: Sink,
     E: Sink,

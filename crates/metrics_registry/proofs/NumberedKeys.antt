@@ -3,6 +3,7 @@ use Rattle.std.proofs.Common.{◌≡◌, ℕ, zero, suc, ◌+◌, ◌<◌, Bool,
 use Rattle.std.specs.Prelude.{slice_get, nat_eq, nat_lt, position, is_some, unwrap_or, swap, remove, ◌||◌}
 use Rattle.std.specs.List.{position_or_len, list_any, IsDistinct, AllByRecursion}
 use Rattle.std.specs.Cmp.{Equal-is}
+use Rattle.std.specs.Hash as fed
 use Rattle.std.specs.Hash.{le_bytes}
 use Rattle.std.specs.Int.{w64, to_le_bytes, from_le_bytes}
 use Rattle.std.specs.declared.cmp.Ordering.TheVariants.{Equal}
@@ -14,13 +15,15 @@ use Rattle.std.proofs.lemmas.List.{map-append}
 use Rattle.std.proofs.lemmas.Map.Keys.{IsDistinct-head, IsDistinct-tail}
 use Rattle.std.proofs.lemmas.Map.Made.{is_some-lookup}
 use Rattle.std.proofs.lemmas.Nat.{from_le_bytes-to_le_bytes_8}
+use Rattle.hash_starts.specs.Starts.{begun_hash}
+use Rattle.hash_starts.specs.declared.start.HashStart.{HashStart}
 use Rattle.indexmap.proofs.ReorderLemmas.{map-swap}
 use Rattle.indexmap.proofs.SetLemmas.{map-remove}
 use Rattle.metrics_core.specs.Hashes.{key_hash}
 use Rattle.metrics_core.specs.Keys.{KeyText, key_eq, key_cmp}
-use Rattle.metrics_core.specs.KeyLaws.{key_hash_respects}
+use Rattle.metrics_core.specs.KeyLaws.{key_eq_is, key_hash_respects}
 use Rattle.metrics_core.specs.KeyOrderLaws.{key_cmp_total, key_cmp_ties}
-use Rattle.metrics_registry.specs.KeyLists.{number_of}
+use Rattle.metrics_registry.specs.KeyLists.{key_fed, number_of}
 
 -- the place from the test of a place
 pub place_is : (n m i : ℕ) → cond (nat_lt n m) (Some n) None ≡ Some i → n ≡ i
@@ -42,6 +45,12 @@ unfolding le_bytes
 one_hash key k same =
     let bytes : to_le_bytes w64 (key_hash key) ≡ to_le_bytes w64 (key_hash k) = cc (key_hash_respects key k same) in
     sym (from_le_bytes-to_le_bytes_8 (key_hash key) (omega arith)) ∙ ap (from_le_bytes w64) bytes ∙ from_le_bytes-to_le_bytes_8 (key_hash k) (omega arith)
+
+-- and one hash from a start
+one_begun : (start : HashStart) (key k : KeyText) → key_eq key k ≡ true → begun_hash start (key_fed key) ≡ begun_hash start (key_fed k)
+one_begun start key k same =
+    let name : key.name ≡ k.name = ((key_eq_is key k).0 same).0 in
+    λ j. begun_hash start (fed.u64 (one_hash key k same j) ++ fed.str (name j))
 
 module _ (f : KeyText → ℕ) (key : KeyText) (same : (k : KeyText) → key_eq key k ≡ true → f k ≡ f key) where
   -- a key with another number isn't equal
@@ -130,18 +139,18 @@ some_place test ks i is within =
     sym (ap (λ b. cond b (Some (position_or_len test ks)) None) (is_less (position_or_len test ks) (length ks) (omega (arith, is, within))) ∙ ap Some is)
 
 -- equal keys have one number
-pub one_number : (numbers : BTreeMap KeyText ℕ) (key k : KeyText) → key_eq key k ≡ true → number_of numbers k ≡ number_of numbers key
-one_number numbers key k same =
+pub one_number : (start : HashStart) (numbers : BTreeMap KeyText ℕ) (key k : KeyText) → key_eq key k ≡ true → number_of start numbers k ≡ number_of start numbers key
+one_number start numbers key k same =
     let tied : key_cmp key k ≡ Equal = (Equal-is (key_cmp key k)).0 (sym (key_cmp_ties key k) ∙ same) in
-    sym (λ j. unwrap_or (get_by (λ z. key_cmp_total.congr key k z tied j) numbers) (one_hash key k same j))
+    sym (λ j. unwrap_or (get_by (λ z. key_cmp_total.congr key k z tied j) numbers) (one_begun start key k same j))
 
 -- a map that keeps the same numbers for all keys that aren't equal to one changes no other number
-pub other_numbers : (numbers changed : BTreeMap KeyText ℕ) (key : KeyText) → ((k : KeyText) → is_at (key_cmp key) k ≡ false → get key_cmp changed k ≡ get key_cmp numbers k)
-    → (ks : List KeyText) → list_any (key_eq key) ks ≡ false → map (number_of changed) ks ≡ map (number_of numbers) ks
-other_numbers numbers changed key rest [] none = refl
-other_numbers numbers changed key rest (x ∷ ks) none =
+pub other_numbers : (start : HashStart) (numbers changed : BTreeMap KeyText ℕ) (key : KeyText) → ((k : KeyText) → is_at (key_cmp key) k ≡ false → get key_cmp changed k ≡ get key_cmp numbers k)
+    → (ks : List KeyText) → list_any (key_eq key) ks ≡ false → map (number_of start changed) ks ≡ map (number_of start numbers) ks
+other_numbers start numbers changed key rest [] none = refl
+other_numbers start numbers changed key rest (x ∷ ks) none =
     let parts = or_parts (key_eq key x) (list_any (key_eq key) ks) none in
-    λ j. unwrap_or (rest x (sym (key_cmp_ties key x) ∙ parts.0) j) (key_hash x) ∷ other_numbers numbers changed key rest ks parts.1 j
+    λ j. unwrap_or (rest x (sym (key_cmp_ties key x) ∙ parts.0) j) (begun_hash start (key_fed x)) ∷ other_numbers start numbers changed key rest ks parts.1 j
 
 -- entries of which each key stands under its number
 abbrev pub Numbered : (KeyText → ℕ) → List (ℕ × KeyText) → Type 0
@@ -181,41 +190,41 @@ numbered_front f (x ∷ es) e numbered =
     let own : x.0 ≡ f x.1 = cc numbered in
     ((λ j. own j ∷ rest.0 j), rest.1)
 
-module _ (numbers : BTreeMap KeyText ℕ) (key : KeyText) (es : List (ℕ × KeyText)) (numbered : Numbered (number_of numbers) es) where
-  of_numbers : list_any (nat_eq (number_of numbers key)) (keys_of es) ≡ false → list_any (key_eq key) (values_of es) ≡ false
-  of_numbers free = none (number_of numbers) key (one_number numbers key) (values_of es) (ap (list_any (nat_eq (number_of numbers key))) (sym numbered) ∙ free)
+module _ (start : HashStart) (numbers : BTreeMap KeyText ℕ) (key : KeyText) (es : List (ℕ × KeyText)) (numbered : Numbered (number_of start numbers) es) where
+  of_numbers : list_any (nat_eq (number_of start numbers key)) (keys_of es) ≡ false → list_any (key_eq key) (values_of es) ≡ false
+  of_numbers free = none (number_of start numbers) key (one_number start numbers key) (values_of es) (ap (list_any (nat_eq (number_of start numbers key))) (sym numbered) ∙ free)
 
   -- where no key stands under the number of a key none is equal to it
-  pub none_under : (n : ℕ) → n ≡ number_of numbers key → is_some (lookup (nat_eq n) es) ≡ false → list_any (key_eq key) (values_of es) ≡ false
+  pub none_under : (n : ℕ) → n ≡ number_of start numbers key → is_some (lookup (nat_eq n) es) ≡ false → list_any (key_eq key) (values_of es) ≡ false
   none_under n is free =
-      of_numbers (sym (is_some-lookup (nat_eq (number_of numbers key)) es) ∙ ap (λ m. is_some (lookup (nat_eq m) es)) (sym is) ∙ free)
+      of_numbers (sym (is_some-lookup (nat_eq (number_of start numbers key)) es) ∙ ap (λ m. is_some (lookup (nat_eq m) es)) (sym is) ∙ free)
 
   -- a key that stands under the number of a key is the first that is equal to it, or none is
-  pub found_under : (n i : ℕ) (k : KeyText) → n ≡ number_of numbers key → Some i ≡ position (nat_eq n) (keys_of es) → i < length (values_of es) → slice_get (values_of es) i ≡ Some k → key_eq key k ≡ true
+  pub found_under : (n i : ℕ) (k : KeyText) → n ≡ number_of start numbers key → Some i ≡ position (nat_eq n) (keys_of es) → i < length (values_of es) → slice_get (values_of es) i ≡ Some k → key_eq key k ≡ true
       → Some i ≡ position (key_eq key) (values_of es)
   found_under n i k is at within has same =
-      some_place (key_eq key) (values_of es) i (first (number_of numbers) key (one_number numbers key) (values_of es) i k (first_number n i is at) has same) within
+      some_place (key_eq key) (values_of es) i (first (number_of start numbers) key (one_number start numbers key) (values_of es) i k (first_number n i is at) has same) within
     where
-      first_number : (n i : ℕ) → n ≡ number_of numbers key → Some i ≡ position (nat_eq n) (keys_of es) → position_or_len (nat_eq (number_of numbers key)) (map (number_of numbers) (values_of es)) ≡ i
+      first_number : (n i : ℕ) → n ≡ number_of start numbers key → Some i ≡ position (nat_eq n) (keys_of es) → position_or_len (nat_eq (number_of start numbers key)) (map (number_of start numbers) (values_of es)) ≡ i
       first_number n i is at =
           sym (λ j. position_or_len (nat_eq (is j)) (numbered j)) ∙ place_is (position_or_len (nat_eq n) (keys_of es)) (length (keys_of es)) i (sym at)
 
-  pub none_but : (n i : ℕ) (k : KeyText) → n ≡ number_of numbers key → IsDistinct nat_eq (keys_of es) → Some i ≡ position (nat_eq n) (keys_of es) → slice_get (values_of es) i ≡ Some k → key_eq key k ≡ false
+  pub none_but : (n i : ℕ) (k : KeyText) → n ≡ number_of start numbers key → IsDistinct nat_eq (keys_of es) → Some i ≡ position (nat_eq n) (keys_of es) → slice_get (values_of es) i ≡ Some k → key_eq key k ≡ false
       → list_any (key_eq key) (values_of es) ≡ false
   none_but n i k is distinct at has differ =
-      none_else (number_of numbers) key (one_number numbers key) (values_of es) i k (subst (IsDistinct nat_eq) numbered distinct)
+      none_else (number_of start numbers) key (one_number start numbers key) (values_of es) i k (subst (IsDistinct nat_eq) numbered distinct)
       (sym (λ j. position_or_len (nat_eq (is j)) (numbered j)) ∙ place_is (position_or_len (nat_eq n) (keys_of es)) (length (keys_of es)) i (sym at)) has differ
 
 -- entries without the one that stood at a place, whose key is forgotten
-pub numbered_removed : (numbers changed : BTreeMap KeyText ℕ) (key : KeyText) (n i : ℕ) (es es' : List (ℕ × KeyText)) → Numbered (number_of numbers) es → Some (n, key) ≡ slice_get es i → es' ≡ remove es i
-    → lookup (nat_eq n) es' ≡ None → ((k : KeyText) → is_at (key_cmp key) k ≡ false → get key_cmp changed k ≡ get key_cmp numbers k) → Numbered (number_of changed) es'
-numbered_removed numbers changed key n i es es' numbered at is free rest =
-    let others : Numbered (number_of numbers) es' = subst (Numbered (number_of numbers)) (sym is) (numbered_remove (number_of numbers) es i numbered) in
-    others ∙ sym (other_numbers numbers changed key rest (values_of es') (none_under numbers key es' others n (number_at (number_of numbers) es i n key numbered (sym at)) (ap is_some free)))
+pub numbered_removed : (start : HashStart) (numbers changed : BTreeMap KeyText ℕ) (key : KeyText) (n i : ℕ) (es es' : List (ℕ × KeyText)) → Numbered (number_of start numbers) es → Some (n, key) ≡ slice_get es i → es' ≡ remove es i
+    → lookup (nat_eq n) es' ≡ None → ((k : KeyText) → is_at (key_cmp key) k ≡ false → get key_cmp changed k ≡ get key_cmp numbers k) → Numbered (number_of start changed) es'
+numbered_removed start numbers changed key n i es es' numbered at is free rest =
+    let others : Numbered (number_of start numbers) es' = subst (Numbered (number_of start numbers)) (sym is) (numbered_remove (number_of start numbers) es i numbered) in
+    others ∙ sym (other_numbers start numbers changed key rest (values_of es') (none_under start numbers key es' others n (number_at (number_of start numbers) es i n key numbered (sym at)) (ap is_some free)))
 
 -- entries without the last, whose key is forgotten
-pub numbered_popped : (numbers changed : BTreeMap KeyText ℕ) (key : KeyText) (n : ℕ) (es es' : List (ℕ × KeyText)) → Numbered (number_of numbers) es → es ≡ es' ++ (n, key) ∷ []
-    → lookup (nat_eq n) es' ≡ None → ((k : KeyText) → is_at (key_cmp key) k ≡ false → get key_cmp changed k ≡ get key_cmp numbers k) → Numbered (number_of changed) es'
-numbered_popped numbers changed key n es es' numbered is free rest =
-    let front = numbered_front (number_of numbers) es' (n, key) (subst (Numbered (number_of numbers)) is numbered) in
-    front.0 ∙ sym (other_numbers numbers changed key rest (values_of es') (none_under numbers key es' front.0 n front.1 (ap is_some free)))
+pub numbered_popped : (start : HashStart) (numbers changed : BTreeMap KeyText ℕ) (key : KeyText) (n : ℕ) (es es' : List (ℕ × KeyText)) → Numbered (number_of start numbers) es → es ≡ es' ++ (n, key) ∷ []
+    → lookup (nat_eq n) es' ≡ None → ((k : KeyText) → is_at (key_cmp key) k ≡ false → get key_cmp changed k ≡ get key_cmp numbers k) → Numbered (number_of start changed) es'
+numbered_popped start numbers changed key n es es' numbered is free rest =
+    let front = numbered_front (number_of start numbers) es' (n, key) (subst (Numbered (number_of start numbers)) is numbered) in
+    front.0 ∙ sym (other_numbers start numbers changed key rest (values_of es') (none_under start numbers key es' front.0 n front.1 (ap is_some free)))

@@ -5,19 +5,24 @@ ghost use Rattle.std.specs.List.{list_any};
 ghost use Rattle.indexmap.specs.IndexMap.{get};
 ghost use Rattle.std.specs.BTreeMap.{get as number_in, is_at};
 ghost use Rattle.metrics_core.specs.Keys.{KeyText, key_eq, key_cmp};
-ghost use Rattle.metrics_registry.specs.KeyLists.{number_of};
+ghost use Rattle.hash_starts.specs.Starts.{begun_hash};
+ghost use Rattle.metrics_registry.specs.KeyLists.{key_fed, number_of};
 
+use hash_starts::HashStart;
 use indexmap::IndexMap;
 use metrics_core::{Key, Memory};
 use std::alloc::Global;
 use std::collections::BTreeMap;
+use std::hash::BuildHasher;
 use std::marker::Model;
 
-/// Keys in order, no two of which are equal. Each stands under a number of its own: its hash, or, where another key stands
-/// under that, the next free number, which an ordered map then keeps for it. So keys of one hash, which anybody can make,
-/// are found in logarithmic time, and all others in constant time.
+/// Keys in order, no two of which are equal. Each stands under a number of its own: its hash from the list's start, or, where
+/// another key stands under that, the next free number, which an ordered map then keeps for it. So keys whose hashes meet
+/// are found in logarithmic time, and all others in constant time. From a start that was drawn nobody can make names whose
+/// hashes meet, however many of them have one `get_hash`; labels of one name they can.
 #[derive(Drop)]
 pub(crate) struct KeyList {
+    start: HashStart,
     keys: IndexMap<u64, Key>,
     /// The numbers of the keys that don't stand under their hash.
     numbers: BTreeMap<Key, u64>,
@@ -36,11 +41,12 @@ impl Model for KeyList {
 }
 
 impl KeyList {
-    /// No key.
-    pub(crate) fn new(alloc: Global) -> KeyList
+    /// No key. Hashes begin at a start.
+    pub(crate) fn new(alloc: Global, start: HashStart) -> KeyList
         ensures { result.keys ≡ [] }
     {
         KeyList {
+            start,
             keys: IndexMap::new(alloc),
             numbers: BTreeMap::new(alloc),
             next: 0,
@@ -61,7 +67,7 @@ impl KeyList {
         ensures found { is_some result ≡ list_any (key_eq key.now) self.now.keys }
         ensures within { IfSome result (λ place. place < length self.now.keys) }
     {
-        let number = number_of(&self.numbers, key);
+        let number = number_of(self.start, &self.numbers, key);
         let place = self.keys.get_index_of(&number)?;
         if self.as_slice()[place] == *key {
             Some(place)
@@ -77,7 +83,7 @@ impl KeyList {
         ensures refused { OnErr result (self.new.keys ≡ self.old.keys) }
         ensures returned { IfErr result (λ returned. returned ≡ key) }
     {
-        let number = number_of(&self.numbers, &key);
+        let number = number_of(self.start, &self.numbers, &key);
         if !self.keys.contains_key(&number) {
             return push_under(&mut self.keys, number, key);
         }
@@ -145,14 +151,22 @@ impl KeyList {
     }
 }
 
-/// The number of a key: the one that is kept for it, or else its hash.
-fn number_of(numbers: &BTreeMap<Key, u64>, key: &Key) -> u64
-    ensures { result ≡ number_of numbers.now key.now }
+/// The number of a key: the one that is kept for it, or else its hash from the start.
+fn number_of(start: HashStart, numbers: &BTreeMap<Key, u64>, key: &Key) -> u64
+    ensures { result ≡ number_of start numbers.now key.now }
 {
     match numbers.get(key) {
         Some(number) => *number,
-        None => key.get_hash(),
+        None => begun_hash(start, key),
     }
+}
+
+/// The hash of a key from a start: that of its `get_hash` with its name behind it.
+#[tactic(auto, unfolding(hash_starts::specs::Starts::begun_hash))]
+fn begun_hash(start: HashStart, key: &Key) -> u64
+    ensures { result ≡ begun_hash start (key_fed key.now) }
+{
+    start.hash_one((key.get_hash(), key.name()))
 }
 
 /// Lets the number go that is kept for a key.

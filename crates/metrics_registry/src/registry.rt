@@ -10,6 +10,7 @@ ghost use Rattle.metrics_registry.specs.Retained.{Retains};
 
 use crate::columns::{Column, SeriesIter};
 use crate::key_list::KeyList;
+use hash_starts::HashStart;
 use metrics_core::{Key, Memory, MetricKind, SeriesId};
 use std::alloc::Global;
 use std::marker::Model;
@@ -43,7 +44,7 @@ impl<C, G, H> Model for Registry<C, G, H> {
 impl<C: Drop, G: Drop, H: Drop> Registry<C, G, H> {
     ghost use Rattle.metrics_registry.specs.RegistryLends.{lends_counter, lends_counter_at, lends_gauge, lends_gauge_at, lends_histogram, lends_histogram_at};
 
-    /// No series. It takes no memory until the first is added.
+    /// No series, and keys are looked up by hashes from the fixed start. It takes no memory until the first is added.
     pub fn new(alloc: Global) -> Result<Registry<C, G, H>, Memory>
         ensures empty { IfOk result (λ registry. registry ≡ record {
           counters = [];
@@ -53,12 +54,26 @@ impl<C: Drop, G: Drop, H: Drop> Registry<C, G, H> {
         }) }
         ensures no_memory { IsOk result }
     {
+        Registry::starting_from(alloc, HashStart::fixed())
+    }
+
+    /// No series, and keys are looked up by hashes from a start, which should be drawn where strangers choose the keys. It
+    /// takes no memory until the first is added.
+    pub fn starting_from(alloc: Global, start: HashStart) -> Result<Registry<C, G, H>, Memory>
+        ensures empty { IfOk result (λ registry. registry ≡ record {
+          counters = [];
+          gauges = [];
+          histograms = [];
+          made = 0;
+        }) }
+        ensures no_memory { IsOk result }
+    {
         Ok(Registry {
-            counter_keys: KeyList::new(alloc),
+            counter_keys: KeyList::new(alloc, start),
             counters: Column::new(alloc),
-            gauge_keys: KeyList::new(alloc),
+            gauge_keys: KeyList::new(alloc, start),
             gauges: Column::new(alloc),
-            histogram_keys: KeyList::new(alloc),
+            histogram_keys: KeyList::new(alloc, start),
             histograms: Column::new(alloc),
             made: 0,
         })

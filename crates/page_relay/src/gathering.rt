@@ -7,6 +7,7 @@ ghost use Rattle.page_relay.specs.Merge as merged;
 ghost use Rattle.page_relay.specs.Values.{family_of, label_of, row_of};
 
 use crate::{Family, PageRow, Shape};
+use hash_starts::HashStart;
 use indexmap::IndexMap;
 use metrics_core::Memory;
 use prom_format::push_count;
@@ -35,12 +36,12 @@ pub(crate) struct Gathered {
 #[derive(Drop)]
 pub(crate) struct GatheredRows {
     rows: Vec<PageRow>,
-    places: IndexMap<RowKey, usize>,
+    places: IndexMap<RowKey, usize, HashStart>,
 }
 
 impl Gathered {
-    /// No family of that name was added yet.
-    pub(crate) fn new(alloc: Global, name: String, shape: Shape) -> Gathered
+    /// No family of that name was added yet. Rows are looked up by hashes from a start.
+    pub(crate) fn new(alloc: Global, start: HashStart, name: String, shape: Shape) -> Gathered
         ensures help { result.help ≡ None }
         ensures name { result.name ≡ name }
         ensures shape { result.shape ≡ shape }
@@ -52,7 +53,7 @@ impl Gathered {
             shape,
             rows: GatheredRows {
                 rows: Vec::new(alloc),
-                places: IndexMap::new(alloc),
+                places: IndexMap::with_hasher(alloc, start),
             },
         }
     }
@@ -123,7 +124,7 @@ impl GatheredRows {
 
 /// At which place the key stands: where it stood, or the next one, where it now stands.
 pub(crate) fn place_of<K: Eq + Hash + Drop>(
-    places: &mut IndexMap<K, usize>,
+    places: &mut IndexMap<K, usize, HashStart>,
     key: K,
     next: usize,
 ) -> Result<usize, Memory>

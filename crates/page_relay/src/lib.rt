@@ -5,7 +5,7 @@
 //! The pages of a stream made one, and written:
 //!
 //!     let pages = read_pages(alloc, &bytes)?;
-//!     write_page(alloc, &merge(alloc, &pages)?, &mut out)?;
+//!     write_page(alloc, &merge(alloc, start, &pages)?, &mut out)?;
 #![tactic(auto)]
 
 mod cursor;

@@ -7,17 +7,19 @@ ghost use Rattle.page_relay.specs.Values.{families_of, family_of, IsMergeFault};
 
 use crate::gathering::{Gathered, place_of, text_of};
 use crate::{Family, Page, RelayFault};
+use hash_starts::HashStart;
 use indexmap::IndexMap;
 use metrics_core::Memory;
 use std::alloc::Global;
 
 /// Merges the pages of several exporters into one. Families of one name become one family; the values of rows that can be
-/// added are added, and the others stand with the number of their page.
-pub fn merge(alloc: Global, pages: &[Page]) -> Result<Page, RelayFault>
+/// added are added, and the others stand with the number of their page. Names and rows are looked up by hashes from a start, which
+/// should be drawn where the pages are a stranger's.
+pub fn merge(alloc: Global, start: HashStart, pages: &[Page]) -> Result<Page, RelayFault>
     ensures merged { IfOk result (λ page. IsMerged (map families_of pages.now) (families_of page)) }
     ensures refused { IfErr result (IsMergeFault (map families_of pages.now)) }
 {
-    let mut merging = Merging::new(alloc);
+    let mut merging = Merging::new(alloc, start);
     let mut number = 0;
     for page in pages {
         number += 1;
@@ -35,17 +37,17 @@ pub fn merge(alloc: Global, pages: &[Page]) -> Result<Page, RelayFault>
 #[derive(Drop)]
 struct Merging {
     families: Vec<Gathered>,
-    places: IndexMap<String, usize>,
+    places: IndexMap<String, usize, HashStart>,
 }
 
 impl Merging {
-    /// No family was added yet.
-    fn new(alloc: Global) -> Merging
+    /// No family was added yet. Names are looked up by hashes from a start.
+    fn new(alloc: Global, start: HashStart) -> Merging
         ensures { FamiliesStand result [] }
     {
         Merging {
             families: Vec::new(alloc),
-            places: IndexMap::new(alloc),
+            places: IndexMap::with_hasher(alloc, start),
         }
     }
 
@@ -68,8 +70,7 @@ impl Merging {
         let place = place_of(&mut self.places, text_of(alloc, &family.name)?, next)?;
         if place == next {
             let name = text_of(alloc, &family.name)?;
-            self.families
-                .push(Gathered::new(alloc, name, family.shape))?;
+            self.families.push(Gathered::new(alloc, *self.places.hasher(), name, family.shape))?;
         }
         Ok(place)
     }

@@ -27,7 +27,8 @@ use Rattle.evmap_core.specs.declared.known_fronts.KnownFronts as known_fronts
 use Rattle.evmap_core.specs.contracts.store.Store as Store
 use Rattle.evmap_core.specs.contracts.writer.WriteHandle as Writer
 use Rattle.std.specs.contracts.option.Option as Option
-use Rattle.std.proofs.option.Option.TheSendSync as option
+use Rattle.hash_starts.proofs.start.HashStart.TheSendSync as starts
+use Rattle.hash_starts.specs.contracts.start.HashStart as HashStart
 use Rattle.metrics_core.proofs.texts.CowStr.TheSendSync as texts
 use Rattle.metrics_core.proofs.units.Unit.TheSendSync as units
 use Rattle.value_bags.proofs.keep.KeepAll.TheSendSync as keeps
@@ -76,8 +77,10 @@ option-send T s = as_row_send (Option.the_field T) (search (sendable, crosses) d
 -- what is said of metrics
 pub descriptions-send : IsSend Descriptions.the_row
 descriptions-send =
-    view_send _ _ _ _ _ (declared_send said.the_type
-    (option-send _ (search (sendable, crosses, writer-send, keeps.the_send, texts.the_send, texts.the_sync, units.the_send, units.the_sync) depth 40 fits 4000), tt))
+    view_send _ _ _ _ _ (declared_send said.the_type (
+      option-send _ (search (sendable, crosses, writer-send, keeps.the_send, texts.the_send, texts.the_sync, units.the_send, units.the_sync, starts.the_send, starts.the_sync) depth 40 fits 4000),
+      (as_row_send HashStart.the_field (search (sendable, crosses) depth 20), tt),
+    ))
 
 -- the live series
 registry-send : (C G H : RattleType) → IsSend C → IsSend G → IsSend H → IsSend (as_row (Registry.the_field C G H))

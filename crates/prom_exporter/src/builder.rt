@@ -15,6 +15,7 @@ ghost use Rattle.prom_exporter.specs.Exporter.{no_cells};
 use crate::allowed::AllowedNetworks;
 use crate::settings::Settings;
 use crate::{BuildError, ListenDestination, PrometheusState};
+use hash_starts::HashStart;
 use indexmap::IndexMap;
 use metrics_core::{Fixed, Memory, Network};
 use metrics_registry::MetricKindMask;
@@ -35,7 +36,7 @@ pub struct PrometheusBuilder {
     allowed: AllowedNetworks,
     upkeep_timeout: u64,
     unit_suffix: bool,
-    globals: IndexMap<String, String>,
+    globals: IndexMap<String, String, HashStart>,
     settings: Settings,
 }
 
@@ -59,7 +60,16 @@ impl PrometheusBuilder {
     /// The default settings: quantiles 0, 0.5, 0.9, 0.95, 0.99, 0.999 and 1 over three buckets of 20 seconds, no
     /// buckets, no native histograms, no idle timeout, no global labels, names as they are. Pages are to be served at
     /// 0.0.0.0:9000 to every peer, and queues to be drained every 5 seconds.
+    /// Names, labels and keys are looked up by hashes from the fixed start.
     pub fn new(alloc: Global) -> Result<PrometheusBuilder, Memory>
+        ensures defaults { IfOk result (λ builder. builder ≡ default_builder) }
+    {
+        PrometheusBuilder::starting_from(alloc, HashStart::fixed())
+    }
+
+    /// The default settings, and names, labels and keys are looked up by hashes from a start. Where strangers choose names or
+    /// labels it should be drawn: from a start that they know they can make many texts that are looked up one after another.
+    pub fn starting_from(alloc: Global, start: HashStart) -> Result<PrometheusBuilder, Memory>
         ensures defaults { IfOk result (λ builder. builder ≡ default_builder) }
     {
         Ok(PrometheusBuilder {
@@ -67,7 +77,7 @@ impl PrometheusBuilder {
             allowed: AllowedNetworks::new(),
             upkeep_timeout: DEFAULT_UPKEEP_TIMEOUT,
             unit_suffix: false,
-            globals: IndexMap::new(alloc),
+            globals: IndexMap::with_hasher(alloc, start),
             settings: Settings::new(alloc)?,
         })
     }

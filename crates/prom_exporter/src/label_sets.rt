@@ -4,6 +4,7 @@ ghost use Rattle.std.specs.Prelude.{◌≡◌, ◌≤◌, ◌++◌, [], ◌∷�
 ghost use Rattle.prom_format.specs.LabelSets.{labels_of};
 ghost use Rattle.prom_exporter.specs.Rows.{label_set_of};
 
+use hash_starts::HashStart;
 use indexmap::IndexMap;
 use metrics_core::{Key, Memory};
 use prom_format::push_row_labels;
@@ -44,7 +45,7 @@ impl LabelSets {
     pub(crate) fn push(
         &mut self,
         key: &Key,
-        globals: &IndexMap<String, String>,
+        globals: &IndexMap<String, String, HashStart>,
     ) -> Result<(), Memory>
         ensures pushed { OnOk result (self.new ≡ self.old ++ label_set_of (labels_of globals.now.entries) key.now ∷ []) }
         ensures refused { OnErr result (self.new ≡ self.old) }

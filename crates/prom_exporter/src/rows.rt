@@ -10,6 +10,7 @@ ghost use Rattle.prom_format.specs.Names.{sanitized_metric_name};
 ghost use Rattle.prom_exporter.specs.Values.{with_member};
 
 use crate::label_sets::LabelSets;
+use hash_starts::HashStart;
 use indexmap::IndexMap;
 use metrics_core::{Key, Memory};
 use metrics_registry::SeriesIter;
@@ -22,7 +23,7 @@ use std::marker::Model;
 #[derive(Drop)]
 pub(crate) struct Rows {
     pub(crate) label_sets: LabelSets,
-    pub(crate) families: IndexMap<String, Vec<usize>>,
+    pub(crate) families: IndexMap<String, Vec<usize>, HashStart>,
 }
 
 impl Model for Rows {
@@ -35,13 +36,13 @@ impl Model for Rows {
 }
 
 impl Rows {
-    /// Nothing, of no series.
-    pub(crate) fn new(alloc: Global) -> Rows
+    /// Nothing, of no series. Names of families are looked up by hashes from a start.
+    pub(crate) fn new(alloc: Global, start: HashStart) -> Rows
         ensures { result ≡ record { label_sets = []; families = [] } }
     {
         Rows {
             label_sets: LabelSets::new(alloc),
-            families: IndexMap::new(alloc),
+            families: IndexMap::with_hasher(alloc, start),
         }
     }
 
@@ -52,7 +53,7 @@ impl Rows {
         alloc: Global,
         series: &SeriesIter<'_, C>,
         count: usize,
-        globals: &IndexMap<String, String>,
+        globals: &IndexMap<String, String, HashStart>,
     ) -> Result<(), Memory>
         requires count { count ≡ length series.now }
         requires first { KeepsFirst (labels_of globals.now.entries) series.now self.old }
@@ -80,7 +81,7 @@ impl Rows {
         &mut self,
         alloc: Global,
         key: &Key,
-        globals: &IndexMap<String, String>,
+        globals: &IndexMap<String, String, HashStart>,
     ) -> Result<(), Memory>
         ensures added { OnOk result ((keys : List KeyText) → self.old ≡ rows_of (labels_of globals.now.entries) keys
             → self.new ≡ rows_of (labels_of globals.now.entries) (keys ++ key.now ∷ [])) }
@@ -99,7 +100,7 @@ impl Rows {
 /// Puts a place last in the family of the metric name that is made of a name.
 fn add_place(
     alloc: Global,
-    families: &mut IndexMap<String, Vec<usize>>,
+    families: &mut IndexMap<String, Vec<usize>, HashStart>,
     name: &str,
     place: usize,
 ) -> Result<(), Memory>
@@ -117,7 +118,7 @@ fn add_place(
 /// Puts a place last in the family of a metric name.
 fn put_place(
     alloc: Global,
-    families: &mut IndexMap<String, Vec<usize>>,
+    families: &mut IndexMap<String, Vec<usize>, HashStart>,
     name: &str,
     place: usize,
 ) -> Result<(), Memory>
@@ -134,7 +135,7 @@ fn put_place(
 
 /// Puts a place last in the family of a metric name, which goes last where it is new.
 fn add_family(
-    families: &mut IndexMap<String, Vec<usize>>,
+    families: &mut IndexMap<String, Vec<usize>, HashStart>,
     name: String,
     place: usize,
 ) -> Result<(), Memory>

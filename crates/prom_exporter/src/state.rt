@@ -20,6 +20,7 @@ use crate::rows::Rows;
 use crate::sampled::HistogramCell;
 use crate::settings::Settings;
 use distributions::DistributionBuilder;
+use hash_starts::HashStart;
 use indexmap::IndexMap;
 use metric_descriptions::Descriptions;
 use metrics_core::{Key, Memory, MetricKind, SeriesId, Sink};
@@ -34,7 +35,7 @@ use std::sync::Wait;
 /// share, and each histogram a queue; the exporter has the root pass of each, lends passes of it and takes them back. It can't be let
 /// go: end it by `end`.
 pub struct PrometheusState {
-    pub(crate) globals: IndexMap<String, String>,
+    pub(crate) globals: IndexMap<String, String, HashStart>,
     pub(crate) settings: Settings,
     pub(crate) distributions: DistributionBuilder,
     pub(crate) series: Registry<CounterCell, GaugeCell, HistogramCell>,
@@ -59,26 +60,28 @@ impl Model for PrometheusState {
 }
 
 impl PrometheusState {
-    /// An exporter with these global labels and settings, and no series.
+    /// An exporter with these global labels and settings, and no series. What it looks up by hashes, of keys and of names, it
+    /// looks up from the start of those of the global labels.
     pub(crate) fn new(
         alloc: Global,
-        globals: IndexMap<String, String>,
+        globals: IndexMap<String, String, HashStart>,
         settings: Settings,
     ) -> Result<PrometheusState, Memory>
         requires span { SpanIsTooLong settings → ⊥ }
         ensures made { IfOk result (λ exporter. exporter ≡ record { settings = with_globals settings (labels_of globals.entries); series = no_cells; said = nothing_described }) }
     {
         let distributions = settings.distributions(alloc)?;
-        let series = Registry::new(alloc)?;
+        let start = *globals.hasher();
+        let series = Registry::starting_from(alloc, start)?;
         Ok(PrometheusState {
             globals,
             settings,
             distributions,
             series,
-            counter_rows: Rows::new(alloc),
-            gauge_rows: Rows::new(alloc),
-            histogram_rows: Rows::new(alloc),
-            descriptions: Descriptions::new(),
+            counter_rows: Rows::new(alloc, start),
+            gauge_rows: Rows::new(alloc, start),
+            histogram_rows: Rows::new(alloc, start),
+            descriptions: Descriptions::new(start),
         })
     }
 

@@ -8,6 +8,7 @@ ghost use Rattle.prom_format.specs.Texts.{Begins};
 
 use crate::names::push_label_name;
 use crate::printed::push_label_value;
+use hash_starts::HashStart;
 use indexmap::IndexMap;
 use metrics_core::{Label, Memory};
 
@@ -16,7 +17,7 @@ use metrics_core::{Label, Memory};
 pub(crate) fn push_entries(
     buffer: &mut String,
     mut any: bool,
-    labels: &IndexMap<String, String>,
+    labels: &IndexMap<String, String, HashStart>,
 ) -> Result<bool, Memory>
     ensures ok { OnOk result (string_bytes buffer.new
         ≡ string_bytes buffer.old ++ separated any (label_texts (labels_of labels.now.entries))) }
@@ -34,7 +35,7 @@ pub(crate) fn push_entries(
 pub(crate) fn push_lent_entries(
     buffer: &mut String,
     mut any: bool,
-    labels: &IndexMap<&str, &str>,
+    labels: &IndexMap<&str, &str, HashStart>,
 ) -> Result<bool, Memory>
     ensures ok { OnOk result (string_bytes buffer.new
         ≡ string_bytes buffer.old ++ separated any (label_texts (labels_of_lent labels.now.entries))) }

@@ -15,6 +15,7 @@ use crate::braces::{close_braces, push_entries, push_labels, push_lent_entries};
 use crate::lent_labels::lend_labels;
 use crate::names::{NameKind, push_metric_name};
 use crate::undo::undo_refused;
+use hash_starts::HashStart;
 use indexmap::IndexMap;
 use metrics_core::{Key, Label, Memory};
 use std::alloc::Global;
@@ -27,7 +28,7 @@ const MOST_PAIRED: usize = 8;
 pub fn row_head(
     alloc: Global,
     key: &Key,
-    global: &IndexMap<String, String>,
+    global: &IndexMap<String, String, HashStart>,
 ) -> Result<String, Memory>
     ensures head { IfOk result (λ text. string_bytes text
         ≡ head_text (sanitized_metric_name key.now.name) (shown_label_set (labels_of global.now.entries) key.now.labels)) }
@@ -42,7 +43,7 @@ pub fn row_head(
 pub fn push_row_head(
     buffer: &mut String,
     key: &Key,
-    globals: &IndexMap<String, String>,
+    globals: &IndexMap<String, String, HashStart>,
 ) -> Result<usize, Memory>
     ensures head { OnOk result (string_bytes buffer.new ≡ string_bytes buffer.old
         ++ head_text (sanitized_metric_name key.now.name) (shown_label_set (labels_of globals.now.entries) key.now.labels)) }
@@ -64,7 +65,7 @@ pub fn push_row_head(
 fn push_head(
     buffer: &mut String,
     key: &Key,
-    globals: &IndexMap<String, String>,
+    globals: &IndexMap<String, String, HashStart>,
 ) -> Result<usize, Memory>
     ensures head { OnOk result (string_bytes buffer.new ≡ string_bytes buffer.old
         ++ head_text (sanitized_metric_name key.now.name) (shown_label_set (labels_of globals.now.entries) key.now.labels)) }
@@ -85,7 +86,7 @@ fn push_head(
 pub fn push_row_labels(
     buffer: &mut String,
     key: &Key,
-    globals: &IndexMap<String, String>,
+    globals: &IndexMap<String, String, HashStart>,
 ) -> Result<(), Memory>
     ensures labels { OnOk result (string_bytes buffer.new ≡ string_bytes buffer.old
         ++ label_set_text (shown_label_set (labels_of globals.now.entries) key.now.labels)) }
@@ -102,7 +103,7 @@ pub fn push_row_labels(
 fn push_label_set(
     buffer: &mut String,
     key: &Key,
-    globals: &IndexMap<String, String>,
+    globals: &IndexMap<String, String, HashStart>,
 ) -> Result<(), Memory>
     ensures ok { OnOk result (string_bytes buffer.new ≡ string_bytes buffer.old
         ++ label_set_text (shown_label_set (labels_of globals.now.entries) key.now.labels)) }
@@ -124,7 +125,7 @@ fn push_label_set(
 /// Whether the rows of a series with this key begin with its own texts behind those of the global labels. It is so only where
 /// the name of the key is a metric name, the labels are at most eight, their keys are label names, all different and other
 /// than those of the global labels, and no backslash stands in their values. It takes no memory.
-pub fn prints_plainly(key: &Key, globals: &IndexMap<String, String>) -> bool
+pub fn prints_plainly(key: &Key, globals: &IndexMap<String, String, HashStart>) -> bool
     ensures { IsTrue result → PrintsPlainly (labels_of globals.now.entries) key.now }
 {
     let labels = key.labels().as_slice();
@@ -147,7 +148,7 @@ fn is_plain(label: &Label) -> bool
 
 /// Whether the labels of a key are few, and their keys all different and other than those of the global labels. The label
 /// set is then the global labels and these.
-fn have_own_keys(labels: &[Label], globals: &IndexMap<String, String>) -> bool
+fn have_own_keys(labels: &[Label], globals: &IndexMap<String, String, HashStart>) -> bool
     ensures { IsTrue result → label_set (labels_of globals.now.entries) labels.now
         ≡ labels_of globals.now.entries ++ labels.now }
 {

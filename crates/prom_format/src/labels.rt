@@ -13,6 +13,7 @@ ghost use Rattle.prom_format.specs.Pages.{label_text};
 
 use crate::names::sanitize_label_key;
 use crate::printed::sanitize_label_value;
+use hash_starts::HashStart;
 use indexmap::IndexMap;
 use indexmap::map::Slice;
 use metrics_core::{Key, Memory};
@@ -23,7 +24,7 @@ use std::marker::Model;
 /// The labels of a series, each key once, in the order in which they are printed. A contract sees them as a list.
 #[derive(Drop)]
 pub struct LabelSet {
-    labels: IndexMap<String, String>,
+    labels: IndexMap<String, String, HashStart>,
 }
 
 impl Model for LabelSet {
@@ -42,7 +43,7 @@ impl LabelSet {
         ensures { result ≡ [] }
     {
         LabelSet {
-            labels: IndexMap::new(alloc),
+            labels: IndexMap::with_hasher(alloc, HashStart::fixed()),
         }
     }
 
@@ -51,11 +52,11 @@ impl LabelSet {
     pub fn from_key_and_global(
         alloc: Global,
         key: &Key,
-        global: &IndexMap<String, String>,
+        global: &IndexMap<String, String, HashStart>,
     ) -> Result<LabelSet, Memory>
         ensures labels { IfOk result (λ set. set ≡ label_set (labels_of global.now.entries) key.now.labels) }
     {
-        let mut labels = IndexMap::new(alloc);
+        let mut labels = IndexMap::with_hasher(alloc, *global.hasher());
         for (name, value) in global {
             put_label(&mut labels, name.as_str(), value.as_str(), alloc)?;
         }
@@ -73,7 +74,7 @@ impl LabelSet {
     }
 
     /// The labels as a map holds them, each under its key.
-    pub(crate) fn entries(&self) -> &IndexMap<String, String>
+    pub(crate) fn entries(&self) -> &IndexMap<String, String, HashStart>
         ensures { labels_of result.now.entries ≡ self.now }
     {
         &self.labels
@@ -156,7 +157,7 @@ impl<'a> LabelStrings<'a> {
 
 /// Puts a label where its key stands, and otherwise behind the others.
 pub fn put_label(
-    labels: &mut IndexMap<String, String>,
+    labels: &mut IndexMap<String, String, HashStart>,
     key: &str,
     value: &str,
     alloc: Global,

@@ -4,6 +4,7 @@ ghost use Rattle.std.specs.Prelude.{◌≡◌, IfOk, OnOk};
 ghost use Rattle.metrics_core.specs.Keys.{label_set, put_label};
 ghost use Rattle.prom_format.specs.LabelSets.{labels_of, labels_of_lent};
 
+use hash_starts::HashStart;
 use indexmap::IndexMap;
 use metrics_core::{Key, Memory};
 use std::alloc::Global;
@@ -13,11 +14,11 @@ use std::alloc::Global;
 pub(crate) fn lend_labels<'a>(
     alloc: Global,
     key: &'a Key,
-    globals: &'a IndexMap<String, String>,
-) -> Result<IndexMap<&'a str, &'a str>, Memory>
+    globals: &'a IndexMap<String, String, HashStart>,
+) -> Result<IndexMap<&'a str, &'a str, HashStart>, Memory>
     ensures labels { IfOk result (λ set. labels_of_lent set.entries ≡ label_set (labels_of globals.now.entries) key.now.labels) }
 {
-    let mut labels = IndexMap::new(alloc);
+    let mut labels = IndexMap::with_hasher(alloc, *globals.hasher());
     for (name, value) in globals {
         lend_label(&mut labels, name.as_str(), value.as_str())?;
     }
@@ -29,7 +30,7 @@ pub(crate) fn lend_labels<'a>(
 
 /// Puts a label where its key stands, and otherwise behind the others.
 fn lend_label<'a>(
-    labels: &mut IndexMap<&'a str, &'a str>,
+    labels: &mut IndexMap<&'a str, &'a str, HashStart>,
     key: &'a str,
     value: &'a str,
 ) -> Result<(), Memory>

@@ -12,6 +12,7 @@ use crate::{Gate, Report};
 use bench_scripts::{BenchRounds, bench_settings, script_is_valid, settings_are_allowed};
 use drive_script::DriveFault;
 use dsd_exporter::{DiscardLink, FlushReport, Link};
+use hash_starts::HashStart;
 use metrics_core::{Discard, Sink};
 use std::alloc::Global;
 use std::sync::Wait;
@@ -41,7 +42,7 @@ pub fn bench<R: Threads + Wait + Sync, K: Sink, G: Gate + Sync>(
     let mut link = DiscardLink::new();
     link.aim(alloc, &to)?;
     let settings = bench_settings(alloc)?;
-    let mut player = Player::new(alloc, settings, &to)?;
+    let mut player = Player::new(alloc, HashStart::fixed(), settings, &to)?;
     let played = player.play_bench(rt, alloc, gate, count, out, &mut link);
     let report = player.flushes.report;
     player.end(rt);

@@ -11,19 +11,22 @@ ghost use Rattle.script_runs.specs.Reading.{IsReadAs, IsUnread};
 use crate::play::play;
 use crate::reading::read_all;
 use crate::{Gate, Report};
-use drive_script::{DriveFault, Script, check_settings, read_script};
+use drive_script::{DriveFault, Script, check_settings, read_script_from};
 use dsd_addresses::RemoteAddr;
 use dsd_exporter::Link;
+use hash_starts::HashStart;
 use metrics_core::{Sink, Source};
 use std::alloc::Global;
+use std::random::RandomSource;
 use std::sync::Wait;
 use std::thread::Threads;
 
 /// Reads the whole script from the source and plays it: one page for each round goes to `out`, each ended by the line
 /// `# EOF`, and behind each page the payloads of a flush go to the link, which is aimed at the address once, before the first round.
 /// The lanes of a round run side by side, and the gate is called around each of their calls. Nothing is written or sent
-/// before the whole script was read and found valid. A payload that the link refuses is counted, and changes nothing else.
-pub fn drive<R: Threads + Wait + Sync, S: Source, K: Sink, L: Link, G: Gate + Sync>(
+/// before the whole script was read and found valid. A payload that the link refuses is counted, and changes nothing else. Names,
+/// labels and keys are looked up by hashes from a start that is drawn for the run, since the script may be a stranger's.
+pub fn drive<R: RandomSource + Threads + Wait + Sync, S: Source, K: Sink, L: Link, G: Gate + Sync>(
     rt: &R,
     alloc: Global,
     to: &RemoteAddr,
@@ -57,20 +60,22 @@ pub fn drive<R: Threads + Wait + Sync, S: Source, K: Sink, L: Link, G: Gate + Sy
     ensures complete { IfSome (S.left source.old) (λ bytes. IsComplete (remote_text to.now) bytes
         (Rose (S.faults source.old) (S.faults source.new)) (Rose (K.faults out.old) (K.faults out.new)) (end_status result)) }
 {
-    let script = read_whole_script(alloc, source)?;
+    let start = HashStart::drawn(rt);
+    let script = read_whole_script(alloc, start, source)?;
     check_settings(&script.settings, to)?;
     link.aim(alloc, to)?;
-    play(rt, alloc, gate, to, script, out, link)
+    play(rt, alloc, start, gate, to, script, out, link)
 }
 
 /// Reads the whole script from the source. Its bytes are let go at the end.
 pub(crate) fn read_whole_script<S: Source>(
     alloc: Global,
+    start: HashStart,
     source: &mut S,
 ) -> Result<Script, DriveFault>
     ensures read { IfOk result (λ script. IsReadAs (S.left source.old) (script_of script)) }
     ensures refused { IfErr result (IsUnread (S.left source.old) (Rose (S.faults source.old) (S.faults source.new))) }
 {
     let bytes = read_all(alloc, source)?;
-    read_script(alloc, &bytes)
+    read_script_from(alloc, start, &bytes)
 }

@@ -20,6 +20,7 @@ use dsd_exporter::{
     send_flush,
 };
 use dsd_writer::PayloadWriter;
+use hash_starts::HashStart;
 use metrics_core::{Label, Lcg, Memory, SharedString};
 use std::alloc::Global;
 use std::sync::Wait;
@@ -130,6 +131,7 @@ fn both(before: FlushReport, more: FlushReport) -> FlushReport
 /// The exporter whose series a script flushes, before its first round.
 pub(crate) fn lines_exporter(
     alloc: Global,
+    start: HashStart,
     settings: &Settings,
     prefix: Option<String>,
 ) -> Result<State, Memory>
@@ -149,7 +151,7 @@ pub(crate) fn lines_exporter(
         histograms_as_distributions: !settings.dsd_histograms,
         global_prefix: prefix,
     };
-    State::new(alloc, configuration)
+    State::starting_from(alloc, start, configuration)
 }
 
 /// Whether payloads to an address go over a stream, each led by its length.

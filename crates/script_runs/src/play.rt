@@ -22,6 +22,7 @@ use drive_script::{CallLine, DriveFault, Round, Script, Settings, Setup};
 use dsd_addresses::RemoteAddr;
 use dsd_exporter::Link;
 use exporter_lanes::Exporters;
+use hash_starts::HashStart;
 use metrics_core::{
     Key, KeyName, Memory, MetricKind, SeriesId, SharedString, Sink, Unit, write_whole,
 };
@@ -34,10 +35,12 @@ use std::thread::Threads;
 /// Plays a script: the lanes of each round run side by side, then a page goes to the sink, ended by the line `# EOF`, and then the payloads of
 /// a flush go to the link, which is aimed at the address. The gate is called around each call of a lane. The script is taken apart:
 /// the exporters keep its keys and descriptions, and the rest of a round is let go at the round's end. The exporter of the pages
-/// is ended whatever comes of the play. A payload that the link refuses is counted, and changes nothing else.
+/// is ended whatever comes of the play. A payload that the link refuses is counted, and changes nothing else. Names, labels and keys are
+/// looked up by hashes from a start.
 pub fn play<R: Threads + Wait + Sync, G: Gate + Sync, K: Sink, L: Link>(
     rt: &R,
     alloc: Global,
+    start: HashStart,
     gate: &G,
     to: &RemoteAddr,
     script: Script,
@@ -60,7 +63,7 @@ pub fn play<R: Threads + Wait + Sync, G: Gate + Sync, K: Sink, L: Link>(
 {
     let Script { settings, rounds } = script;
     let pages = rounds.len() as u64;
-    let mut player = Player::new(alloc, settings, to)?;
+    let mut player = Player::new(alloc, start, settings, to)?;
     let played = player.play_rounds(rt, alloc, gate, rounds, out, link);
     let report = player.flushes.report;
     player.end(rt);
@@ -110,8 +113,14 @@ impl Player {
     ghost use Rattle.script_runs.specs.Recorded.{AllRecordSome, RecordsSome};
     ghost use Rattle.script_runs.specs.Timely.{IsTimelyState, RiseFrom};
 
-    /// A player before its first round, over exporters with these settings, whose payloads go to an address.
-    pub(crate) fn new(alloc: Global, settings: Settings, to: &RemoteAddr) -> Result<Player, Memory>
+    /// A player before its first round, over exporters with these settings, whose payloads go to an address. Names, labels and
+    /// keys are looked up by hashes from a start.
+    pub(crate) fn new(
+        alloc: Global,
+        start: HashStart,
+        settings: Settings,
+        to: &RemoteAddr,
+    ) -> Result<Player, Memory>
         requires allowed { AreAllowed (remote_text to.now) (settings_of settings) }
         ensures start { IfOk result (λ player. state_of player ≡ play_start) }
         ensures settings { IfOk result (λ player. player.exporters.prometheus.settings ≡ exporter_settings (settings_of settings)) }
@@ -125,8 +134,8 @@ impl Player {
         let prefix = settings.dsd_prefix.take();
         let tags = mem::replace(&mut settings.dsd_globals, Vec::new(alloc));
         let flushes = Flushes::new(alloc, &settings, tags, to)?;
-        let dogstatsd = lines_exporter(alloc, &settings, prefix)?;
-        let builder = builder_of(alloc, settings)?;
+        let dogstatsd = lines_exporter(alloc, start, &settings, prefix)?;
+        let builder = builder_of(alloc, start, settings)?;
         match builder.build_state(alloc) {
             Ok(prometheus) => Ok(Player {
                 exporters: Exporters {

@@ -28,12 +28,14 @@ use crate::{Gate, ServeScriptFault};
 use drive_script::DriveFault;
 use dsd_addresses::RemoteAddr;
 use dsd_exporter::Link;
+use hash_starts::HashStart;
 use metrics_core::{Sink, Source};
 use net_addresses::Network;
 use page_relay::RelayFault;
 use prom_serve::Listener;
 use std::alloc::Global;
 use std::net::{Net, TcpListener, TcpStream};
+use std::random::RandomSource;
 use std::sync::Wait;
 use std::thread::Threads;
 
@@ -50,7 +52,7 @@ use std::thread::Threads;
 /// script are played, its payloads go nowhere, and the page of the last round is written to `out`. For the word `merge` the whole
 /// source is read as pages that stand one after the other, and the one page that they become is written to `out`.
 pub fn run<
-    R: Net<Listener = TcpListener, Stream = TcpStream> + Threads + Wait + Sync,
+    R: Net<Listener = TcpListener, Stream = TcpStream> + RandomSource + Threads + Wait + Sync,
     S: Source,
     K: Sink,
     E: Sink,
@@ -168,7 +170,7 @@ pub fn run<
             run_serve(rt, alloc, count, &networks, source, err, gate, listener)
         }
         Ok(Some(Command::Bench(rounds))) => run_bench(rt, alloc, rounds, out, err, gate),
-        Ok(Some(Command::Merge)) => run_merge(alloc, source, out, err),
+        Ok(Some(Command::Merge)) => { run_merge(alloc, HashStart::drawn(rt), source, out, err) }
         Ok(None) => {
             say_usage(err);
             2
@@ -181,7 +183,14 @@ pub fn run<
 }
 
 /// Does what the word `drive` asks for, where payloads go to an address.
-fn run_drive<R: Threads + Wait + Sync, S: Source, K: Sink, E: Sink, L: Link, G: Gate + Sync>(
+fn run_drive<
+    R: RandomSource + Threads + Wait + Sync,
+    S: Source,
+    K: Sink,
+    E: Sink,
+    L: Link,
+    G: Gate + Sync,
+>(
     rt: &R,
     alloc: Global,
     to: &RemoteAddr,
@@ -236,7 +245,7 @@ fn run_drive<R: Threads + Wait + Sync, S: Source, K: Sink, E: Sink, L: Link, G: 
 
 /// Does what the word `serve` asks for, with a count of connections and networks.
 fn run_serve<
-    R: Net<Listener = TcpListener, Stream = TcpStream> + Threads + Wait + Sync,
+    R: Net<Listener = TcpListener, Stream = TcpStream> + RandomSource + Threads + Wait + Sync,
     S: Source,
     E: Sink,
     G: Gate + Sync,
@@ -299,6 +308,7 @@ fn run_bench<R: Threads + Wait + Sync, K: Sink, E: Sink, G: Gate + Sync>(
 /// Does what the word `merge` asks for.
 fn run_merge<S: Source, K: Sink, E: Sink>(
     alloc: Global,
+    start: HashStart,
     source: &mut S,
     out: &mut K,
     err: &mut E,
@@ -317,7 +327,7 @@ fn run_merge<S: Source, K: Sink, E: Sink>(
             return status_of(fault);
         }
     };
-    match relay(alloc, &bytes, out) {
+    match relay(alloc, start, &bytes, out) {
         Ok(pages) => {
             say_merged(err, pages);
             0

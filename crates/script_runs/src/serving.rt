@@ -17,11 +17,13 @@ use crate::agent::default_agent;
 use crate::driving::read_whole_script;
 use crate::play::Player;
 use drive_script::{DriveFault, Round, Script, SettingFault, check_settings};
+use hash_starts::HashStart;
 use metrics_core::{Memory, Source};
 use net_addresses::Network;
 use prom_serve::{Listener, ServeError, Served, serve};
 use std::alloc::Global;
 use std::net::{Net, TcpListener, TcpStream};
+use std::random::RandomSource;
 use std::sync::Wait;
 use std::thread::Threads;
 
@@ -77,7 +79,7 @@ impl From<ServeError> for ServeScriptFault {
 /// is called around each of their calls. No connection is accepted before the whole script was read and found valid. A connection that
 /// fails is counted, and changes nothing else.
 pub fn serve_script<
-    R: Net<Listener = TcpListener, Stream = TcpStream> + Threads + Wait + Sync,
+    R: Net<Listener = TcpListener, Stream = TcpStream> + RandomSource + Threads + Wait + Sync,
     S: Source,
     G: Gate + Sync,
     N: Listener,
@@ -114,9 +116,10 @@ pub fn serve_script<
     ensures complete { IfSome (S.left source.old) (λ bytes. IsServeComplete bytes
         (Rose (S.faults source.old) (S.faults source.new)) (Rose (N.faults listener.old) (N.faults listener.new)) (serve_end_status result)) }
 {
-    let script = read_whole_script(alloc, source)?;
+    let start = HashStart::drawn(rt);
+    let script = read_whole_script(alloc, start, source)?;
     check_settings(&script.settings, &default_agent())?;
-    let served = play_and_serve(rt, alloc, gate, script, networks, listener, count)?;
+    let served = play_and_serve(rt, alloc, start, gate, script, networks, listener, count)?;
     Ok(served)
 }
 
@@ -128,6 +131,7 @@ fn play_and_serve<
 >(
     rt: &R,
     alloc: Global,
+    start: HashStart,
     gate: &G,
     script: Script,
     networks: &[Network],
@@ -148,7 +152,7 @@ fn play_and_serve<
     ensures never_falls { N.faults listener.old ≤ N.faults listener.new }
 {
     let Script { settings, rounds } = script;
-    let mut player = Player::new(alloc, settings, &default_agent())?;
+    let mut player = Player::new(alloc, start, settings, &default_agent())?;
     let served = player.serve_rounds(rt, alloc, gate, rounds, networks, listener, count);
     player.end(rt);
     served

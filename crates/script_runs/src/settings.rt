@@ -11,6 +11,7 @@ ghost use Rattle.script_runs.specs.Play.{exporter_settings, native_text};
 ghost use Rattle.script_runs.specs.Told.{native_told, rule_told};
 
 use drive_script::Settings;
+use hash_starts::HashStart;
 use metrics_core::{Fixed, Memory};
 use metrics_registry::MetricKindMask;
 use native_histograms::NativeHistogramConfig;
@@ -20,11 +21,15 @@ use std::alloc::Global;
 use std::num::NonZeroU32;
 
 /// A builder of an exporter with these settings, none of which is refused.
-pub(crate) fn builder_of(alloc: Global, settings: Settings) -> Result<PrometheusBuilder, Memory>
+pub(crate) fn builder_of(
+    alloc: Global,
+    start: HashStart,
+    settings: Settings,
+) -> Result<PrometheusBuilder, Memory>
     requires allowed { (to : RemoteText) × AreAllowed to (settings_of settings) }
     ensures { IfOk result (λ builder. builder.settings ≡ exporter_settings (settings_of settings)) }
 {
-    let builder = PrometheusBuilder::new(alloc)?;
+    let builder = PrometheusBuilder::starting_from(alloc, start)?;
     let builder = with_quantiles(alloc, builder, settings.quantiles)?;
     let builder = with_buckets(alloc, builder, settings.buckets)?;
     let builder = with_rules(alloc, builder, settings.buckets_for)?;

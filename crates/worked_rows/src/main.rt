@@ -10,6 +10,7 @@ use outcome::holds;
 use row::{read_row, runs_of};
 use std::alloc::Global;
 use std::net::{Net, TcpListener, TcpStream};
+use std::random::RandomSource;
 use std::rt::Files;
 use std::sync::Wait;
 use std::thread::Threads;
@@ -41,6 +42,7 @@ fn plays<
         + AllocGlobal
         + Print
         + Net<Listener = TcpListener, Stream = TcpStream>
+        + RandomSource
         + Threads
         + Wait
         + Sync,
@@ -62,6 +64,7 @@ fn plays_run<
         + AllocGlobal
         + Print
         + Net<Listener = TcpListener, Stream = TcpStream>
+        + RandomSource
         + Threads
         + Wait
         + Sync,
@@ -81,6 +84,7 @@ fn run_holds<
         + AllocGlobal
         + Print
         + Net<Listener = TcpListener, Stream = TcpStream>
+        + RandomSource
         + Threads
         + Wait
         + Sync,

@@ -9,6 +9,7 @@ use script_runs::{Free, run};
 use std::alloc::Global;
 use std::io::ErrorKind;
 use std::net::{Net, TcpListener, TcpStream};
+use std::random::RandomSource;
 use std::rt::Files;
 use std::sync::Wait;
 use std::thread::Threads;
@@ -40,6 +41,7 @@ pub fn holds<
         + AllocGlobal
         + Print
         + Net<Listener = TcpListener, Stream = TcpStream>
+        + RandomSource
         + Threads
         + Wait
         + Sync,
@@ -73,6 +75,7 @@ fn outcome_of<
     R: Files
         + AllocGlobal
         + Net<Listener = TcpListener, Stream = TcpStream>
+        + RandomSource
         + Threads
         + Wait
         + Sync,
@@ -113,12 +116,9 @@ fn add_peers_of<R: Files + AllocGlobal>(
 }
 
 /// Runs a row over its devices, and answers the status.
-fn played<R: Net<Listener = TcpListener, Stream = TcpStream> + Threads + Wait + Sync>(
-    rt: &R,
-    alloc: Global,
-    row: &Row,
-    devices: &mut Devices,
-) -> io::Result<u8> {
+fn played<
+    R: Net<Listener = TcpListener, Stream = TcpStream> + RandomSource + Threads + Wait + Sync,
+>(rt: &R, alloc: Global, row: &Row, devices: &mut Devices) -> io::Result<u8> {
     let words = words_of(alloc, &row.words)?;
     let Devices {
         source,

@@ -13,7 +13,7 @@ use Rattle.metrics_registry.proofs.key_list.KeyList.place_of.Goals.{After-from_r
 -- no key stands under the number
 none_there : (c : After-from_residual) → list_any (key_eq c.args.key.now) c.args.self.now.keys ≡ false
 none_there c =
-    rw (← c.self.view_is) (none_under c.self.inside.numbers c.args.key.now c.self.inside.keys.entries c.self.invariant.numbered c.number_of-number.result c.number_of-number.ensures (sym c.in_err-place.ensures.found))
+    rw (← c.self.view_is) (none_under c.self.inside.start c.self.inside.numbers c.args.key.now c.self.inside.keys.entries c.self.invariant.numbered c.number_of-number.result c.number_of-number.ensures (sym c.in_err-place.ensures.found))
 
 pub returns-in_err-place-clause-index : goal.returns-in_err-place-clause-index
 returns-in_err-place-clause-index c = c.from_residual.ensures ∙ sym (no_place (key_eq c.args.key.now) c.args.self.now.keys (none_there c))
@@ -29,7 +29,7 @@ found_there c =
     let k = c.index-as_slice-place.result in
     let keys = c.as_slice.ensures.keys ∙ ap (λ l. l.keys) (sym c.self.view_is) in
     let at = subst (λ l. slice_get l c.in_ok-place.place ≡ Some k) keys (slice_get_read c.as_slice.result.now (length c.as_slice.result.now) c.in_ok-place.place k refl (subst (λ l. c.in_ok-place.place < length l) (sym keys) within) c.index-as_slice-place.is) in
-    rw (← c.self.view_is) (found_under c.self.inside.numbers c.args.key.now es c.self.invariant.numbered c.number_of-number.result c.in_ok-place.place k c.number_of-number.ensures c.in_ok-place.ensures.index within at
+    rw (← c.self.view_is) (found_under c.self.inside.start c.self.inside.numbers c.args.key.now es c.self.invariant.numbered c.number_of-number.result c.in_ok-place.place k c.number_of-number.ensures c.in_ok-place.ensures.index within at
     (key_eq_laws.symm c.args.key.now k ∙ sym c.eq.ensures.value ∙ c.if-eq.true))
 
 pub returns-then-eq-clause-index : goal.returns-then-eq-clause-index
@@ -46,7 +46,7 @@ none_else_there c =
     let k = c.index-as_slice-place.result in
     let keys = c.as_slice.ensures.keys ∙ ap (λ l. l.keys) (sym c.self.view_is) in
     let at = subst (λ l. slice_get l c.in_ok-place.place ≡ Some k) keys (slice_get_read c.as_slice.result.now (length c.as_slice.result.now) c.in_ok-place.place k refl (subst (λ l. c.in_ok-place.place < length l) (sym keys) within) c.index-as_slice-place.is) in
-    rw (← c.self.view_is) (none_but c.self.inside.numbers c.args.key.now es c.self.invariant.numbered c.number_of-number.result c.in_ok-place.place k c.number_of-number.ensures c.in_ok-place.ensures.unique
+    rw (← c.self.view_is) (none_but c.self.inside.start c.self.inside.numbers c.args.key.now es c.self.invariant.numbered c.number_of-number.result c.in_ok-place.place k c.number_of-number.ensures c.in_ok-place.ensures.unique
     c.in_ok-place.ensures.index at (key_eq_laws.symm c.args.key.now k ∙ sym c.eq.ensures.value ∙ c.if-eq.false))
 
 pub returns-else-eq-clause-index : goal.returns-else-eq-clause-index

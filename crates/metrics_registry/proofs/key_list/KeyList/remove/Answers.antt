@@ -6,7 +6,7 @@ use Rattle.metrics_registry.proofs.key_list.KeyList.remove.Goals as goal
 
 pub invariant_of-self : goal.invariant_of-self
 invariant_of-self c = record {
-  numbered = numbered_removed c.self.inside.numbers c.forget.new.numbers c.in-Some.key c.in-Some.field-0-0 c.args.place c.self.inside.keys.entries c.shift_remove_index.new.self.entries
+  numbered = numbered_removed c.self.inside.start c.self.inside.numbers c.forget.new.numbers c.in-Some.key c.in-Some.field-0-0 c.args.place c.self.inside.keys.entries c.shift_remove_index.new.self.entries
       c.self.invariant.numbered c.in-Some.ensures.entry c.in-Some.ensures.entries c.in-Some.ensures.updates.1 c.forget.ensures;
 }
 

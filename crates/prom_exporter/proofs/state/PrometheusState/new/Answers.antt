@@ -13,9 +13,9 @@ first_none globals live rows is = rw is refl
 
 pub invariant_of-result : goal.invariant_of-result
 invariant_of-result c = record {
-  counters = first_none (labels_of c.args.globals.entries) c.in_ok-series.series.counters c.new-2.result c.new-2.ensures;
-  gauges = first_none (labels_of c.args.globals.entries) c.in_ok-series.series.gauges c.new-3.result c.new-3.ensures;
-  histograms = first_none (labels_of c.args.globals.entries) c.in_ok-series.series.histograms c.new-4.result c.new-4.ensures;
+  counters = first_none (labels_of c.args.globals.entries) c.in_ok-series.series.counters c.new.result c.new.ensures;
+  gauges = first_none (labels_of c.args.globals.entries) c.in_ok-series.series.gauges c.new-2.result c.new-2.ensures;
+  histograms = first_none (labels_of c.args.globals.entries) c.in_ok-series.series.histograms c.new-3.result c.new-3.ensures;
   kinds = c.in_ok-distributions.ensures;
   sampled = rw c.in_ok-series.ensures.empty (All-nil _);
 }

@@ -1,7 +1,7 @@
 use Rattle.std.proofs.Common.{◌≡◌, ℕ, ◌+◌, ◌≤◌, List, ◌++◌, length}
 use Rattle.drive_script.specs.Script.{lines_of}
 use Rattle.drive_script.specs.Texts.{StandsBehind}
-use Rattle.drive_script.proofs.reader.read_script.Given as goal
+use Rattle.drive_script.proofs.reader.read_script_from.Given as goal
 
 -- the progress stands behind the lines so far, and the rest has the others
 abbrev pub invariant-loop-rest : goal.invariant-loop-rest

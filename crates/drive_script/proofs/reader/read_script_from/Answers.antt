@@ -4,7 +4,7 @@ use Rattle.drive_script.specs.Script.{IsScript, lines_of}
 use Rattle.drive_script.specs.Texts.{script_so_far}
 use Rattle.drive_script.specs.Valid.{IsValid, AreValidLines}
 use Rattle.drive_script.proofs.Pieces.{first_bad}
-use Rattle.drive_script.proofs.reader.read_script.Goals as goal
+use Rattle.drive_script.proofs.reader.read_script_from.Goals as goal
 
 pub returns-then-not-branch-clause-refused : goal.returns-then-not-branch-clause-refused
 returns-then-not-branch-clause-refused c =
