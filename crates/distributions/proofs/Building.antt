@@ -10,26 +10,25 @@ use Rattle.std.specs.declared.num.NonZeroU32.{NonZeroU32}
 use Rattle.std.specs.Int.NonZero.{non_zero_u32_get}
 use Rattle.metrics_core.specs.declared.numbers.Fixed.{Fixed}
 use Rattle.prom_format.specs.Matchers.{MatcherText, matcher_cmp, fits, preferred, rule_for}
-use Rattle.distributions.specs.Rules.{saying}
+use Rattle.distributions.specs.Rules.{rule_behind, saying}
 use Rattle.distributions.specs.Kinds.{DistributionKind, DistributionRules, SummaryText, Histogram, native_kind, bucket_kind, general_kind, kind_for}
 use Rattle.distributions.specs.Builders.{bounds_of, count_or_default, duration_or_default}
-use Rattle.distributions.proofs.Fitting.{after}
 
 module _ {X Y : Type 0} (f : X → Y) (name : List ℕ) where
   abbrev seen : Option (MatcherText × X) → Option (MatcherText × Y)
   seen best = option_map (λ (rule : MatcherText × X). (rule.0, f rule.1)) best
 
-  after-seen : (best : Option (MatcherText × X)) (m : MatcherText) (x : X) → seen (after name best (m, x)) ≡ after name (seen best) (m, f x)
-  after-seen None m x = elim (fits m name) as (λ b. seen (cond b (Some (m, x)) None) ≡ cond b (Some (m, f x)) None) [ true ↦ refl | false ↦ refl ]
-  after-seen (Some (k, v)) m x =
+  behind-seen : (best : Option (MatcherText × X)) (m : MatcherText) (x : X) → seen (rule_behind name best (m, x)) ≡ rule_behind name (seen best) (m, f x)
+  behind-seen None m x = elim (fits m name) as (λ b. seen (cond b (Some (m, x)) None) ≡ cond b (Some (m, f x)) None) [ true ↦ refl | false ↦ refl ]
+  behind-seen (Some (k, v)) m x =
       elim (fits m name) as (λ b. seen (cond b (preferred (Some (k, v)) (m, x)) (Some (k, v))) ≡ cond b (preferred (Some (k, f v)) (m, f x)) (Some (k, f v))) [
         | true ↦ elim (is_gt (matcher_cmp m k)) as (λ b. seen (cond b (Some (k, v)) (Some (m, x))) ≡ cond b (Some (k, f v)) (Some (m, f x))) [ true ↦ refl | false ↦ refl ]
         | false ↦ refl
       ]
 
-  fold-seen : (rules : List (MatcherText × X)) (best : Option (MatcherText × X)) → seen (fold (after name) best rules) ≡ fold (after name) (seen best) (saying f rules)
+  fold-seen : (rules : List (MatcherText × X)) (best : Option (MatcherText × X)) → seen (fold (rule_behind name) best rules) ≡ fold (rule_behind name) (seen best) (saying f rules)
   fold-seen [] best = refl
-  fold-seen ((m, x) ∷ rules) best = fold-seen rules (after name best (m, x)) ∙ ap (λ b. fold (after name) b (saying f rules)) (after-seen best m x)
+  fold-seen ((m, x) ∷ rules) best = fold-seen rules (rule_behind name best (m, x)) ∙ ap (λ b. fold (rule_behind name) b (saying f rules)) (behind-seen best m x)
 
   -- the rule for a name says what the rule that it is seen from says
   pub rule_for-saying : (rules : List (MatcherText × X)) → rule_for (saying f rules) name ≡ option_map (λ (rule : MatcherText × X). (rule.0, f rule.1)) (rule_for rules name)
@@ -39,18 +38,18 @@ module _ {X : Type 0} (test : X → Bool) (name : List ℕ) where
   abbrev Passes : Option (MatcherText × X) → Type 0
   Passes best = IfSome best (λ rule. test rule.1 ≡ true)
 
-  after-passes : (best : Option (MatcherText × X)) (m : MatcherText) (x : X) → Passes best → test x ≡ true → Passes (after name best (m, x))
-  after-passes None m x so_far passes = elim (fits m name) as (λ b. Passes (cond b (Some (m, x)) None)) [ true ↦ passes | false ↦ tt ]
-  after-passes (Some (k, v)) m x so_far passes =
+  behind-passes : (best : Option (MatcherText × X)) (m : MatcherText) (x : X) → Passes best → test x ≡ true → Passes (rule_behind name best (m, x))
+  behind-passes None m x so_far passes = elim (fits m name) as (λ b. Passes (cond b (Some (m, x)) None)) [ true ↦ passes | false ↦ tt ]
+  behind-passes (Some (k, v)) m x so_far passes =
       elim (fits m name) as (λ b. Passes (cond b (preferred (Some (k, v)) (m, x)) (Some (k, v)))) [
         | true ↦ elim (is_gt (matcher_cmp m k)) as (λ b. Passes (cond b (Some (k, v)) (Some (m, x)))) [ true ↦ so_far | false ↦ passes ]
         | false ↦ so_far
       ]
 
-  fold-passes : (rules : List (MatcherText × X)) (best : Option (MatcherText × X)) → Passes best → list_all (λ rule. test rule.1) rules ≡ true → Passes (fold (after name) best rules)
+  fold-passes : (rules : List (MatcherText × X)) (best : Option (MatcherText × X)) → Passes best → list_all (λ rule. test rule.1) rules ≡ true → Passes (fold (rule_behind name) best rules)
   fold-passes [] best so_far all = so_far
   fold-passes ((m, x) ∷ rules) best so_far all =
-      fold-passes rules (after name best (m, x)) (after-passes best m x so_far (and_parts _ _ all).0) (and_parts _ _ all).1
+      fold-passes rules (rule_behind name best (m, x)) (behind-passes best m x so_far (and_parts _ _ all).0) (and_parts _ _ all).1
 
   -- what passes of each rule passes of the one for a name
   pub rule_for-passes : (rules : List (MatcherText × X)) → list_all (λ rule. test rule.1) rules ≡ true → (x : X) → Some x ≡ option_map (λ rule. rule.1) (rule_for rules name) → test x ≡ true

@@ -1,3 +1,4 @@
 mod Fitting
+mod Sides
 pub mod Recorded
 mod Building
