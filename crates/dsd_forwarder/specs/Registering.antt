@@ -83,22 +83,3 @@ pub record GivesHistogram (key : KeyText) (lent : LentHistogramOf) (old new : Ex
   pub between : Exporter
   pub registers : RegistersHistogram key old between
   pub hands : HandsHistogram (histogram_id key old) lent between new
-
--- what a recorder hands out for a key, whatever the state behind its lock was then
-pub record IsGivenCounter (key : KeyText) (lent : LentCounterOf) : Type 0 where
-  pub pass : IsCounterPass (arc_value lent.handle) lent.pass
-  pub old : Exporter
-  pub new : Exporter
-  pub gives : GivesCounter key lent old new
-
-pub record IsGivenGauge (key : KeyText) (lent : LentGaugeOf) : Type 0 where
-  pub pass : IsGaugePass (arc_value lent.handle) lent.pass
-  pub old : Exporter
-  pub new : Exporter
-  pub gives : GivesGauge key lent old new
-
-pub record IsGivenHistogram (key : KeyText) (lent : LentHistogramOf) : Type 0 where
-  pub pass : IsSamplePass (arc_value lent.handle) lent.pass
-  pub old : Exporter
-  pub new : Exporter
-  pub gives : GivesHistogram key lent old new

@@ -1,6 +1,8 @@
 //! The recorder of a DogStatsD exporter, which threads share.
 
-ghost use Rattle.dsd_forwarder.specs.Registering.{IsGivenCounter, IsGivenGauge, IsGivenHistogram};
+ghost use Rattle.std.specs.Arc.{arc_value};
+ghost use Rattle.flushed_cells.specs.Cells.{IsCounterPass, IsGaugePass};
+ghost use Rattle.sample_queue.specs.Passes.{IsSamplePass};
 
 use crate::registering::{
     register_and_lend_counter, register_and_lend_gauge, register_and_lend_histogram,
@@ -36,11 +38,12 @@ impl Recorder for DogStatsDRecorder {
 
     type Histogram = Lent<Arc<DsdHistogram>, SamplePass<Fixed>>;
 
-    ghost counter_of = { λ _ key _ lent. IsGivenCounter key lent };
+    // The pass is one of the cell. Which series it is can't be said: nothing is known of the state behind the lock.
+    ghost counter_of = { λ _ _ _ lent. IsCounterPass (arc_value lent.handle) lent.pass };
 
-    ghost gauge_of = { λ _ key _ lent. IsGivenGauge key lent };
+    ghost gauge_of = { λ _ _ _ lent. IsGaugePass (arc_value lent.handle) lent.pass };
 
-    ghost histogram_of = { λ _ key _ lent. IsGivenHistogram key lent };
+    ghost histogram_of = { λ _ _ _ lent. IsSamplePass (arc_value lent.handle) lent.pass };
 
     ghost describes = { λ _ _ _ _ _ answer. answer ≡ Ok tt };
 
