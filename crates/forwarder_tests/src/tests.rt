@@ -2,6 +2,7 @@
 
 use dsd_exporter::{AggregationMode, BuildError, DogStatsDBuilder, MemoryLink};
 use dsd_forwarder::*;
+use hash_starts::HashStart;
 use metrics_core::{Key, Label, Lcg, Level, Memory, Metadata};
 use metrics_facade::{Recorder, RecorderOnceCell};
 use std::alloc::Global;
@@ -168,6 +169,21 @@ fn holds<R: Wait>(rt: &R, alloc: Global, look: Look) -> Result<bool, Fail> {
     look_at(rt, alloc, &recorder, &mut forwarder, &mut link, look)
 }
 
+/// Whether a builder hands on what it was told.
+fn hands_on(builder: DogStatsDBuilder) -> bool {
+    let limit = builder.get_max_payload_len();
+    let interval = builder.get_flush_interval();
+    let parts = builder.into_parts();
+    limit == 512
+        && parts.max_payload_len == 512
+        && interval == 7_000_000_000
+        && parts.flush_interval == 7_000_000_000
+        && parts.write_timeout == 2_000_000_000
+        && parts.synchronous
+        && !parts.configuration.telemetry
+        && !parts.configuration.histograms_as_distributions
+}
+
 /// Installs a recorder, and answers whether it is refused since there is one.
 fn is_there(alloc: Global, cell: &RecorderOnceCell<DogStatsDRecorder>) -> Result<bool, Memory> {
     let builder = DogStatsDBuilder::new(alloc)?;
@@ -193,6 +209,19 @@ fn a_sample_is_sent_with_its_rate(rt: HostRuntime) -> Result<(), Fail> {
 #[test]
 fn lines_are_as_the_settings_say(rt: HostRuntime) -> Result<(), Fail> {
     assert!(rt; holds(&rt, rt.alloc(), Look::Settings)?);
+    Ok(())
+}
+
+#[test]
+fn a_builder_hands_on_its_settings(rt: HostRuntime) -> Result<(), Fail> {
+    let builder = DogStatsDBuilder::starting_from(rt.alloc(), HashStart::drawn(&rt))?
+        .with_write_timeout(2_000_000_000)
+        .with_flush_interval(7_000_000_000)
+        .with_synchronous_backend()
+        .with_telemetry(false)
+        .send_histograms_as_distributions(false)
+        .with_maximum_payload_length(512)?;
+    assert!(rt; hands_on(builder));
     Ok(())
 }
 
