@@ -1,5 +1,5 @@
 -- The live series of a registry, as its contracts see them (this project's rule).
-use Rattle.std.specs.Prelude.{◌≡◌, ℕ, ◌+◌, ◌<◌, Bool, ◌&&◌, ◌==◌, not, List, [], ◌∷◌, ◌++◌, map, filter, find, Option, option_map, if◌then◌else◌}
+use Rattle.std.specs.Prelude.{◌≡◌, ℕ, ◌+◌, ◌<◌, Bool, ◌&&◌, ◌==◌, not, List, [], ◌∷◌, ◌++◌, map, filter, find, Option, Some, None, option_map, if◌then◌else◌, ◌⊎◌}
 use Rattle.std.specs.List.{list_any}
 use Rattle.metrics_core.specs.declared.kinds.MetricKind.{MetricKind}
 use Rattle.metrics_core.specs.declared.kinds.MetricKind.TheVariants.{Counter, Gauge, Histogram}
@@ -37,6 +37,13 @@ module _ {X : Type 0} where
   -- the series and one more, which goes last
   abbrev pub with_last : List (LiveSeries X) → SeriesId → KeyText → X → List (LiveSeries X)
   with_last live id key cell = live ++ record { id = id; key = key; cell = cell } ∷ []
+
+  -- a key is registered: the id of the series with an equal key is given and nothing changes, or else a new series with such
+  -- a cell goes last under a new id
+  abbrev pub Registers : (X → Type 0) → KeyText → SeriesId → SeriesId → List (LiveSeries X) → List (LiveSeries X) → Type 0
+  Registers IsMade key new given before now =
+      ((id_of_key key before ≡ Some given) × (now ≡ before))
+      ⊎ ((id_of_key key before ≡ None) × (given ≡ new) × ((cell : X) × IsMade cell × (now ≡ with_last before new key cell)))
 
   -- the series with another cell at the id
   abbrev pub set_cell : SeriesId → X → LiveSeries X → LiveSeries X
@@ -95,6 +102,23 @@ module _ {C G H : Type 0} where
     histograms = with_last before.histograms (record { kind = Histogram; number = before.made }) key cell;
     made = before.made + 1;
   }
+
+  -- a key of a kind is registered: the id of the live series with an equal key is given and nothing changes, or else a new
+  -- series with such a cell goes last
+  abbrev pub RegistersCounter : (C → Type 0) → KeyText → SeriesId → RegistryText C G H → RegistryText C G H → Type 0
+  RegistersCounter IsMade key id before now =
+      ((id_of_key key before.counters ≡ Some id) × (now ≡ before))
+      ⊎ ((id_of_key key before.counters ≡ None) × (id ≡ record { kind = Counter; number = before.made }) × ((cell : C) × IsMade cell × (now ≡ with_counter before key cell)))
+
+  abbrev pub RegistersGauge : (G → Type 0) → KeyText → SeriesId → RegistryText C G H → RegistryText C G H → Type 0
+  RegistersGauge IsMade key id before now =
+      ((id_of_key key before.gauges ≡ Some id) × (now ≡ before))
+      ⊎ ((id_of_key key before.gauges ≡ None) × (id ≡ record { kind = Gauge; number = before.made }) × ((cell : G) × IsMade cell × (now ≡ with_gauge before key cell)))
+
+  abbrev pub RegistersHistogram : (H → Type 0) → KeyText → SeriesId → RegistryText C G H → RegistryText C G H → Type 0
+  RegistersHistogram IsMade key id before now =
+      ((id_of_key key before.histograms ≡ Some id) × (now ≡ before))
+      ⊎ ((id_of_key key before.histograms ≡ None) × (id ≡ record { kind = Histogram; number = before.made }) × ((cell : H) × IsMade cell × (now ≡ with_histogram before key cell)))
 
   -- the last series that was made is of a kind, and the registry was this before it
   abbrev pub MadeCounterLast : RegistryText C G H → RegistryText C G H → Type 0

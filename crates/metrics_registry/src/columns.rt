@@ -1,10 +1,11 @@
 //! How the series of one kind are stored: their keys in a set, and in the same order their ids and cells in a column.
 
-ghost use Rattle.std.specs.Prelude.{◌≡◌, ◌<◌, ◌≤◌, List, [], ◌∷◌, ◌++◌, length, slice_get, swap, remove, option_map, Some, None, All, OnOk, IfErr, OnErr};
+ghost use Rattle.std.specs.Prelude.{◌≡◌, ◌<◌, ◌≤◌, List, [], ◌∷◌, ◌++◌, length, slice_get, swap, remove, take, ◌-◌, option_map, Some, None, Ok, All, OnOk, IfOk, IfErr, OnErr};
 ghost use Rattle.std.specs.Option.{option_copied};
+ghost use Rattle.std.specs.Vec.{vec_len, vec_capacity};
 ghost use Rattle.std.specs.Borrow.{sem};
 ghost use Rattle.metrics_core.specs.Keys.{KeyText};
-ghost use Rattle.metrics_registry.specs.Live.{LiveSeries, id_of_key, cell_of, is_live, with_last, without};
+ghost use Rattle.metrics_registry.specs.Live.{LiveSeries, Registers, id_of_key, cell_of, is_live, with_last, without};
 ghost use Rattle.metrics_registry.specs.Retained.{AskedAt, Retains};
 
 use crate::key_list::KeyList;
@@ -139,6 +140,59 @@ impl<T> Column<T> {
             Err(key) => {
                 let Series { id: _, cell } = self.items.pop().unwrap();
                 Err((key, cell))
+            }
+        }
+    }
+
+    /// The id of the series with an equal key. Where there is none, one is made, which goes behind the others with this id; its
+    /// key is looked up once. Where it can't be made, or memory is refused, nothing changes.
+    pub(crate) fn register<F: FnOnce() -> Result<T, Memory>>(
+        &mut self,
+        keys: &mut KeyList,
+        key: Key,
+        id: SeriesId,
+        make: F,
+    ) -> Result<SeriesId, Memory>
+        requires stored { AreStored keys.old.keys self.old.items.items }
+        requires above { All (λ series. series.id.number < id.number) (live_of keys.old.keys self.old.items.items) }
+        requires callable { F.pre make }
+        ensures registered { IfOk result (λ given. Registers (λ cell. F.post make (Ok cell)) key id given
+            (live_of keys.old.keys self.old.items.items) (live_of keys.new.keys self.new.items.items)) }
+        ensures refused { OnErr result (live_of keys.new.keys self.new.items.items
+            ≡ live_of keys.old.keys self.old.items.items) }
+        ensures stored { AreStored keys.new.keys self.new.items.items }
+    {
+        self.items.reserve(1)?;
+        let Ok(found) = keys.enter(key) else {
+            return Err(Memory);
+        };
+        match found {
+            Some(place) => Ok(self.items[place].id),
+            None => self.put_last(keys, id, make),
+        }
+    }
+
+    /// Makes the series behind the others, whose key stands last already. Where it can't be made its key is removed.
+    fn put_last<F: FnOnce() -> Result<T, Memory>>(
+        &mut self,
+        keys: &mut KeyList,
+        id: SeriesId,
+        make: F,
+    ) -> Result<SeriesId, Memory>
+        requires room { vec_len self.old.items < vec_capacity self.old.items }
+        requires callable { F.pre make }
+        ensures put { IfOk result (λ given. (given ≡ id) × (keys.new.keys ≡ keys.old.keys)
+            × ((cell : T) × F.post make (Ok cell) × (self.new.items.items ≡ self.old.items.items ++ record { id = id; cell = cell } ∷ []))) }
+        ensures refused { OnErr result ((keys.new.keys ≡ take (length keys.old.keys - 1) keys.old.keys) × (self.new.items.items ≡ self.old.items.items)) }
+    {
+        match make() {
+            Ok(cell) => {
+                self.items.push_reserved(Series { id, cell });
+                Ok(id)
+            }
+            Err(refused) => {
+                keys.pop();
+                Err(refused)
             }
         }
     }

@@ -1,12 +1,13 @@
 //! The keys of the series of one kind, in order, and where each of them stands.
 
-ghost use Rattle.std.specs.Prelude.{◌≡◌, ◌-◌, ◌^◌, ◌<◌, [], ◌∷◌, ◌++◌, length, is_some, position, swap, remove, take, false, nat_eq, None, IfErr, IfSome, OnOk, OnErr};
+ghost use Rattle.std.specs.Prelude.{◌≡◌, ℕ, ◌-◌, ◌^◌, ◌<◌, [], ◌∷◌, ◌++◌, length, is_some, position, swap, remove, take, false, nat_eq, None, IfErr, IfNone, IfOk, IfSome, OnOk, OnErr};
 ghost use Rattle.std.specs.List.{list_any};
-ghost use Rattle.indexmap.specs.IndexMap.{get};
+ghost use Rattle.indexmap.specs.IndexMap.{get, values};
 ghost use Rattle.std.specs.BTreeMap.{get as number_in, is_at};
 ghost use Rattle.metrics_core.specs.Keys.{KeyText, key_eq, key_cmp};
 ghost use Rattle.hash_starts.specs.Starts.{begun_hash};
-ghost use Rattle.metrics_registry.specs.KeyLists.{key_fed, number_of};
+ghost use Rattle.hash_starts.specs.declared.start.HashStart.{HashStart};
+ghost use Rattle.metrics_registry.specs.KeyLists.{AreNumbered, NumbersText, key_fed, number_of};
 
 use hash_starts::HashStart;
 use indexmap::IndexMap;
@@ -68,12 +69,32 @@ impl KeyList {
         ensures within { IfSome result (λ place. place < length self.now.keys) }
     {
         let number = number_of(self.start, &self.numbers, key);
-        let place = self.keys.get_index_of(&number)?;
-        if self.as_slice()[place] == *key {
-            Some(place)
-        } else {
-            None
+        place_under(&self.keys, number, key)
+    }
+
+    /// The place of the key that is equal to a key. Where none is, the key goes behind the others, and there is no place.
+    /// Where memory is refused it comes back.
+    pub(crate) fn enter(&mut self, key: Key) -> Result<Option<usize>, Key>
+        ensures index { IfOk result (λ place. place ≡ position (key_eq key) self.old.keys) }
+        ensures found { IfOk result (λ place. is_some place ≡ list_any (key_eq key) self.old.keys) }
+        ensures within { IfOk result (λ place. IfSome place (λ place. place < length self.old.keys)) }
+        ensures kept { IfOk result (λ place. IfSome place (λ _. self.new.keys ≡ self.old.keys)) }
+        ensures added { IfOk result (λ place. IfNone place (self.new.keys ≡ self.old.keys ++ key ∷ [])) }
+        ensures refused { OnErr result (self.new.keys ≡ self.old.keys) }
+        ensures returned { IfErr result (λ returned. returned ≡ key) }
+    {
+        let number = number_of(self.start, &self.numbers, &key);
+        if let Some(place) = place_under(&self.keys, number, &key) {
+            return Ok(Some(place));
         }
+        push_numbered(
+            &mut self.keys,
+            &mut self.numbers,
+            &mut self.next,
+            number,
+            key,
+        )?;
+        Ok(None)
     }
 
     /// Adds a key behind the others. Where memory is refused it comes back.
@@ -84,19 +105,13 @@ impl KeyList {
         ensures returned { IfErr result (λ returned. returned ≡ key) }
     {
         let number = number_of(self.start, &self.numbers, &key);
-        if !self.keys.contains_key(&number) {
-            return push_under(&mut self.keys, number, key);
-        }
-        let Some(number) = free_number(&self.keys, &mut self.next) else {
-            return Err(key);
-        };
-        let Ok(copy) = key.clone(*self.keys.allocator()) else {
-            return Err(key);
-        };
-        match self.numbers.insert(copy, number) {
-            Ok(_) => push_under(&mut self.keys, number, key),
-            Err(_) => Err(key),
-        }
+        push_numbered(
+            &mut self.keys,
+            &mut self.numbers,
+            &mut self.next,
+            number,
+            key,
+        )
     }
 
     /// Removes the key at a place. The others keep their order.
@@ -127,7 +142,7 @@ impl KeyList {
     }
 
     /// Removes the last key.
-    fn pop(&mut self)
+    pub(crate) fn pop(&mut self)
         ensures { self.new.keys ≡ take (length self.old.keys - 1) self.old.keys }
     {
         if let Some((_, key)) = self.keys.pop() {
@@ -147,7 +162,7 @@ impl KeyList {
     pub(crate) fn as_slice(&self) -> &[Key]
         ensures keys { result.now ≡ self.now.keys }
     {
-        self.keys.as_slice().values().as_slice()
+        in_order(&self.keys)
     }
 }
 
@@ -167,6 +182,74 @@ fn begun_hash(start: HashStart, key: &Key) -> u64
     ensures { result ≡ begun_hash start (key_fed key.now) }
 {
     start.hash_one((key.get_hash(), key.name()))
+}
+
+/// The keys of a list, in order.
+fn in_order(keys: &IndexMap<u64, Key>) -> &[Key]
+    ensures { result.now ≡ values keys.now }
+{
+    keys.as_slice().values().as_slice()
+}
+
+/// The place of the key that stands under a number, if it is equal to a key.
+fn place_under(keys: &IndexMap<u64, Key>, number: u64, key: &Key) -> Option<usize>
+    ensures index { (start : HashStart) (numbers : NumbersText) → number ≡ number_of start numbers key.now → AreNumbered start numbers keys.now.entries
+        → result ≡ position (key_eq key.now) (values keys.now) }
+    ensures found { (start : HashStart) (numbers : NumbersText) → number ≡ number_of start numbers key.now → AreNumbered start numbers keys.now.entries
+        → is_some result ≡ list_any (key_eq key.now) (values keys.now) }
+    ensures within { IfSome result (λ place. place < length (values keys.now)) }
+{
+    let place = keys.get_index_of(&number)?;
+    if in_order(keys)[place] == *key {
+        Some(place)
+    } else {
+        None
+    }
+}
+
+/// Adds a key behind the others, whose number this is. Where memory is refused it comes back.
+fn push_numbered(
+    keys: &mut IndexMap<u64, Key>,
+    numbers: &mut BTreeMap<Key, u64>,
+    next: &mut u64,
+    number: u64,
+    key: Key,
+) -> Result<(), Key>
+    requires new { list_any (key_eq key) (values keys.old) ≡ false }
+    ensures numbered { (start : HashStart) → number ≡ number_of start numbers.old key → AreNumbered start numbers.old keys.old.entries → AreNumbered start numbers.new keys.new.entries }
+    ensures added { OnOk result (values keys.new ≡ values keys.old ++ key ∷ []) }
+    ensures refused { OnErr result (values keys.new ≡ values keys.old) }
+    ensures returned { IfErr result (λ returned. returned ≡ key) }
+{
+    if !keys.contains_key(&number) {
+        return push_under(keys, number, key);
+    }
+    push_apart(keys, numbers, next, key)
+}
+
+/// Adds a key behind the others, under a number that is kept for it. Where memory is refused it comes back.
+fn push_apart(
+    keys: &mut IndexMap<u64, Key>,
+    numbers: &mut BTreeMap<Key, u64>,
+    next: &mut u64,
+    key: Key,
+) -> Result<(), Key>
+    requires new { list_any (key_eq key) (values keys.old) ≡ false }
+    ensures numbered { (start : HashStart) → AreNumbered start numbers.old keys.old.entries → AreNumbered start numbers.new keys.new.entries }
+    ensures added { OnOk result (values keys.new ≡ values keys.old ++ key ∷ []) }
+    ensures refused { OnErr result (values keys.new ≡ values keys.old) }
+    ensures returned { IfErr result (λ returned. returned ≡ key) }
+{
+    let Some(number) = free_number(keys, next) else {
+        return Err(key);
+    };
+    let Ok(copy) = key.clone(*keys.allocator()) else {
+        return Err(key);
+    };
+    let Ok(_) = numbers.insert(copy, number) else {
+        return Err(key);
+    };
+    push_under(keys, number, key)
 }
 
 /// Lets the number go that is kept for a key.

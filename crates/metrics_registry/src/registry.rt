@@ -1,10 +1,10 @@
 //! The live series of one state, by kind, and how many were ever made.
 
-ghost use Rattle.std.specs.Prelude.{◌≡◌, ◌+◌, ◌-◌, ◌^◌, ◌<◌, [], length, slice_get, option_map, Some, None, IsOk, OnOk, IfOk, OnErr, IfErr};
+ghost use Rattle.std.specs.Prelude.{◌≡◌, ◌+◌, ◌-◌, ◌^◌, ◌<◌, [], length, slice_get, option_map, Some, None, Ok, IsOk, OnOk, IfOk, OnErr, IfErr};
 ghost use Rattle.std.specs.Option.{option_copied, option_copied_mut};
 ghost use Rattle.std.specs.Borrow.{sem};
 ghost use Rattle.metrics_core.specs.declared.kinds.MetricKind.TheVariants.{Counter, Gauge, Histogram};
-ghost use Rattle.metrics_registry.specs.Live.{RegistryText, IsNumbered, MadeCounterLast, MadeGaugeLast, MadeHistogramLast, id_of_key, cell_of, is_live, with_last, without};
+ghost use Rattle.metrics_registry.specs.Live.{RegistryText, IsNumbered, MadeCounterLast, MadeGaugeLast, MadeHistogramLast, RegistersCounter, RegistersGauge, RegistersHistogram, id_of_key, cell_of, is_live, with_last, without};
 ghost use Rattle.metrics_registry.specs.Places.{IsPlace};
 ghost use Rattle.metrics_registry.specs.Retained.{Retains};
 
@@ -136,6 +136,31 @@ impl<C: Drop, G: Drop, H: Drop> Registry<C, G, H> {
         }
     }
 
+    /// The id of the live counter with an equal key. Where there is none, one is made, which goes last under this key; the key is
+    /// looked up once. Where it can't be made, or memory is refused, nothing changes.
+    pub fn register_counter<F: FnOnce() -> Result<C, Memory>>(
+        &mut self,
+        key: Key,
+        make: F,
+    ) -> Result<SeriesId, Memory>
+        requires room { self.old.made < 2 ^ 64 - 1 }
+        requires callable { F.pre make }
+        ensures registered { IfOk result (λ id. RegistersCounter (λ cell. F.post make (Ok cell)) key id self.old self.new) }
+        ensures refused { OnErr result (self.new ≡ self.old) }
+    {
+        let id = SeriesId {
+            kind: MetricKind::Counter,
+            number: self.made,
+        };
+        let given = self
+            .counters
+            .register(&mut self.counter_keys, key, id, make)?;
+        if given.number == self.made {
+            self.made += 1;
+        }
+        Ok(given)
+    }
+
     /// Takes the counter back that was made last, as if it had never been made.
     pub fn take_back_counter(&mut self)
         requires { (before : RegistryText C G H) × MadeCounterLast before self.old }
@@ -248,6 +273,28 @@ impl<C: Drop, G: Drop, H: Drop> Registry<C, G, H> {
         }
     }
 
+    /// The id of the live gauge with an equal key, or else of a new one, as `register_counter` makes a counter.
+    pub fn register_gauge<F: FnOnce() -> Result<G, Memory>>(
+        &mut self,
+        key: Key,
+        make: F,
+    ) -> Result<SeriesId, Memory>
+        requires room { self.old.made < 2 ^ 64 - 1 }
+        requires callable { F.pre make }
+        ensures registered { IfOk result (λ id. RegistersGauge (λ cell. F.post make (Ok cell)) key id self.old self.new) }
+        ensures refused { OnErr result (self.new ≡ self.old) }
+    {
+        let id = SeriesId {
+            kind: MetricKind::Gauge,
+            number: self.made,
+        };
+        let given = self.gauges.register(&mut self.gauge_keys, key, id, make)?;
+        if given.number == self.made {
+            self.made += 1;
+        }
+        Ok(given)
+    }
+
     /// Takes the gauge back that was made last, as if it had never been made.
     pub fn take_back_gauge(&mut self)
         requires { (before : RegistryText C G H) × MadeGaugeLast before self.old }
@@ -355,6 +402,30 @@ impl<C: Drop, G: Drop, H: Drop> Registry<C, G, H> {
             }
             Err(parts) => Err(parts),
         }
+    }
+
+    /// The id of the live histogram with an equal key, or else of a new one, as `register_counter` makes a counter.
+    pub fn register_histogram<F: FnOnce() -> Result<H, Memory>>(
+        &mut self,
+        key: Key,
+        make: F,
+    ) -> Result<SeriesId, Memory>
+        requires room { self.old.made < 2 ^ 64 - 1 }
+        requires callable { F.pre make }
+        ensures registered { IfOk result (λ id. RegistersHistogram (λ cell. F.post make (Ok cell)) key id self.old self.new) }
+        ensures refused { OnErr result (self.new ≡ self.old) }
+    {
+        let id = SeriesId {
+            kind: MetricKind::Histogram,
+            number: self.made,
+        };
+        let given = self
+            .histograms
+            .register(&mut self.histogram_keys, key, id, make)?;
+        if given.number == self.made {
+            self.made += 1;
+        }
+        Ok(given)
     }
 
     /// Takes the histogram back that was made last, as if it had never been made.
