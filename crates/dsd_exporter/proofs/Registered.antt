@@ -1,6 +1,7 @@
 -- What registering does to the series that an exporter has seen, and to passes that are out.
-use Rattle.std.proofs.Common.{◌≡◌, ◌≢◌, ℕ, ◌+◌, Bool, true, false, cond, List, [], ◌∷◌, ◌++◌, map, Option, None, Some, refl, sym, ap, ◌∙◌}
-use Rattle.std.specs.Prelude.{find, unwrap_or, option_map, All}
+use Rattle.std.proofs.Common.{◌≡◌, ◌≢◌, ℕ, ◌+◌, Bool, true, false, cond, List, [], ◌∷◌, ◌++◌, map, Option, None, Some, Ok, Err, OnOk, OnErr, inl, inr, refl, sym, ap, ◌∙◌}
+use Rattle.std.specs.Prelude.{find, unwrap_or, option_map, All, IfOk, ◌⊎◌}
+use Rattle.std.specs.declared.result.Result.{Result}
 use Rattle.std.proofs.lemmas.Bool.{ne_eqb, eq-eqb}
 use Rattle.std.proofs.lemmas.Option.{same_Some}
 use Rattle.std.proofs.lemmas.List.{map_push}
@@ -9,7 +10,7 @@ use Rattle.metrics_core.specs.declared.kinds.MetricKind.{MetricKind}
 use Rattle.metrics_core.specs.declared.kinds.MetricKind.TheVariants as kinds
 use Rattle.metrics_core.specs.declared.kinds.SeriesId.{SeriesId}
 use Rattle.metrics_core.specs.Keys.{KeyText, key_eq}
-use Rattle.metrics_registry.specs.Live.{LiveSeries, has_key, id_of_key, AreOf, with_last, with_counter, with_gauge, with_histogram}
+use Rattle.metrics_registry.specs.Live.{LiveSeries, has_key, id_of_key, AreOf, RegistersCounter, RegistersGauge, RegistersHistogram, with_counter, with_gauge, with_histogram}
 use Rattle.legal_history.specs.declared.history.View.{View}
 use Rattle.dsd_exporter.specs.State.{no_series, number_found, number_given, register, with_new, with_cell_of}
 use Rattle.dsd_exporter.specs.Exporter.{CounterThing, GaugeThing, Queued, Cells, Exporter, AllHome, IsHome, unused, empty_queue, counter_seen, gauge_seen, samples_seen, series_seen, AddsCounter, AddsGauge, AddsHistogram}
@@ -74,17 +75,6 @@ module _ (kind : MetricKind) (key : KeyText) (s : Cells) where
   register-new : id_in kind key s ≡ None → s.made ≢ no_series → register kind key (series_seen s) ≡ with_new kind key (series_seen s)
   register-new none room = rw (number_seen kind key s, none, ne_eqb s.made no_series room) refl
 
--- a series that was made goes last
-module _ (s after : Cells) (key : KeyText) (id : SeriesId) where
-  pub counter_made : (c : CounterThing) → after ≡ record s { counters = with_last s.counters id key c; made = s.made + 1 } → id ≡ new_id kinds.Counter s.made → c ≡ unused c.fixed → after ≡ with_counter s key (unused c.fixed)
-  counter_made c added is fresh = added ∙ (λ j. record s { counters = with_last s.counters (is j) key (fresh j); made = s.made + 1 })
-
-  pub gauge_made : (c : GaugeThing) → after ≡ record s { gauges = with_last s.gauges id key c; made = s.made + 1 } → id ≡ new_id kinds.Gauge s.made → c ≡ unused c.fixed → after ≡ with_gauge s key (unused c.fixed)
-  gauge_made c added is fresh = added ∙ (λ j. record s { gauges = with_last s.gauges (is j) key (fresh j); made = s.made + 1 })
-
-  pub histogram_made : (c : Queued) → after ≡ record s { histograms = with_last s.histograms id key c; made = s.made + 1 } → id ≡ new_id kinds.Histogram s.made → c ≡ empty_queue c.cell → after ≡ with_histogram s key (empty_queue c.cell)
-  histogram_made c added is fresh = added ∙ (λ j. record s { histograms = with_last s.histograms (is j) key (fresh j); made = s.made + 1 })
-
 -- it is what registering adds to the series that were seen
 module _ (s after : Cells) (key : KeyText) where
   pub counter_registered : (c : CounterThing) → after ≡ with_counter s key (unused c.fixed) → id_in kinds.Counter key s ≡ None → s.made ≢ no_series → series_seen after ≡ register kinds.Counter key (series_seen s)
@@ -131,3 +121,122 @@ adds_histogram-home key old new adds home = rw adds.1 (record {
   gauges = home.gauges;
   histograms = home-last (λ (c : Queued). c.root) old.series.histograms _ (refl, refl) home.histograms;
 })
+
+-- ---- what is given and left where a key is registered
+
+pub on_ok : {X E : Type 0} (P : X → Type 0) (Q : Type 0) (r : Result X E) → IfOk r P → ((x : X) → P x → Q) → OnOk r Q
+on_ok P Q (Ok x) p f = f x p
+on_ok P Q (Err e) p f = tt
+
+pub if_ok : {X E : Type 0} (P Q : X → Type 0) (r : Result X E) → IfOk r P → ((x : X) → P x → Q x) → IfOk r Q
+if_ok P Q (Ok x) p f = f x p
+if_ok P Q (Err e) p f = tt
+
+pub either : {X E : Type 0} (P : X → Type 0) (Q R : Type 0) (r : Result X E) → IfOk r P → OnErr r Q → ((x : X) → P x → R) → (Q → R) → R
+either P Q R (Ok x) p q f g = f x p
+either P Q R (Err e) p q f g = g q
+
+-- a counter
+pub record GivenCounter (key : KeyText) (id : SeriesId) (s after : Cells) : Type 0 where
+  pub id_is : id ≡ new_id kinds.Counter (number_given kinds.Counter key s)
+  pub registered : series_seen after ≡ register kinds.Counter key (series_seen s)
+  pub cells : (after ≡ s) ⊎ ((c : CounterThing) × (after ≡ with_counter s key (unused c.fixed)))
+
+pub counter_given : (IsMade : CounterThing → Type 0) (key : KeyText) (id : SeriesId) (s after : Cells) → ((c : CounterThing) → IsMade c → c ≡ unused c.fixed) → s.made ≢ no_series → AreOf kinds.Counter s.made s.counters
+    → RegistersCounter IsMade key id s after → GivenCounter key id s after
+counter_given IsMade key id s after fresh room are (inl (found, same)) = record {
+  id_is = id-there kinds.Counter key s s.made s.counters id are found found;
+  registered = ap series_seen same ∙ register-there kinds.Counter key s id found;
+  cells = inl same;
+}
+counter_given IsMade key id s after fresh room are (inr (none, is, (c, made, added))) =
+    let new : after ≡ with_counter s key (unused c.fixed) = added ∙ ap (with_counter s key) (fresh c made) in
+    record {
+      id_is = is ∙ id-new kinds.Counter key s none s.made refl;
+      registered = counter_registered s after key c new none room;
+      cells = inr (c, new);
+    }
+
+-- a gauge
+pub record GivenGauge (key : KeyText) (id : SeriesId) (s after : Cells) : Type 0 where
+  pub id_is : id ≡ new_id kinds.Gauge (number_given kinds.Gauge key s)
+  pub registered : series_seen after ≡ register kinds.Gauge key (series_seen s)
+  pub cells : (after ≡ s) ⊎ ((c : GaugeThing) × (after ≡ with_gauge s key (unused c.fixed)))
+
+pub gauge_given : (IsMade : GaugeThing → Type 0) (key : KeyText) (id : SeriesId) (s after : Cells) → ((c : GaugeThing) → IsMade c → c ≡ unused c.fixed) → s.made ≢ no_series → AreOf kinds.Gauge s.made s.gauges
+    → RegistersGauge IsMade key id s after → GivenGauge key id s after
+gauge_given IsMade key id s after fresh room are (inl (found, same)) = record {
+  id_is = id-there kinds.Gauge key s s.made s.gauges id are found found;
+  registered = ap series_seen same ∙ register-there kinds.Gauge key s id found;
+  cells = inl same;
+}
+gauge_given IsMade key id s after fresh room are (inr (none, is, (c, made, added))) =
+    let new : after ≡ with_gauge s key (unused c.fixed) = added ∙ ap (with_gauge s key) (fresh c made) in
+    record {
+      id_is = is ∙ id-new kinds.Gauge key s none s.made refl;
+      registered = gauge_registered s after key c new none room;
+      cells = inr (c, new);
+    }
+
+-- a histogram
+pub record GivenHistogram (key : KeyText) (id : SeriesId) (s after : Cells) : Type 0 where
+  pub id_is : id ≡ new_id kinds.Histogram (number_given kinds.Histogram key s)
+  pub registered : series_seen after ≡ register kinds.Histogram key (series_seen s)
+  pub cells : (after ≡ s) ⊎ ((c : Queued) × (after ≡ with_histogram s key (empty_queue c.cell)))
+
+pub histogram_given : (IsMade : Queued → Type 0) (key : KeyText) (id : SeriesId) (s after : Cells) → ((c : Queued) → IsMade c → c ≡ empty_queue c.cell) → s.made ≢ no_series → AreOf kinds.Histogram s.made s.histograms
+    → RegistersHistogram IsMade key id s after → GivenHistogram key id s after
+histogram_given IsMade key id s after fresh room are (inl (found, same)) = record {
+  id_is = id-there kinds.Histogram key s s.made s.histograms id are found found;
+  registered = ap series_seen same ∙ register-there kinds.Histogram key s id found;
+  cells = inl same;
+}
+histogram_given IsMade key id s after fresh room are (inr (none, is, (c, made, added))) =
+    let new : after ≡ with_histogram s key (empty_queue c.cell) = added ∙ ap (with_histogram s key) (fresh c made) in
+    record {
+      id_is = is ∙ id-new kinds.Histogram key s none s.made refl;
+      registered = histogram_registered s after key c new none room;
+      cells = inr (c, new);
+    }
+
+pub counter_adds : (key : KeyText) (id : SeriesId) (old : Exporter) (after : Cells) → GivenCounter key id old.series after → (record old { series = after } ≡ old) ⊎ AddsCounter key old (record old { series = after })
+counter_adds key id old after given = by given.cells
+  where
+    by : (after ≡ old.series) ⊎ ((c : CounterThing) × (after ≡ with_counter old.series key (unused c.fixed))) → (record old { series = after } ≡ old) ⊎ AddsCounter key old (record old { series = after })
+    by (inl same) = inl (ap (λ (s : Cells). record old { series = s }) same)
+    by (inr (c, new)) = inr (c.fixed, ap (λ (s : Cells). record old { series = s }) new)
+
+pub counter_home : (key : KeyText) (id : SeriesId) (old : Exporter) (after : Cells) → GivenCounter key id old.series after → AllHome old → AllHome (record old { series = after })
+counter_home key id old after given home = by (counter_adds key id old after given)
+  where
+    by : (record old { series = after } ≡ old) ⊎ AddsCounter key old (record old { series = after }) → AllHome (record old { series = after })
+    by (inl same) = rw same home
+    by (inr adds) = adds_counter-home key old (record old { series = after }) adds home
+
+pub gauge_adds : (key : KeyText) (id : SeriesId) (old : Exporter) (after : Cells) → GivenGauge key id old.series after → (record old { series = after } ≡ old) ⊎ AddsGauge key old (record old { series = after })
+gauge_adds key id old after given = by given.cells
+  where
+    by : (after ≡ old.series) ⊎ ((c : GaugeThing) × (after ≡ with_gauge old.series key (unused c.fixed))) → (record old { series = after } ≡ old) ⊎ AddsGauge key old (record old { series = after })
+    by (inl same) = inl (ap (λ (s : Cells). record old { series = s }) same)
+    by (inr (c, new)) = inr (c.fixed, ap (λ (s : Cells). record old { series = s }) new)
+
+pub gauge_home : (key : KeyText) (id : SeriesId) (old : Exporter) (after : Cells) → GivenGauge key id old.series after → AllHome old → AllHome (record old { series = after })
+gauge_home key id old after given home = by (gauge_adds key id old after given)
+  where
+    by : (record old { series = after } ≡ old) ⊎ AddsGauge key old (record old { series = after }) → AllHome (record old { series = after })
+    by (inl same) = rw same home
+    by (inr adds) = adds_gauge-home key old (record old { series = after }) adds home
+
+pub histogram_adds : (key : KeyText) (id : SeriesId) (old : Exporter) (after : Cells) → GivenHistogram key id old.series after → (record old { series = after } ≡ old) ⊎ AddsHistogram key old (record old { series = after })
+histogram_adds key id old after given = by given.cells
+  where
+    by : (after ≡ old.series) ⊎ ((c : Queued) × (after ≡ with_histogram old.series key (empty_queue c.cell))) → (record old { series = after } ≡ old) ⊎ AddsHistogram key old (record old { series = after })
+    by (inl same) = inl (ap (λ (s : Cells). record old { series = s }) same)
+    by (inr (c, new)) = inr (c.cell, ap (λ (s : Cells). record old { series = s }) new)
+
+pub histogram_home : (key : KeyText) (id : SeriesId) (old : Exporter) (after : Cells) → GivenHistogram key id old.series after → AllHome old → AllHome (record old { series = after })
+histogram_home key id old after given home = by (histogram_adds key id old after given)
+  where
+    by : (record old { series = after } ≡ old) ⊎ AddsHistogram key old (record old { series = after }) → AllHome (record old { series = after })
+    by (inl same) = rw same home
+    by (inr adds) = adds_histogram-home key old (record old { series = after }) adds home

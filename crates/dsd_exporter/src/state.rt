@@ -5,7 +5,7 @@ ghost use Rattle.metrics_core.specs.declared.kinds.MetricKind.TheVariants.{Count
 ghost use Rattle.flushed_cells.specs.Passes as flushed;
 ghost use Rattle.sample_queue.specs.Passes as queued;
 ghost use Rattle.dsd_exporter.specs.State.{register, number_given};
-ghost use Rattle.dsd_exporter.specs.Exporter.{Exporter, AllHome, AddsCounter, AddsGauge, AddsHistogram, no_cells, series_seen, settings_of};
+ghost use Rattle.dsd_exporter.specs.Exporter.{Exporter, AllHome, AddsCounter, AddsGauge, AddsHistogram, empty_queue, no_cells, series_seen, settings_of, unused};
 ghost use Rattle.dsd_exporter.specs.Lending.{LendsCounter, LendsGauge, LendsHistogram, LentCounter, LentGauge, LentHistogram, HasNoCounter, HasNoGauge, HasNoHistogram, ChangesCounter, ChangesGauge, ChangesHistogram, with_one_back, queue_back};
 
 use crate::configuration::StateConfiguration;
@@ -100,20 +100,18 @@ impl State {
         ensures refused { OnErr result (self.new ≡ self.old) }
     {
         let number = self.series.made();
-        if let Some(id) = self.series.find_counter(&key) {
-            return Ok(id);
+        if number < u64::MAX {
+            return self
+                .series
+                .register_counter(key, || DsdCounter::owned(alloc));
         }
-        if number == u64::MAX {
-            return Ok(SeriesId {
+        match self.series.find_counter(&key) {
+            Some(id) => Ok(id),
+            None => Ok(SeriesId {
                 kind: MetricKind::Counter,
                 number,
-            });
+            }),
         }
-        let cell = DsdCounter::owned(alloc)?;
-        let Ok(id) = self.series.add_counter(key, cell) else {
-            return Err(Memory);
-        };
-        Ok(id)
     }
 
     /// Registers a gauge, as `register_counter` does a counter.
@@ -141,20 +139,21 @@ impl State {
         ensures refused { OnErr result (self.new ≡ self.old) }
     {
         let number = self.series.made();
-        if let Some(id) = self.series.find_gauge(&key) {
-            return Ok(id);
+        if number < u64::MAX {
+            return self.series.register_gauge(
+                key,
+                || -> Result<OwnedCell<DsdGauge>, Memory>
+                    ensures { IfOk result (λ made. made ≡ unused made.fixed) }
+                { DsdGauge::owned(alloc) },
+            );
         }
-        if number == u64::MAX {
-            return Ok(SeriesId {
+        match self.series.find_gauge(&key) {
+            Some(id) => Ok(id),
+            None => Ok(SeriesId {
                 kind: MetricKind::Gauge,
                 number,
-            });
+            }),
         }
-        let cell = DsdGauge::owned(alloc)?;
-        let Ok(id) = self.series.add_gauge(key, cell) else {
-            return Err(Memory);
-        };
-        Ok(id)
     }
 
     /// Registers a histogram, as `register_counter` does a counter.
@@ -182,20 +181,18 @@ impl State {
         ensures refused { OnErr result (self.new ≡ self.old) }
     {
         let number = self.series.made();
-        if let Some(id) = self.series.find_histogram(&key) {
-            return Ok(id);
+        if number < u64::MAX {
+            return self
+                .series
+                .register_histogram(key, || QueuedSamples::new(alloc));
         }
-        if number == u64::MAX {
-            return Ok(SeriesId {
+        match self.series.find_histogram(&key) {
+            Some(id) => Ok(id),
+            None => Ok(SeriesId {
                 kind: MetricKind::Histogram,
                 number,
-            });
+            }),
         }
-        let cell = QueuedSamples::new(alloc)?;
-        let Ok(id) = self.series.add_histogram(key, cell) else {
-            return Err(Memory);
-        };
-        Ok(id)
     }
 
     /// Lends a counter: its cell, and a new pass that has seen what the exporter has seen and has made no call. Answers `None`

@@ -1,48 +1,39 @@
-use Rattle.std.proofs.Common.{refl, sym, ap, ◌∙◌, inr}
+use Rattle.std.proofs.Common.{rules, ap, sym, arith}
 use Rattle.metrics_core.specs.declared.kinds.MetricKind.TheVariants.{Gauge}
-use Rattle.dsd_exporter.specs.Exporter.{Cells, settings_of}
-use Rattle.dsd_exporter.proofs.Registered.{register-there, id-there, id-new, register-full, gauge_made, gauge_registered, adds_gauge-home}
+use Rattle.metrics_core.specs.declared.kinds.SeriesId.{SeriesId}
+use Rattle.metrics_registry.specs.Live.{RegistersGauge}
+use Rattle.dsd_exporter.specs.Exporter.{Cells, Exporter, settings_of}
+use Rattle.dsd_exporter.proofs.Registered.{GivenGauge, gauge_adds, gauge_given, gauge_home, either, id-there, if_ok, on_ok}
 use Rattle.dsd_exporter.proofs.state.State.register_owned_gauge.Goals as goal
+use Rattle.dsd_exporter.proofs.state.State.register_owned_gauge.Goals.{After-register_gauge}
 
-pub returns-in-Some-clause-registered : goal.returns-in-Some-clause-registered
-returns-in-Some-clause-registered c = rw (← c.self.view_is) (register-there Gauge c.args.key c.self.inside.series c.in-Some.id (sym c.in-Some.ensures))
+abbrev exporter : After-register_gauge → Exporter
+exporter c = record { settings = settings_of c.self.inside.configuration; series = c.self.inside.series }
+
+pub returns-then-number-lt18446744073709551615-clause-registered : goal.returns-then-number-lt18446744073709551615-clause-registered
+returns-then-number-lt18446744073709551615-clause-registered c =
+    rw (← c.self.view_is) (on_ok _ _ c.register_gauge.result c.register_gauge.ensures.registered
+    (λ id r. (gauge_given _ c.args.key id c.self.inside.series c.register_gauge.new.self (λ cell made. search rules) (λ full. absurd (omega (arith, c.if-number-lt18446744073709551615.true, c.made-number.ensures.made, full))) c.made-number.ensures.numbered.gauges.1 r).registered))
+
+pub returns-then-number-lt18446744073709551615-clause-cells : goal.returns-then-number-lt18446744073709551615-clause-cells
+returns-then-number-lt18446744073709551615-clause-cells c =
+    rw (← c.self.view_is) (on_ok _ _ c.register_gauge.result c.register_gauge.ensures.registered
+    (λ id r. gauge_adds c.args.key id (exporter c) c.register_gauge.new.self
+    (gauge_given _ c.args.key id c.self.inside.series c.register_gauge.new.self (λ cell made. search rules) (λ full. absurd (omega (arith, c.if-number-lt18446744073709551615.true, c.made-number.ensures.made, full))) c.made-number.ensures.numbered.gauges.1 r)))
+
+pub returns-then-number-lt18446744073709551615-clause-home : goal.returns-then-number-lt18446744073709551615-clause-home
+returns-then-number-lt18446744073709551615-clause-home c =
+    rw (← c.self.view_is) (either _ _ _ c.register_gauge.result c.register_gauge.ensures.registered c.register_gauge.ensures.refused
+    (λ id r. gauge_home c.args.key id (exporter c) c.register_gauge.new.self
+    (gauge_given _ c.args.key id c.self.inside.series c.register_gauge.new.self (λ cell made. search rules) (λ full. absurd (omega (arith, c.if-number-lt18446744073709551615.true, c.made-number.ensures.made, full))) c.made-number.ensures.numbered.gauges.1 r))
+    (λ same. rw same (λ home. home)))
+
+pub returns-then-number-lt18446744073709551615-clause-id : goal.returns-then-number-lt18446744073709551615-clause-id
+returns-then-number-lt18446744073709551615-clause-id c =
+    rw (← c.self.view_is) (if_ok _ _ c.register_gauge.result c.register_gauge.ensures.registered
+    (λ id r. (gauge_given _ c.args.key id c.self.inside.series c.register_gauge.new.self (λ cell made. search rules) (λ full. absurd (omega (arith, c.if-number-lt18446744073709551615.true, c.made-number.ensures.made, full))) c.made-number.ensures.numbered.gauges.1 r).id_is))
 
 pub returns-in-Some-clause-id : goal.returns-in-Some-clause-id
 returns-in-Some-clause-id c =
     let series = c.self.inside.series in
     rw (← c.self.view_is) (id-there Gauge c.args.key series series.made series.gauges c.in-Some.id c.made-number.ensures.numbered.gauges.1 (sym c.in-Some.ensures) (sym c.in-Some.ensures))
-
-pub returns-then-number-clause-registered : goal.returns-then-number-clause-registered
-returns-then-number-clause-registered c = rw (← c.self.view_is) (register-full Gauge c.args.key c.self.inside.series (sym c.in_default.ensures) (sym c.made-number.ensures.made ∙ c.if-number.true))
-
-pub returns-then-number-clause-id : goal.returns-then-number-clause-id
-returns-then-number-clause-id c = rw (← c.self.view_is) (id-new Gauge c.args.key c.self.inside.series (sym c.in_default.ensures) c.made-number.result c.made-number.ensures.made)
-
-pub returns-clause-registered : goal.returns-clause-registered
-returns-clause-registered c =
-    let series = c.self.inside.series in
-    let after = c.add_gauge.new.self in
-    let made = gauge_made series after c.args.key c.in-Ok.id c.in_ok-cell.cell c.in-Ok.ensures.added c.in-Ok.ensures.id (λ j. record { root = c.in_ok-cell.ensures.0 j; fixed = c.in_ok-cell.cell.fixed }) in
-    rw (← c.self.view_is) (gauge_registered series after c.args.key c.in_ok-cell.cell made (sym c.in_default.ensures) (λ full. c.if-number.false (c.made-number.ensures.made ∙ full)))
-
-pub returns-clause-id : goal.returns-clause-id
-returns-clause-id c =
-    let series = c.self.inside.series in
-    rw (← c.self.view_is) (c.in-Ok.ensures.id ∙ id-new Gauge c.args.key series (sym c.in_default.ensures) series.made refl)
-
-pub returns-clause-cells : goal.returns-clause-cells
-returns-clause-cells c =
-    let series = c.self.inside.series in
-    let after = c.add_gauge.new.self in
-    let made = gauge_made series after c.args.key c.in-Ok.id c.in_ok-cell.cell c.in-Ok.ensures.added c.in-Ok.ensures.id (λ j. record { root = c.in_ok-cell.ensures.0 j; fixed = c.in_ok-cell.cell.fixed }) in
-    rw (← c.self.view_is) (inr (c.in_ok-cell.cell.fixed, ap (λ (cells : Cells). record { settings = settings_of c.self.inside.configuration; series = cells }) made))
-
-pub returns-clause-home : goal.returns-clause-home
-returns-clause-home c =
-    let series = c.self.inside.series in
-    let after = c.add_gauge.new.self in
-    let made = gauge_made series after c.args.key c.in-Ok.id c.in_ok-cell.cell c.in-Ok.ensures.added c.in-Ok.ensures.id (λ j. record { root = c.in_ok-cell.ensures.0 j; fixed = c.in_ok-cell.cell.fixed }) in
-    rw (← c.self.view_is) (adds_gauge-home c.args.key _ _ (c.in_ok-cell.cell.fixed, ap (λ (cells : Cells). record { settings = settings_of c.self.inside.configuration; series = cells }) made))
-
-pub returns-in_default-add_gauge-clause-home : goal.returns-in_default-add_gauge-clause-home
-returns-in_default-add_gauge-clause-home c = rw (c.in_default-add_gauge.ensures.refused, ← c.self.view_is) (λ home. home)
