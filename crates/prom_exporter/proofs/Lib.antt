@@ -11,6 +11,7 @@ pub mod Stepping
 pub mod PagesAgain
 pub mod LaneThings
 pub mod Crossing
+mod Given
 mod KeptCells
 mod LaneIndices
 mod LaneRounds

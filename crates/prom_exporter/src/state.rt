@@ -7,7 +7,7 @@ ghost use Rattle.prom_format.specs.LabelSets.{labels_of};
 ghost use Rattle.series_cells.specs.Pass.{view_of};
 ghost use Rattle.metric_descriptions.specs.Descriptions.{nothing_described};
 ghost use Rattle.prom_exporter.specs.State.{register, number_given, page_step};
-ghost use Rattle.prom_exporter.specs.Shared.{TakesBack};
+ghost use Rattle.prom_exporter.specs.Shared.{TakesBack, unused};
 ghost use Rattle.prom_exporter.specs.Builder.{with_globals, SpanIsTooLong};
 ghost use Rattle.prom_exporter.specs.Stepped.{IsNoted, AreNoted, Steps, DrainsEach, DrainsInPart};
 ghost use Rattle.prom_exporter.specs.Exporter.{Exporter, state_of, no_cells, AllHome, AddsCounter, AddsGauge, AreTimely, ChangesCounter, ChangesGauge, page_body, shown_body};
@@ -122,20 +122,21 @@ impl PrometheusState {
         ensures refused { OnErr result (self.new ≡ self.old) }
     {
         let number = self.series.made();
-        if let Some(id) = self.series.find_counter(&key) {
-            return Ok(id);
+        if number < u64::MAX {
+            return self.series.register_counter(
+                key,
+                || -> Result<CounterCell, Memory>
+                    ensures { IfOk result (λ made. made ≡ unused made.cell) }
+                { new_counter(alloc) },
+            );
         }
-        if number == u64::MAX {
-            return Ok(SeriesId {
+        match self.series.find_counter(&key) {
+            Some(id) => Ok(id),
+            None => Ok(SeriesId {
                 kind: MetricKind::Counter,
                 number,
-            });
+            }),
         }
-        let cell = new_counter(alloc)?;
-        let Ok(id) = self.series.add_counter(key, cell) else {
-            return Err(Memory);
-        };
-        Ok(id)
     }
 
     /// Registers a gauge, as `register_counter` does a counter.
@@ -165,20 +166,21 @@ impl PrometheusState {
         ensures refused { OnErr result (self.new ≡ self.old) }
     {
         let number = self.series.made();
-        if let Some(id) = self.series.find_gauge(&key) {
-            return Ok(id);
+        if number < u64::MAX {
+            return self.series.register_gauge(
+                key,
+                || -> Result<GaugeCell, Memory>
+                    ensures { IfOk result (λ made. made ≡ unused made.cell) }
+                { new_gauge(alloc) },
+            );
         }
-        if number == u64::MAX {
-            return Ok(SeriesId {
+        match self.series.find_gauge(&key) {
+            Some(id) => Ok(id),
+            None => Ok(SeriesId {
                 kind: MetricKind::Gauge,
                 number,
-            });
+            }),
         }
-        let cell = new_gauge(alloc)?;
-        let Ok(id) = self.series.add_gauge(key, cell) else {
-            return Err(Memory);
-        };
-        Ok(id)
     }
 
     /// Lends a counter: its handle, and a new pass that has seen what the exporter has seen and has made no call. Answers
