@@ -392,24 +392,24 @@ impl Player {
         ensures stepped { OnOk result (state_of self.new ≡ setup_step (state_of self.old) (Register kind key)) }
         ensures registered { OnOk result (flush_state_of self.new ≡ register_step (flush_state_of self.old) (Register kind key)) }
     {
-        self.register_line(alloc, kind, &key)?;
+        self.register_line(alloc, kind, key.clone(alloc)?)?;
         self.register_row(alloc, kind, key)
     }
 
-    /// Registers a series of the flushes under a key, and gives it the next handle.
-    fn register_line(&mut self, alloc: Global, kind: MetricKind, key: &Key) -> Result<(), Memory>
+    /// Registers a series of the flushes under a key, which it keeps, and gives it the next handle.
+    fn register_line(&mut self, alloc: Global, kind: MetricKind, key: Key) -> Result<(), Memory>
         ensures pages { self.new.exporters.prometheus ≡ self.old.exporters.prometheus }
         ensures handles { self.new.handles ≡ self.old.handles }
         ensures lines_settings { self.new.exporters.dogstatsd.settings ≡ self.old.exporters.dogstatsd.settings }
         ensures lines_rest { LinesRest self.old.exporters.dogstatsd → LinesRest self.new.exporters.dogstatsd }
         ensures flushes { self.new.flushes ≡ self.old.flushes }
-        ensures registered { OnOk result (flush_state_of self.new ≡ register_step (flush_state_of self.old) (Register kind key.now)) }
+        ensures registered { OnOk result (flush_state_of self.new ≡ register_step (flush_state_of self.old) (Register kind key)) }
     {
         let lines = &mut self.exporters.dogstatsd;
         let id = match kind {
-            MetricKind::Counter => lines.register_counter(alloc, key)?,
-            MetricKind::Gauge => lines.register_gauge(alloc, key)?,
-            MetricKind::Histogram => lines.register_histogram(alloc, key)?,
+            MetricKind::Counter => lines.register_owned_counter(alloc, key)?,
+            MetricKind::Gauge => lines.register_owned_gauge(alloc, key)?,
+            MetricKind::Histogram => lines.register_owned_histogram(alloc, key)?,
         };
         self.line_handles.push(id)?;
         self.line_guesses.push(0)?;

@@ -63,15 +63,15 @@ pub returns-clause-registered : goal.returns-clause-registered
 returns-clause-registered c =
     elim c.match-kind.branch [
       | in-Counter+in_ok-id-in-Counter w ↦
-          registered_as c.match-kind.self c.args.kind kinds.Counter c.args.key.now c.args.self.now.exporters.dogstatsd c.args.self.now.flushes.marks c.args.self.now.line_handles.items _ c.match-kind.id w.in-Counter.is
+          registered_as c.match-kind.self c.args.kind kinds.Counter c.args.key c.args.self.now.exporters.dogstatsd c.args.self.now.flushes.marks c.args.self.now.line_handles.items _ c.match-kind.id w.in-Counter.is
           (ap (λ (s : Player). series_seen s.exporters.dogstatsd.series) w.self-is ∙ w.in_ok-id-in-Counter.ensures.registered) (ap (λ (s : Player). s.flushes.marks) w.self-is) (w.id-is ∙ w.in_ok-id-in-Counter.ensures.id)
           (c.in_ok-push.ensures.items ∙ ap (λ (s : Player). s.line_handles.items ++ c.match-kind.id ∷ []) w.self-is)
       | in-Gauge+in_ok-id-in-Gauge w ↦
-          registered_as c.match-kind.self c.args.kind kinds.Gauge c.args.key.now c.args.self.now.exporters.dogstatsd c.args.self.now.flushes.marks c.args.self.now.line_handles.items _ c.match-kind.id w.in-Gauge.is
+          registered_as c.match-kind.self c.args.kind kinds.Gauge c.args.key c.args.self.now.exporters.dogstatsd c.args.self.now.flushes.marks c.args.self.now.line_handles.items _ c.match-kind.id w.in-Gauge.is
           (ap (λ (s : Player). series_seen s.exporters.dogstatsd.series) w.self-is ∙ w.in_ok-id-in-Gauge.ensures.registered) (ap (λ (s : Player). s.flushes.marks) w.self-is) (w.id-is ∙ w.in_ok-id-in-Gauge.ensures.id)
           (c.in_ok-push.ensures.items ∙ ap (λ (s : Player). s.line_handles.items ++ c.match-kind.id ∷ []) w.self-is)
       | in-Histogram+in_ok-id-in-Histogram w ↦
-          registered_as c.match-kind.self c.args.kind kinds.Histogram c.args.key.now c.args.self.now.exporters.dogstatsd c.args.self.now.flushes.marks c.args.self.now.line_handles.items _ c.match-kind.id w.in-Histogram.is
+          registered_as c.match-kind.self c.args.kind kinds.Histogram c.args.key c.args.self.now.exporters.dogstatsd c.args.self.now.flushes.marks c.args.self.now.line_handles.items _ c.match-kind.id w.in-Histogram.is
           (ap (λ (s : Player). series_seen s.exporters.dogstatsd.series) w.self-is ∙ w.in_ok-id-in-Histogram.ensures.registered) (ap (λ (s : Player). s.flushes.marks) w.self-is) (w.id-is ∙ w.in_ok-id-in-Histogram.ensures.id)
           (c.in_ok-push.ensures.items ∙ ap (λ (s : Player). s.line_handles.items ++ c.match-kind.id ∷ []) w.self-is)
     ]
