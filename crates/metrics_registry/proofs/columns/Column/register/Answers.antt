@@ -21,7 +21,7 @@ returns-in-Some-clause-registered g c =
     let kept : c.enter.new.self.keys ≡ c.args.keys.now.keys = subst (λ o. IfSome o (λ _. c.enter.new.self.keys ≡ c.args.keys.now.keys)) c.in-Some.is c.in-Ok.ensures.kept in
     inl (
       id_of_key-at key_eq_laws.symm c.args.key c.args.keys.now.keys c.args.self.now.items.items c.in-Some.place c.index.result.now c.requires.stored.beside
-      (sym c.in-Ok.ensures.index ∙ c.in-Some.is) (subst (λ l. slice_get l c.in-Some.place ≡ Some c.index.result.now) items (slice_get_read _ _ _ _ refl inside c.index.ensures)),
+          (sym c.in-Ok.ensures.index ∙ c.in-Some.is) (subst (λ l. slice_get l c.in-Some.place ≡ Some c.index.result.now) items (slice_get_read _ _ _ _ refl inside c.index.ensures)),
       (λ j. live_of (kept j) (items j)),
     )
 
