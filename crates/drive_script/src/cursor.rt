@@ -24,7 +24,7 @@ ghost use Rattle.std.specs.Prelude.{
   [],
 };
 ghost use Rattle.std.specs.Cow.{cow_str_bytes};
-ghost use Rattle.std.specs.Str.Parse.{AllDigits};
+ghost use Rattle.std.specs.Str.Parse.{AllDigits, digits_value};
 ghost use Rattle.drive_script.specs.Reading.{
   after,
   and_then,
@@ -85,6 +85,9 @@ const PLACES: usize = 9;
 
 /// The greatest whole part of a value.
 const MOST_WHOLE: u64 = 9_223_372_036;
+
+/// So many digits are read without a look whether their value has room in 64 bits.
+const MOST_SHORT: usize = 19;
 
 /// How many samples one line may record.
 const MOST_SAMPLES: u32 = 1_000_000;
@@ -579,7 +582,26 @@ fn number_of(digits: &[u8]) -> Option<u64>
     if digits.len() > 1 && digits[0] == b'0' {
         return None;
     }
-    str::from_utf8(digits).ok()?.parse().ok()
+    if digits.is_empty() || digits.len() > MOST_SHORT {
+        return str::from_utf8(digits).ok()?.parse().ok();
+    }
+    Some(short_value(digits))
+}
+
+/// The value of at most nineteen digits, which 64 bits hold whatever they are.
+fn short_value(digits: &[u8]) -> u64
+    requires all { AllDigits 10 digits.now }
+    requires few { length digits.now ≤ 19 }
+    ensures value { result ≡ digits_value 10 digits.now }
+    ensures below { result < 10 ^ 19 }
+{
+    let mut value: u64 = 0;
+    let mut rest = digits;
+    while let [first, behind @ ..] = rest {
+        value = value * 10 + u64::from(*first - b'0');
+        rest = behind;
+    }
+    value
 }
 
 /// How many billionths one to nine digits behind a point are.
@@ -591,8 +613,7 @@ fn fraction_of(digits: &[u8]) -> Option<u64>
     if digits.is_empty() || digits.len() > PLACES {
         return None;
     }
-    let value: u64 = str::from_utf8(digits).ok()?.parse().ok()?;
-    Some(value * 10_u64.pow((PLACES - digits.len()) as u32))
+    Some(short_value(digits) * 10_u64.pow((PLACES - digits.len()) as u32))
 }
 
 /// The value of a sign and so many billionths, if it fits.
