@@ -1,10 +1,10 @@
 -- What is read from the front of a line is what stands there, and what stands there is read.
-use Rattle.std.proofs.Common.{◌≡◌, ◌≢◌, ℕ, ◌+◌, ◌^◌, ◌<◌, ◌≤◌, Bool, true, false, cond, not, ◌&&◌, leb, List, [], ◌∷◌, ◌++◌, length, get_or, take, drop, Option, Some, None, Result, Ok, Err, refl, sym, ap, subst, ◌∙◌, arith, inl, inr, lit<}
+use Rattle.std.proofs.Common.{◌≡◌, ◌≢◌, ℕ, ◌+◌, ◌-◌, ◌*◌, ◌^◌, ◌<◌, ◌≤◌, Bool, true, false, cond, not, ◌&&◌, leb, List, [], ◌∷◌, ◌++◌, length, get_or, take, drop, Option, Some, None, Result, Ok, Err, refl, sym, ap, subst, ◌∙◌, arith, inl, inr, lit<}
 use Rattle.std.specs.Prelude.{decimal, bytes_eq, position, unwrap_or, MatchOption, MatchResult, IsUtf8}
 use Rattle.std.specs.Result.{result_ok, OkIff}
 use Rattle.std.specs.Char.{is_ascii_digit, digit_value}
 use Rattle.std.specs.List.{position_or_len}
-use Rattle.std.specs.Str.Parse.{AllDigits, digits_value, ParsesUnsigned}
+use Rattle.std.specs.Str.Parse.{AllDigits, digits_value, digits_value_after, ParsesUnsigned}
 use Rattle.std.proofs.Math.Numerals.{one-add}
 use Rattle.std.proofs.lemmas.Bool.{cases_lt, cases_eq, lt-ltb, le-ltb, le-leb, lt-leb, leb-true, and_parts}
 use Rattle.std.proofs.lemmas.Bool.Decides.{nat_tests}
@@ -13,8 +13,8 @@ use Rattle.std.proofs.lemmas.List.{take_at, drop_at, take-append-drop}
 use Rattle.std.proofs.lemmas.List.Sums.{prefix_len-le-length}
 use Rattle.std.proofs.lemmas.Option.{cond_some, some_pair_parts}
 use Rattle.std.proofs.lemmas.Slice.Eq.{bytes_eq-Decides}
-use Rattle.std.proofs.lemmas.Str.{IsUtf8-from_ascii}
-use Rattle.std.proofs.lemmas.Str.Parse.{digit_from_value, IsNumeralModel, numerals_by_value, tells_digits, parse_digits}
+use Rattle.std.proofs.lemmas.Str.{IsUtf8-from_ascii, digit_value_digit}
+use Rattle.std.proofs.lemmas.Str.Parse.{digit_from_value, digits_value_short, IsNumeralModel, numerals_by_value, tells_digits, parse_digits}
 use Rattle.drive_script.specs.Reading.{◌>>=◌, behind, digit_count, number_of, number_at}
 
 -- the place of the first element that passes, or the length
@@ -149,3 +149,30 @@ parsed digits r all plain h = by r (parse_digits own 64 digits r h all)
     by : {E : Type 0} (r : Result ℕ E) → OkIff r ((0 < length digits) × (digits_value 10 digits < 2 ^ 64)) (digits_value 10 digits) → MatchOption (result_ok r) ((n : ℕ) → n < 2 ^ 64 → digits ≢ decimal n) (λ n. digits ≡ decimal n)
     by (Ok x) given = sym (decimal-digits_value own digits all given.0.0 (first given.0.0) given.0.1) ∙ ap decimal (sym given.1)
     by (Err x) given = λ n small is. given (subst (λ (ds : List ℕ). 0 < length ds) (sym is) (decimal_nonempty n small), subst (λ (v : ℕ). v < 2 ^ 64) (sym (ap (digits_value 10) is ∙ (decimal_is_IsNumeral n small).1)) small)
+
+-- further digits never lessen a number
+pub grows : (n : ℕ) (ds : List ℕ) → n ≤ digits_value_after 10 n ds
+grows n [] = omega arith
+grows n (c ∷ cs) = let rest = grows (n * 10 + digit_value c) cs in omega arith
+
+-- so a number that goes on to at most nineteen digits has room in 64 bits, also with the next one
+pub has_room : (digits ds : List ℕ) (n : ℕ) → AllDigits 10 digits → length digits ≤ 19 → AllDigits 10 ds → digits_value_after 10 n ds ≡ digits_value 10 digits → 0 < length ds
+    → (n * 10 < 2 ^ 64) × (n * 10 + (get_or ds 0 0 - 48) < 2 ^ 64)
+has_room digits [] n all few each same some = absurd (omega (arith, some))
+has_room digits (c ∷ cs) n all few each same some =
+    let value = digit_value_digit c (digit_from_value c each.0) in
+    let total = digits_value_short own digits 19 all few in
+    let below = grows (n * 10 + digit_value c) cs in
+    (omega (arith, total, below, same), omega (arith, value, total, below, same))
+
+-- at the end the number is that of all digits
+pub at_end : (digits ds : List ℕ) (n : ℕ) → AllDigits 10 digits → length digits ≤ 19 → digits_value_after 10 n ds ≡ digits_value 10 digits → length ds < 1 → n < 10 ^ 19
+at_end digits [] n all few same none = let total = digits_value_short own digits 19 all few in omega (arith, total, same)
+at_end digits (c ∷ cs) n all few same none = absurd (omega (arith, none))
+
+-- digits without a zero in front, which have room, are the decimal form of their value
+pub short_decimal : (digits : List ℕ) → AllDigits 10 digits → 0 < length digits → length digits ≤ 19 → (1 < length digits → get_or digits 0 0 ≢ 48) → digits ≡ decimal (digits_value 10 digits)
+short_decimal digits all some few plain = sym (decimal-digits_value own digits all some first (omega (arith, digits_value_short own digits 19 all few)))
+  where
+    first : get_or digits 0 0 ≡ 48 → length digits ≡ 1
+    first e = elim (cases_lt 1 (length digits)) [ inl long ↦ absurd (plain long e) | inr short ↦ omega arith ]

@@ -20,6 +20,7 @@ ghost use Rattle.std.specs.Prelude.{
   None,
   length,
   take,
+  slice_index,
   drop,
   [],
 };
@@ -583,9 +584,19 @@ fn number_of(digits: &[u8]) -> Option<u64>
         return None;
     }
     if digits.is_empty() || digits.len() > MOST_SHORT {
-        return str::from_utf8(digits).ok()?.parse().ok();
+        return parsed_number(digits);
     }
     Some(short_value(digits))
+}
+
+/// The same of any digits without a zero in front of others.
+fn parsed_number(digits: &[u8]) -> Option<u64>
+    requires all { AllDigits 10 digits.now }
+    requires plain { 1 < length digits.now → slice_index digits.now 0 ≢ 48 }
+    ensures { MatchOption result ((n : ℕ) → n < 2 ^ 64 → digits.now ≢ decimal n)
+        (λ n. digits.now ≡ decimal n) }
+{
+    str::from_utf8(digits).ok()?.parse().ok()
 }
 
 /// The value of at most nineteen digits, which 64 bits hold whatever they are.
