@@ -1,6 +1,6 @@
 //! What the lines of one series say beside their values.
 
-ghost use Rattle.std.specs.Prelude.{◌≡◌, ◌+◌, ◌≤◌, [], ◌++◌, length, vec_len, vec_capacity, option_copied};
+ghost use Rattle.std.specs.Prelude.{◌≡◌, ◌+◌, ◌≤◌, [], ◌∷◌, ◌++◌, length, vec_len, vec_capacity, option_copied};
 ghost use Rattle.dsd_writer.specs.Items.{type_text};
 ghost use Rattle.dsd_writer.specs.Lines.{ending_of};
 ghost use Rattle.dsd_writer.specs.Rooms.{Leaves};
@@ -9,7 +9,7 @@ ghost use Rattle.dsd_writer.specs.Writers.{item_of, sampled, timed};
 use crate::parts::{
     behind_all_tags, behind_rate, behind_timestamp, push_all_tags, push_rate, push_timestamp,
 };
-use crate::room::{behind, push};
+use crate::room::{behind, push, push_byte};
 use metrics_core::{Fixed, Key, Label};
 use std::marker::Model;
 
@@ -24,14 +24,14 @@ pub(crate) enum LineType {
 
 impl LineType {
     /// The letter that stands on the line.
-    fn as_str(self) -> &'static str
-        ensures { result.now ≡ type_text self }
+    fn letter(self) -> u8
+        ensures { type_text self ≡ result ∷ [] }
     {
         match self {
-            LineType::Counter => "c",
-            LineType::Gauge => "g",
-            LineType::Histogram => "h",
-            LineType::Distribution => "d",
+            LineType::Counter => b'c',
+            LineType::Gauge => b'g',
+            LineType::Histogram => b'h',
+            LineType::Distribution => b'd',
         }
     }
 }
@@ -119,7 +119,7 @@ impl<'a> Item<'a> {
     {
         if let Some(prefix) = self.prefix {
             push(bytes, prefix);
-            push(bytes, ".");
+            push_byte(bytes, b'.');
         }
         push(bytes, self.name);
     }
@@ -129,7 +129,7 @@ impl<'a> Item<'a> {
         ensures { Leaves result room (length (ending_of self.now)) }
     {
         let room = behind(room, "|")?;
-        let room = behind(room, self.line_type.as_str())?;
+        let room = room.checked_sub(1)?;
         let room = behind_rate(room, self.rate)?;
         let room = behind_all_tags(room, self.tags, self.global_tags)?;
         let room = behind_timestamp(room, self.timestamp)?;
@@ -143,11 +143,11 @@ impl<'a> Item<'a> {
         ensures len { vec_len bytes.new ≡ vec_len bytes.old + length (ending_of self.now) }
         ensures capacity { vec_capacity bytes.old ≤ vec_capacity bytes.new }
     {
-        push(bytes, "|");
-        push(bytes, self.line_type.as_str());
+        push_byte(bytes, b'|');
+        push_byte(bytes, self.line_type.letter());
         push_rate(bytes, self.rate);
         push_all_tags(bytes, self.tags, self.global_tags);
         push_timestamp(bytes, self.timestamp);
-        push(bytes, "\n");
+        push_byte(bytes, b'\n');
     }
 }

@@ -7,7 +7,7 @@ ghost use Rattle.dsd_writer.specs.Lines.{before_next, rate_text, tag_text, tags_
 ghost use Rattle.dsd_writer.specs.Rooms.{Leaves};
 
 use crate::numbers::NumberText;
-use crate::room::{behind, push};
+use crate::room::{behind, push, push_byte};
 use itoa::Buffer;
 use metrics_core::{Fixed, Label};
 
@@ -82,7 +82,7 @@ fn push_tag(bytes: &mut Vec<u8>, tag: &Label)
 {
     push(bytes, tag.key());
     if !tag.value().is_empty() {
-        push(bytes, ":");
+        push_byte(bytes, b':');
         push(bytes, tag.value());
     }
 }

@@ -11,7 +11,7 @@ use crate::WriteResult;
 use crate::items::Item;
 use crate::numbers::NumberText;
 use crate::packing::{make_way, note_length};
-use crate::room::push;
+use crate::room::push_byte;
 use metrics_core::Memory;
 use std::snapshot::Snapshot;
 
@@ -22,7 +22,7 @@ pub(crate) fn push_value(bytes: &mut Vec<u8>, text: &NumberText<'_>)
     ensures len { vec_len bytes.new ≡ vec_len bytes.old + 1 + length text.now }
     ensures capacity { vec_capacity bytes.old ≤ vec_capacity bytes.new }
 {
-    push(bytes, ":");
+    push_byte(bytes, b':');
     text.push_to(bytes);
 }
 

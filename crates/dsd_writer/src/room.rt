@@ -1,6 +1,6 @@
 //! Bytes behind one another in room that is there, and how they use up a limit.
 
-ghost use Rattle.std.specs.Prelude.{◌≡◌, ◌+◌, ◌≤◌, ◌++◌, length, vec_len, vec_capacity};
+ghost use Rattle.std.specs.Prelude.{◌≡◌, ◌+◌, ◌<◌, ◌≤◌, [], ◌∷◌, ◌++◌, length, vec_len, vec_capacity};
 ghost use Rattle.dsd_writer.specs.Rooms.{Leaves};
 
 /// Appends a text for which there is room.
@@ -10,7 +10,19 @@ pub(crate) fn push(bytes: &mut Vec<u8>, text: &str)
     ensures len { vec_len bytes.new ≡ vec_len bytes.old + length text.now }
     ensures capacity { vec_capacity bytes.old ≤ vec_capacity bytes.new }
 {
-    let _ = bytes.extend_from_slice(text.as_bytes());
+    if !text.is_empty() {
+        let _ = bytes.extend_from_slice(text.as_bytes());
+    }
+}
+
+/// Appends a byte for which there is room.
+pub(crate) fn push_byte(bytes: &mut Vec<u8>, byte: u8)
+    requires { vec_len bytes.old < vec_capacity bytes.old }
+    ensures items { bytes.new.items ≡ bytes.old.items ++ byte ∷ [] }
+    ensures len { vec_len bytes.new ≡ vec_len bytes.old + 1 }
+    ensures capacity { vec_capacity bytes.old ≤ vec_capacity bytes.new }
+{
+    bytes.push_reserved(byte);
 }
 
 /// What is left of a room after a text, where it fits.
