@@ -73,6 +73,7 @@ pub(crate) fn lanes_of(
         gather(
             alloc,
             &mut gathered,
+            calls,
             lane,
             places,
             call_of(moment, line.act),
@@ -144,10 +145,11 @@ fn behind(first: usize, index: Option<usize>) -> Result<Option<usize>, Memory>
     }
 }
 
-/// Puts a call last on a lane, on the series at both places.
+/// Puts a call last on a lane, on the series at both places. Lanes that begin have room for what they have of these calls.
 fn gather(
     alloc: Global,
     gathered: &mut Vec<LaneCalls>,
+    calls: &[CallLine],
     lane: usize,
     places: Places,
     call: SeriesCall,
@@ -165,12 +167,17 @@ fn gather(
         ≡ gathered_asked gathered.old.items l
         ++ (if lane == l then on_both call else [])) }
 {
-    make_room(alloc, gathered, lane)?;
+    make_room(alloc, gathered, calls, lane)?;
     gathered[lane].push_both(places, call)
 }
 
-/// Adds lanes without calls, until there is one with this number.
-fn make_room(alloc: Global, gathered: &mut Vec<LaneCalls>, lane: usize) -> Result<(), Memory>
+/// Adds lanes without calls, until there is one with this number. Each has room for what it has of these calls.
+fn make_room(
+    alloc: Global,
+    gathered: &mut Vec<LaneCalls>,
+    calls: &[CallLine],
+    lane: usize,
+) -> Result<(), Memory>
     requires { lane < 256 }
     ensures room { OnOk result (lane < length gathered.new.items) }
     ensures ready { OnOk result ((ids : SeriesIds)
@@ -183,7 +190,8 @@ fn make_room(alloc: Global, gathered: &mut Vec<LaneCalls>, lane: usize) -> Resul
         → gathered_asked gathered.new.items l ≡ gathered_asked gathered.old.items l) }
 {
     for number in gathered.len()..lane + 1 {
-        gathered.push(LaneCalls::new(alloc, number))?;
+        let empty = LaneCalls::with_room(alloc, number, calls)?;
+        gathered.push(empty)?;
     }
     Ok(())
 }
@@ -216,16 +224,21 @@ pub struct LaneCalls {
 }
 
 impl LaneCalls {
-    /// The lane with this number, without calls.
-    fn new(alloc: Global, number: usize) -> LaneCalls
-        ensures empty { (lane_cells result ≡ []) × (lane_lines result ≡ []) }
-        ensures number { result.number ≡ number }
+    /// The lane with this number, without calls, and with room for the two lines of each of these calls that is its own: so
+    /// none of its lines is moved while they are gathered.
+    fn with_room(alloc: Global, number: usize, calls: &[CallLine]) -> Result<LaneCalls, Memory>
+        ensures empty { IfOk result (λ lane. (lane_cells lane ≡ []) × (lane_lines lane ≡ [])) }
+        ensures number { IfOk result (λ lane. lane.number ≡ number) }
     {
-        LaneCalls {
+        let count = calls
+            .iter()
+            .filter(|line| usize::from(line.lane) == number)
+            .count();
+        Ok(LaneCalls {
             number,
             cells: IndexSet::new(alloc),
-            lines: Vec::new(alloc),
-        }
+            lines: Vec::with_capacity(alloc, count.saturating_mul(2))?,
+        })
     }
 
     /// Puts a call last, first on the Prometheus series and then on the DogStatsD series, each at its place or on none.

@@ -10,12 +10,12 @@ loop-number-preserved c =
     let inv = c.loop-number.invariant in
     let items = c.in_ok-push.ensures.items in
     let old = c.loop-number.gathered.items in
-    let new = c.new.result in
+    let new = c.in_ok-empty.empty in
     record {
       many = ap length items ∙ length_push old new ∙ ap (λ n. n + 1) inv.many;
-      ready = λ ids before. subst (AreReady ids) (sym items) (room_ready ids old new c.new.ensures.empty.0 c.new.ensures.empty.1 (inv.ready ids before));
+      ready = λ ids before. subst (AreReady ids) (sym items) (room_ready ids old new c.in_ok-empty.ensures.empty.0 c.in_ok-empty.ensures.empty.1 (inv.ready ids before));
       calls = λ j n. ap (λ gs. gathered_at j gs n) items
-          ∙ room_told (λ y. cell_calls j (lane_cells y) (lane_lines y)) (λ y none. ap (cell_calls j (lane_cells y)) none) old new c.new.ensures.empty.1 n ∙ inv.calls j n;
-      places = λ before. subst (AreInPlace 0) (sym items) (in_place_more 0 c.loop-number.number old new inv.many (c.new.ensures.number ∙ omega arith) (inv.places before));
-      lines = λ n. ap (λ gs. gathered_asked gs n) items ∙ room_told (λ y. map call_asked (lane_lines y)) (λ y none. ap (map call_asked) none) old new c.new.ensures.empty.1 n ∙ inv.lines n;
+          ∙ room_told (λ y. cell_calls j (lane_cells y) (lane_lines y)) (λ y none. ap (cell_calls j (lane_cells y)) none) old new c.in_ok-empty.ensures.empty.1 n ∙ inv.calls j n;
+      places = λ before. subst (AreInPlace 0) (sym items) (in_place_more 0 c.loop-number.number old new inv.many (c.in_ok-empty.ensures.number ∙ omega arith) (inv.places before));
+      lines = λ n. ap (λ gs. gathered_asked gs n) items ∙ room_told (λ y. map call_asked (lane_lines y)) (λ y none. ap (map call_asked) none) old new c.in_ok-empty.ensures.empty.1 n ∙ inv.lines n;
     }
