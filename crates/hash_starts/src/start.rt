@@ -1,5 +1,8 @@
 //! The start of hashes.
 
+ghost use Rattle.std.specs.Prelude.{◌≡◌, ℕ};
+ghost use Rattle.std.specs.Hash.DefaultHasher.{initial, with_keys};
+
 use std::collections::hash_map::RandomState;
 use std::hash::{BuildHasher, DefaultHasher};
 use std::random::RandomSource;
@@ -13,14 +16,18 @@ pub struct HashStart {
 
 impl HashStart {
     /// The start with the key 0, which everybody knows: for maps whose keys are one's own.
-    pub fn fixed() -> HashStart {
+    pub fn fixed() -> HashStart
+        ensures { result.hasher ≡ initial }
+    {
         HashStart {
             hasher: DefaultHasher::new(),
         }
     }
 
-    /// A start with a random key. Where the system gives no random bytes it is the fixed one.
-    pub fn drawn(rt: &impl RandomSource) -> HashStart {
+    /// A start with a random key. Where the system gives no random bytes it is the fixed one. A contract sees that it has some key.
+    pub fn drawn(rt: &impl RandomSource) -> HashStart
+        ensures { (first : ℕ) × (second : ℕ) × (result.hasher ≡ with_keys first second) }
+    {
         match RandomState::new(rt) {
             Ok(state) => HashStart {
                 hasher: state.build_hasher(),

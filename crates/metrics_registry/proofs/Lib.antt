@@ -4,6 +4,6 @@ pub mod StoredSeries
 pub mod Observed
 pub mod Bagged
 pub mod Ranked
-mod Registered
+pub mod Registered
 pub mod RetainedSeries
 pub mod IdTests

@@ -23,11 +23,11 @@ abbrev pub key_fed : KeyText → List (List ℕ)
 key_fed key = fed.u64 (key_hash key) ++ fed.str key.name
 
 -- the number of a key: the one that is kept for it, or else its hash from the start
-abbrev pub number_of : HashStart → BTreeMap KeyText ℕ → KeyText → ℕ
+abbrev pub number_of : HashStart → NumbersText → KeyText → ℕ
 number_of start numbers key = unwrap_or (get key_cmp numbers key) (begun_hash start (key_fed key))
 
 -- each of some entries is a number and a key that has it
-abbrev pub AreNumbered : HashStart → BTreeMap KeyText ℕ → List (ℕ × KeyText) → Type 0
+abbrev pub AreNumbered : HashStart → NumbersText → List (ℕ × KeyText) → Type 0
 AreNumbered start numbers entries = keys_of entries ≡ map (number_of start numbers) (values_of entries)
 
 -- the keys that are stored

@@ -2,7 +2,6 @@
 
 ghost use Rattle.std.specs.Prelude.{◌≡◌, ◌<◌, ◌≤◌, List, [], ◌∷◌, ◌++◌, length, slice_get, swap, remove, take, ◌-◌, option_map, Some, None, Ok, All, OnOk, IfOk, IfErr, OnErr};
 ghost use Rattle.std.specs.Option.{option_copied};
-ghost use Rattle.std.specs.Vec.{vec_len, vec_capacity};
 ghost use Rattle.std.specs.Borrow.{sem};
 ghost use Rattle.metrics_core.specs.Keys.{KeyText};
 ghost use Rattle.metrics_registry.specs.Live.{LiveSeries, Registers, id_of_key, cell_of, is_live, with_last, without};
@@ -144,8 +143,8 @@ impl<T> Column<T> {
         }
     }
 
-    /// The id of the series with an equal key. Where there is none, one is made, which goes behind the others with this id; its
-    /// key is looked up once. Where it can't be made, or memory is refused, nothing changes.
+    /// The id of the series with an equal key, which takes no memory. Where there is none, one is made, which goes behind the
+    /// others with this id; its key is looked up once. Where it can't be made, or memory is refused, nothing changes.
     pub(crate) fn register<F: FnOnce() -> Result<T, Memory>>(
         &mut self,
         keys: &mut KeyList,
@@ -158,11 +157,11 @@ impl<T> Column<T> {
         requires callable { F.pre make }
         ensures registered { IfOk result (λ given. Registers (λ cell. F.post make (Ok cell)) key id given
             (live_of keys.old.keys self.old.items.items) (live_of keys.new.keys self.new.items.items)) }
+        ensures absent { OnErr result (id_of_key key (live_of keys.old.keys self.old.items.items) ≡ None) }
         ensures refused { OnErr result (live_of keys.new.keys self.new.items.items
             ≡ live_of keys.old.keys self.old.items.items) }
         ensures stored { AreStored keys.new.keys self.new.items.items }
     {
-        self.items.reserve(1)?;
         let Ok(found) = keys.enter(key) else {
             return Err(Memory);
         };
@@ -179,22 +178,35 @@ impl<T> Column<T> {
         id: SeriesId,
         make: F,
     ) -> Result<SeriesId, Memory>
-        requires room { vec_len self.old.items < vec_capacity self.old.items }
         requires callable { F.pre make }
         ensures put { IfOk result (λ given. (given ≡ id) × (keys.new.keys ≡ keys.old.keys)
             × ((cell : T) × F.post make (Ok cell) × (self.new.items.items ≡ self.old.items.items ++ record { id = id; cell = cell } ∷ []))) }
         ensures refused { OnErr result ((keys.new.keys ≡ take (length keys.old.keys - 1) keys.old.keys) × (self.new.items.items ≡ self.old.items.items)) }
     {
-        match make() {
-            Ok(cell) => {
-                self.items.push_reserved(Series { id, cell });
-                Ok(id)
-            }
+        match self.push_made(id, make) {
+            Ok(()) => Ok(id),
             Err(refused) => {
                 keys.pop();
                 Err(refused)
             }
         }
+    }
+
+    /// Makes a cell and puts it behind the others, under an id.
+    fn push_made<F: FnOnce() -> Result<T, Memory>>(
+        &mut self,
+        id: SeriesId,
+        make: F,
+    ) -> Result<(), Memory>
+        requires callable { F.pre make }
+        ensures pushed { OnOk result ((cell : T) × F.post make (Ok cell)
+            × (self.new.items.items ≡ self.old.items.items ++ record { id = id; cell = cell } ∷ [])) }
+        ensures refused { OnErr result (self.new.items.items ≡ self.old.items.items) }
+    {
+        self.items.reserve(1)?;
+        let cell = make()?;
+        self.items.push_reserved(Series { id, cell });
+        Ok(())
     }
 
     /// Removes the series with the id. The others keep their order.

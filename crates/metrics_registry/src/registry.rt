@@ -146,6 +146,7 @@ impl<C: Drop, G: Drop, H: Drop> Registry<C, G, H> {
         requires room { self.old.made < 2 ^ 64 - 1 }
         requires callable { F.pre make }
         ensures registered { IfOk result (λ id. RegistersCounter (λ cell. F.post make (Ok cell)) key id self.old self.new) }
+        ensures absent { OnErr result (id_of_key key self.old.counters ≡ None) }
         ensures refused { OnErr result (self.new ≡ self.old) }
     {
         let id = SeriesId {
@@ -282,6 +283,7 @@ impl<C: Drop, G: Drop, H: Drop> Registry<C, G, H> {
         requires room { self.old.made < 2 ^ 64 - 1 }
         requires callable { F.pre make }
         ensures registered { IfOk result (λ id. RegistersGauge (λ cell. F.post make (Ok cell)) key id self.old self.new) }
+        ensures absent { OnErr result (id_of_key key self.old.gauges ≡ None) }
         ensures refused { OnErr result (self.new ≡ self.old) }
     {
         let id = SeriesId {
@@ -413,6 +415,7 @@ impl<C: Drop, G: Drop, H: Drop> Registry<C, G, H> {
         requires room { self.old.made < 2 ^ 64 - 1 }
         requires callable { F.pre make }
         ensures registered { IfOk result (λ id. RegistersHistogram (λ cell. F.post make (Ok cell)) key id self.old self.new) }
+        ensures absent { OnErr result (id_of_key key self.old.histograms ≡ None) }
         ensures refused { OnErr result (self.new ≡ self.old) }
     {
         let id = SeriesId {
