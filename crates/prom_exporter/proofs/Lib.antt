@@ -18,6 +18,7 @@ mod LaneRounds
 pub mod CallKinds
 pub mod KeptRows
 pub mod PieceTexts
+mod Printing
 pub mod Looked
 mod CopiedRules
 mod Written

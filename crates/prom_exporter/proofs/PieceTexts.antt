@@ -36,10 +36,10 @@ part-last bytes more =
     let left : length (bytes ++ more) - length bytes ≡ length more = omega (arith, long) in
     ap (take (length (bytes ++ more) - length bytes)) (drop-whole bytes more) ∙ take-whole more _ left
 
-within : {i n : ℕ} → nat_lt i n ≡ true → i < n
+pub within : {i n : ℕ} → nat_lt i n ≡ true → i < n
 within {i} {n} is = grind (arith, nat_tests)
 
-beyond : {i n : ℕ} → nat_lt i n ≡ false → n ≤ i
+pub beyond : {i n : ℕ} → nat_lt i n ≡ false → n ≤ i
 beyond {i} {n} is = grind (arith, nat_tests)
 
 -- a character begins at the place in the longer text too

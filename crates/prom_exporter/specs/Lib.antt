@@ -6,6 +6,7 @@ pub mod Sampled
 pub mod Values
 pub mod Pieces
 pub mod Rows
+pub mod Printed
 pub mod Kept
 pub mod SampledRows
 pub mod Sending

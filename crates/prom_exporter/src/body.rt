@@ -45,7 +45,7 @@ impl PrometheusState {
             units: self.settings.units(),
             descriptions: &self.descriptions,
         };
-        let (suffix, rows) = (self.settings.counter_suffix(), &self.counter_rows);
+        let (suffix, rows) = (self.settings.counter_suffix(), &mut self.counter_rows);
         write_families(
             &naming,
             suffix,
@@ -55,7 +55,7 @@ impl PrometheusState {
             &mut buffer,
             sink,
         )?;
-        let rows = &self.gauge_rows;
+        let rows = &mut self.gauge_rows;
         write_families(
             &naming,
             None,

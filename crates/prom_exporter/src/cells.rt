@@ -15,6 +15,10 @@ use std::alloc::Global;
 use std::marker::Model;
 use std::sync::Arc;
 
+/// A value on a page, in billionths.
+#[derive(Clone, Copy, PartialEq, Eq)]
+pub(crate) struct Billionths(pub(crate) i128);
+
 /// A cell whose value stands on a page.
 pub(crate) trait Shown {
     ghost use Rattle.std.specs.Prelude.{◌≡◌, ◌++◌, OnOk, string_bytes, ℤ};
@@ -22,6 +26,10 @@ pub(crate) trait Shown {
 
     /// The value, in billionths.
     ghost shown: { Self → ℤ };
+
+    /// The value, in billionths.
+    fn billionths(&self) -> Billionths
+        ensures { result.0 ≡ shown self.now };
 
     /// Appends the value in its page spelling.
     fn push_value(&self, buffer: &mut String) -> Result<(), Memory>
@@ -159,6 +167,10 @@ impl Shown for KeptCell<PromCounter> {
 
     ghost shown = { counter_shown };
 
+    fn billionths(&self) -> Billionths {
+        Billionths(i128::from(self.value) * 1_000_000_000)
+    }
+
     fn push_value(&self, buffer: &mut String) -> Result<(), Memory> {
         push_count(buffer, self.value)
     }
@@ -168,6 +180,10 @@ impl Shown for KeptCell<PromGauge> {
     ghost use Rattle.prom_exporter.specs.Values.{gauge_shown};
 
     ghost shown = { gauge_shown };
+
+    fn billionths(&self) -> Billionths {
+        Billionths(i128::from(self.value.0))
+    }
 
     fn push_value(&self, buffer: &mut String) -> Result<(), Memory> {
         push_fixed(buffer, i128::from(self.value.0))

@@ -25,6 +25,7 @@ mod lent;
 mod naming;
 mod natives;
 mod pages;
+mod printed;
 mod rows;
 mod sampled;
 mod settings;

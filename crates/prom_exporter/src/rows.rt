@@ -10,6 +10,7 @@ ghost use Rattle.prom_format.specs.Names.{sanitized_metric_name};
 ghost use Rattle.prom_exporter.specs.Values.{with_member};
 
 use crate::label_sets::LabelSets;
+use crate::printed::PrintedFamily;
 use hash_starts::HashStart;
 use indexmap::IndexMap;
 use metrics_core::{Key, Memory};
@@ -18,12 +19,13 @@ use prom_format::{is_metric_name, sanitize_metric_name};
 use std::alloc::Global;
 use std::marker::Model;
 
-/// Of each series of a kind, in order of registration, its printed label set; and by metric name the places of
-/// the series of each family.
+/// Of each series of a kind, in order of registration, its printed label set; by metric name the places of the series of each
+/// family; and of the first of these families the rows as they were printed last.
 #[derive(Drop)]
 pub(crate) struct Rows {
     pub(crate) label_sets: LabelSets,
     pub(crate) families: IndexMap<String, Vec<usize>, HashStart>,
+    pub(crate) printed: Vec<PrintedFamily>,
 }
 
 impl Model for Rows {
@@ -33,6 +35,10 @@ impl Model for Rows {
     ghost Value = { RowsText };
 
     ghost view = { λ rows. record { label_sets = rows.label_sets; families = map family_kept rows.families.entries } };
+
+    ghost use Rattle.prom_exporter.specs.Printed.{ArePrinted};
+
+    ghost invariant = { λ rows. ArePrinted rows.label_sets (map family_kept rows.families.entries) rows.printed.items };
 }
 
 impl Rows {
@@ -43,6 +49,7 @@ impl Rows {
         Rows {
             label_sets: LabelSets::new(alloc),
             families: IndexMap::with_hasher(alloc, start),
+            printed: Vec::new(alloc),
         }
     }
 
@@ -74,6 +81,7 @@ impl Rows {
     {
         self.label_sets.clear();
         self.families.clear();
+        self.printed.clear();
     }
 
     /// Keeps what one more series wants, which stands behind the others.

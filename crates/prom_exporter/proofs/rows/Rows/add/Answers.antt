@@ -2,9 +2,10 @@ use Rattle.std.proofs.Common.{◌≡◌, [], ◌∷◌, ◌++◌, map, length, s
 use Rattle.std.proofs.lemmas.List.{length-map}
 use Rattle.prom_format.specs.LabelSets.{labels_of}
 use Rattle.prom_format.specs.Names.{sanitized_metric_name}
-use Rattle.prom_exporter.specs.Rows.{RowsText, label_set_of}
+use Rattle.prom_exporter.specs.Rows.{RowsText, family_kept, label_set_of}
 use Rattle.prom_exporter.specs.Values.{with_member}
 use Rattle.prom_exporter.proofs.KeptRows.{rows-push}
+use Rattle.prom_exporter.proofs.Printing.{printed-longer}
 use Rattle.prom_exporter.proofs.rows.Rows.add.Goals as goal
 
 pub returns-clause-added : goal.returns-clause-added
@@ -20,3 +21,9 @@ returns-clause-added c keys is =
     let name = ap sanitized_metric_name c.name.ensures.text in
     let family_more = c.in_default.ensures.added ∙ (λ j. with_member (families j) (name j) (place j)) in
     (λ j. record { label_sets = head_more j; families = family_more j }) ∙ sym (rows-push globals keys key)
+
+pub invariant_of-self-in_default : goal.invariant_of-self-in_default
+invariant_of-self-in_default c =
+    rw (c.in_ok-push.ensures.pushed, c.in_default.ensures.added)
+    (printed-longer c.self.inside.label_sets (label_set_of (labels_of c.args.globals.now.entries) c.args.key.now ∷ []) (map family_kept c.self.inside.families.entries) (sanitized_metric_name c.name.result.now) c.len-place.result
+    c.self.inside.printed.items c.self.invariant)
