@@ -1,7 +1,6 @@
 -- What registering does to the series that an exporter has seen, and to passes that are out.
-use Rattle.std.proofs.Common.{◌≡◌, ◌≢◌, ℕ, ◌+◌, Bool, true, false, cond, List, [], ◌∷◌, ◌++◌, map, Option, None, Some, Ok, Err, OnOk, OnErr, inl, inr, refl, sym, ap, ◌∙◌}
-use Rattle.std.specs.Prelude.{find, unwrap_or, option_map, All, IfOk, ◌⊎◌}
-use Rattle.std.specs.declared.result.Result.{Result}
+use Rattle.std.proofs.Common.{◌≡◌, ◌≢◌, ℕ, ◌+◌, Bool, true, false, cond, List, [], ◌∷◌, ◌++◌, map, Option, None, Some, inl, inr, refl, sym, ap, ◌∙◌}
+use Rattle.std.specs.Prelude.{find, unwrap_or, option_map, All, ◌⊎◌}
 use Rattle.std.proofs.lemmas.Bool.{ne_eqb, eq-eqb}
 use Rattle.std.proofs.lemmas.Option.{same_Some}
 use Rattle.std.proofs.lemmas.List.{map_push}
@@ -66,6 +65,9 @@ module _ (kind : MetricKind) (key : KeyText) (s : Cells) where
       (λ j. new_id (kind_of_id kind n key es id are at j) (sym given j))
 
   -- there is none
+  pub number-none : id_in kind key s ≡ None → number_found kind key s ≡ None
+  number-none none = number_in kind key s ∙ ap number none
+
   pub id-new : id_in kind key s ≡ None → (made : ℕ) → made ≡ s.made → new_id kind made ≡ new_id kind (number_given kind key s)
   id-new none made is = ap (new_id kind) (is ∙ sym (ap (λ o. unwrap_or o s.made) (number_in kind key s ∙ ap number none)))
 
@@ -123,18 +125,6 @@ adds_histogram-home key old new adds home = rw adds.1 (record {
 })
 
 -- ---- what is given and left where a key is registered
-
-pub on_ok : {X E : Type 0} (P : X → Type 0) (Q : Type 0) (r : Result X E) → IfOk r P → ((x : X) → P x → Q) → OnOk r Q
-on_ok P Q (Ok x) p f = f x p
-on_ok P Q (Err e) p f = tt
-
-pub if_ok : {X E : Type 0} (P Q : X → Type 0) (r : Result X E) → IfOk r P → ((x : X) → P x → Q x) → IfOk r Q
-if_ok P Q (Ok x) p f = f x p
-if_ok P Q (Err e) p f = tt
-
-pub either : {X E : Type 0} (P : X → Type 0) (Q R : Type 0) (r : Result X E) → IfOk r P → OnErr r Q → ((x : X) → P x → R) → (Q → R) → R
-either P Q R (Ok x) p q f g = f x p
-either P Q R (Err e) p q f g = g q
 
 -- a counter
 pub record GivenCounter (key : KeyText) (id : SeriesId) (s after : Cells) : Type 0 where

@@ -1,11 +1,11 @@
 //! The state of the exporter: its series of each kind, in order of registration. None is ever removed.
 
-ghost use Rattle.std.specs.Prelude.{◌≡◌, ◌⊎◌, IfOk, OnErr, OnOk};
+ghost use Rattle.std.specs.Prelude.{◌≡◌, ◌⊎◌, IfOk, None, OnErr, OnOk};
 ghost use Rattle.metrics_core.specs.declared.kinds.MetricKind.TheVariants.{Counter, Gauge, Histogram};
 ghost use Rattle.flushed_cells.specs.Passes as flushed;
 ghost use Rattle.sample_queue.specs.Passes as queued;
-ghost use Rattle.dsd_exporter.specs.State.{register, number_given};
-ghost use Rattle.dsd_exporter.specs.Exporter.{Exporter, AllHome, AddsCounter, AddsGauge, AddsHistogram, empty_queue, no_cells, series_seen, settings_of, unused};
+ghost use Rattle.dsd_exporter.specs.State.{register, number_found, number_given};
+ghost use Rattle.dsd_exporter.specs.Exporter.{Exporter, AllHome, AddsCounter, AddsGauge, AddsHistogram, no_cells, series_seen, settings_of};
 ghost use Rattle.dsd_exporter.specs.Lending.{LendsCounter, LendsGauge, LendsHistogram, LentCounter, LentGauge, LentHistogram, HasNoCounter, HasNoGauge, HasNoHistogram, ChangesCounter, ChangesGauge, ChangesHistogram, with_one_back, queue_back};
 
 use crate::configuration::StateConfiguration;
@@ -74,13 +74,14 @@ impl State {
         self.series.reserve(counters, gauges)
     }
 
-    /// Registers a counter. Where there is one with an equal key its id is given, and nothing changes; otherwise a new one at 0
-    /// goes last. Past 2^64 - 1 series none is made, and the id names none.
+    /// Registers a counter. Where there is one with an equal key its id is given, no memory is taken, and nothing changes;
+    /// otherwise a new one at 0 goes last. Past 2^64 - 1 series none is made, and the id names none.
     pub fn register_counter(&mut self, alloc: Global, key: &Key) -> Result<SeriesId, Memory>
         ensures registered { OnOk result (series_seen self.new.series ≡ register Counter key.now (series_seen self.old.series)) }
         ensures cells { OnOk result ((self.new ≡ self.old) ⊎ AddsCounter key.now self.old self.new) }
         ensures home { AllHome self.old → AllHome self.new }
         ensures id { IfOk result (λ id. id ≡ record { kind = Counter; number = number_given Counter key.now self.old.series }) }
+        ensures absent { OnErr result (number_found Counter key.now self.old.series ≡ None) }
         ensures refused { OnErr result (self.new ≡ self.old) }
     {
         // The clause on ids needs how many were made.
@@ -91,12 +92,14 @@ impl State {
         self.register_owned_counter(alloc, key.clone(alloc)?)
     }
 
-    /// Registers a counter as `register_counter` does, under a key that the exporter then keeps: it is not copied.
+    /// Registers a counter as `register_counter` does, under a key that the exporter then keeps: it is not copied. A key that is
+    /// there takes no memory.
     pub fn register_owned_counter(&mut self, alloc: Global, key: Key) -> Result<SeriesId, Memory>
         ensures registered { OnOk result (series_seen self.new.series ≡ register Counter key (series_seen self.old.series)) }
         ensures cells { OnOk result ((self.new ≡ self.old) ⊎ AddsCounter key self.old self.new) }
         ensures home { AllHome self.old → AllHome self.new }
         ensures id { IfOk result (λ id. id ≡ record { kind = Counter; number = number_given Counter key self.old.series }) }
+        ensures absent { OnErr result (number_found Counter key self.old.series ≡ None) }
         ensures refused { OnErr result (self.new ≡ self.old) }
     {
         let number = self.series.made();
@@ -114,12 +117,13 @@ impl State {
         }
     }
 
-    /// Registers a gauge, as `register_counter` does a counter.
+    /// Registers a gauge, as `register_counter` does a counter: a key that is there takes no memory.
     pub fn register_gauge(&mut self, alloc: Global, key: &Key) -> Result<SeriesId, Memory>
         ensures registered { OnOk result (series_seen self.new.series ≡ register Gauge key.now (series_seen self.old.series)) }
         ensures cells { OnOk result ((self.new ≡ self.old) ⊎ AddsGauge key.now self.old self.new) }
         ensures home { AllHome self.old → AllHome self.new }
         ensures id { IfOk result (λ id. id ≡ record { kind = Gauge; number = number_given Gauge key.now self.old.series }) }
+        ensures absent { OnErr result (number_found Gauge key.now self.old.series ≡ None) }
         ensures refused { OnErr result (self.new ≡ self.old) }
     {
         // The clause on ids needs how many were made.
@@ -130,22 +134,19 @@ impl State {
         self.register_owned_gauge(alloc, key.clone(alloc)?)
     }
 
-    /// Registers a gauge as `register_gauge` does, under a key that the exporter then keeps: it is not copied.
+    /// Registers a gauge as `register_gauge` does, under a key that the exporter then keeps: it is not copied. A key that is
+    /// there takes no memory.
     pub fn register_owned_gauge(&mut self, alloc: Global, key: Key) -> Result<SeriesId, Memory>
         ensures registered { OnOk result (series_seen self.new.series ≡ register Gauge key (series_seen self.old.series)) }
         ensures cells { OnOk result ((self.new ≡ self.old) ⊎ AddsGauge key self.old self.new) }
         ensures home { AllHome self.old → AllHome self.new }
         ensures id { IfOk result (λ id. id ≡ record { kind = Gauge; number = number_given Gauge key self.old.series }) }
+        ensures absent { OnErr result (number_found Gauge key self.old.series ≡ None) }
         ensures refused { OnErr result (self.new ≡ self.old) }
     {
         let number = self.series.made();
         if number < u64::MAX {
-            return self.series.register_gauge(
-                key,
-                || -> Result<OwnedCell<DsdGauge>, Memory>
-                    ensures { IfOk result (λ made. made ≡ unused made.fixed) }
-                { DsdGauge::owned(alloc) },
-            );
+            return self.series.register_gauge(key, || DsdGauge::owned(alloc));
         }
         match self.series.find_gauge(&key) {
             Some(id) => Ok(id),
@@ -156,12 +157,13 @@ impl State {
         }
     }
 
-    /// Registers a histogram, as `register_counter` does a counter.
+    /// Registers a histogram, as `register_counter` does a counter: a key that is there takes no memory.
     pub fn register_histogram(&mut self, alloc: Global, key: &Key) -> Result<SeriesId, Memory>
         ensures registered { OnOk result (series_seen self.new.series ≡ register Histogram key.now (series_seen self.old.series)) }
         ensures cells { OnOk result ((self.new ≡ self.old) ⊎ AddsHistogram key.now self.old self.new) }
         ensures home { AllHome self.old → AllHome self.new }
         ensures id { IfOk result (λ id. id ≡ record { kind = Histogram; number = number_given Histogram key.now self.old.series }) }
+        ensures absent { OnErr result (number_found Histogram key.now self.old.series ≡ None) }
         ensures refused { OnErr result (self.new ≡ self.old) }
     {
         // The clause on ids needs how many were made.
@@ -172,12 +174,14 @@ impl State {
         self.register_owned_histogram(alloc, key.clone(alloc)?)
     }
 
-    /// Registers a histogram as `register_histogram` does, under a key that the exporter then keeps: it is not copied.
+    /// Registers a histogram as `register_histogram` does, under a key that the exporter then keeps: it is not copied. A key that
+    /// is there takes no memory.
     pub fn register_owned_histogram(&mut self, alloc: Global, key: Key) -> Result<SeriesId, Memory>
         ensures registered { OnOk result (series_seen self.new.series ≡ register Histogram key (series_seen self.old.series)) }
         ensures cells { OnOk result ((self.new ≡ self.old) ⊎ AddsHistogram key self.old self.new) }
         ensures home { AllHome self.old → AllHome self.new }
         ensures id { IfOk result (λ id. id ≡ record { kind = Histogram; number = number_given Histogram key self.old.series }) }
+        ensures absent { OnErr result (number_found Histogram key self.old.series ≡ None) }
         ensures refused { OnErr result (self.new ≡ self.old) }
     {
         let number = self.series.made();

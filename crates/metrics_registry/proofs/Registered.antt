@@ -1,6 +1,7 @@
 -- What is left of a registry where a key is registered: the id that is given is new, or that of a series that is there.
-use Rattle.std.proofs.Common.{◌≡◌, ℕ, ◌+◌, ◌<◌, Bool, true, false, cond, List, [], ◌∷◌, Some, None, refl, sym, subst, inl, inr, arith}
-use Rattle.std.specs.Prelude.{find, option_map}
+use Rattle.std.proofs.Common.{◌≡◌, ℕ, ◌+◌, ◌<◌, Bool, true, false, cond, List, [], ◌∷◌, Some, None, Ok, Err, OnErr, refl, sym, subst, inl, inr, arith}
+use Rattle.std.specs.Prelude.{find, option_map, IfOk}
+use Rattle.std.specs.declared.result.Result.{Result}
 use Rattle.metrics_core.specs.declared.kinds.MetricKind.{MetricKind}
 use Rattle.metrics_core.specs.declared.kinds.SeriesId.{SeriesId}
 use Rattle.metrics_core.specs.Keys.{KeyText}
@@ -29,3 +30,8 @@ module _ {X : Type 0} where
   are_of-new IsMade kind key new given before now of own is registered =
       let made = made_new IsMade kind key new given before now of is registered in
       subst (AreOf kind (new.number + 1)) (sym made.2.2) (are_of-made kind new.number before (record { id = new; key = key; cell = made.2.0 }) of own refl)
+
+-- what follows both from the value and from an error
+pub either_way : {X E : Type 0} (P : X → Type 0) (Q R : Type 0) (r : Result X E) → IfOk r P → OnErr r Q → ((x : X) → P x → R) → (Q → R) → R
+either_way P Q R (Ok x) p q f g = f x p
+either_way P Q R (Err e) p q f g = g q

@@ -1,36 +1,33 @@
--- What is given and left where a key of a counter or of a gauge is registered.
-use Rattle.std.proofs.Common.{◌≡◌, ◌≢◌, ℕ, ◌+◌, List, [], ◌∷◌, ◌++◌, map, Option, None, Some, Ok, Err, OnOk, OnErr, refl, sym, ap, subst, ◌∙◌, inl, inr}
-use Rattle.std.specs.Prelude.{IfOk, ◌⊎◌}
-use Rattle.std.specs.declared.result.Result.{Result}
+-- What is given and left where a key is registered: of a counter or of a gauge, and of each kind where no series has it.
+use Rattle.std.proofs.Common.{◌≡◌, ◌≢◌, ◌+◌, map, None, sym, ap, subst, ◌∙◌, inl, inr}
+use Rattle.std.specs.Prelude.{◌⊎◌}
 use Rattle.std.proofs.lemmas.List.{map_push}
 use Rattle.metrics_core.specs.declared.kinds.MetricKind.{MetricKind}
-use Rattle.metrics_core.specs.declared.kinds.MetricKind.TheVariants.{Counter, Gauge}
+use Rattle.metrics_core.specs.declared.kinds.MetricKind.TheVariants.{Counter, Gauge, Histogram}
 use Rattle.metrics_core.specs.declared.kinds.SeriesId.{SeriesId}
 use Rattle.metrics_core.specs.Keys.{KeyText}
-use Rattle.metrics_registry.specs.Live.{LiveSeries, IsNumbered, RegistersCounter, RegistersGauge, with_counter, with_gauge}
+use Rattle.metrics_registry.specs.Live.{LiveSeries, IsNumbered, id_of_key, RegistersCounter, RegistersGauge, with_counter, with_gauge}
 use Rattle.metric_descriptions.specs.Descriptions.{DescribedText}
 use Rattle.series_cells.specs.declared.counter.PromCounter.{PromCounter}
 use Rattle.series_cells.specs.declared.gauge.PromGauge.{PromGauge}
 use Rattle.prom_exporter.specs.Shared.{Shared, unused}
-use Rattle.prom_exporter.specs.State.{PrometheusState, no_series, number_given, register}
+use Rattle.prom_exporter.specs.State.{live_series, no_series, number_given, register}
 use Rattle.prom_exporter.specs.Exporter.{AddsCounter, AddsGauge, AllHome, Cells, Exporter, with_said}
 use Rattle.prom_exporter.specs.Values.{series_of, seen_series, seen_registry, state_of, state_seen}
 use Rattle.prom_exporter.specs.Sampled.{calls_known}
 use Rattle.prom_exporter.proofs.Home.{adds_counter-home, adds_gauge-home}
-use Rattle.prom_exporter.proofs.Seen.{id_of_key-seen, is_numbered-seen}
-use Rattle.prom_exporter.proofs.States.{register-live, id-live, number-new, register-new, registered_said}
+use Rattle.prom_exporter.proofs.Seen.{id_of_key-sampled, id_of_key-seen, is_numbered-seen}
+use Rattle.prom_exporter.proofs.States.{live-none, register-live, id-live, number-new, register-new, registered_said}
 
-pub on_ok : {X E : Type 0} (P : X → Type 0) (Q : Type 0) (r : Result X E) → IfOk r P → ((x : X) → P x → Q) → OnOk r Q
-on_ok P Q (Ok x) p f = f x p
-on_ok P Q (Err e) p f = tt
+-- no series is live where no cell has an equal key
+pub counter_absent : (key : KeyText) (series : Cells) → id_of_key key series.counters ≡ None → live_series Counter key (state_seen series) ≡ None
+counter_absent key series none = live-none Counter key (seen_registry calls_known series) (id_of_key-seen key series.counters ∙ none)
 
-pub if_ok : {X E : Type 0} (P Q : X → Type 0) (r : Result X E) → IfOk r P → ((x : X) → P x → Q x) → IfOk r Q
-if_ok P Q (Ok x) p f = f x p
-if_ok P Q (Err e) p f = tt
+pub gauge_absent : (key : KeyText) (series : Cells) → id_of_key key series.gauges ≡ None → live_series Gauge key (state_seen series) ≡ None
+gauge_absent key series none = live-none Gauge key (seen_registry calls_known series) (id_of_key-seen key series.gauges ∙ none)
 
-pub either : {X E : Type 0} (P : X → Type 0) (Q R : Type 0) (r : Result X E) → IfOk r P → OnErr r Q → ((x : X) → P x → R) → (Q → R) → R
-either P Q R (Ok x) p q f g = f x p
-either P Q R (Err e) p q f g = g q
+pub histogram_absent : (key : KeyText) (series : Cells) → id_of_key key series.histograms ≡ None → live_series Histogram key (state_seen series) ≡ None
+histogram_absent key series none = live-none Histogram key (seen_registry calls_known series) (id_of_key-sampled calls_known key series.histograms ∙ none)
 
 abbrev given_id : MetricKind → KeyText → Cells → SeriesId
 given_id kind key series = record { kind = kind; number = number_given kind key (state_of (seen_registry calls_known series)) }

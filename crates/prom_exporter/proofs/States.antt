@@ -37,6 +37,10 @@ is_some_mapped : {X Y : Type 0} (f : X → Y) (o : Option X) → is_some (option
 is_some_mapped f None = refl
 is_some_mapped f (Some x) = refl
 
+none_mapped : {X Y : Type 0} (f : X → Y) (o : Option X) → option_map f o ≡ None → o ≡ None
+none_mapped f None is = refl
+none_mapped f (Some x) is = absurd cc
+
 pub found_some : (key : KeyText) (es : List (LiveSeries Cell)) → is_some (find (has_equal_key key) (map series_of es)) ≡ is_some (id_of_key key es)
 found_some key es =
     sym (is_some_mapped (λ (series : Series). series.number) (find (has_equal_key key) (map series_of es))) ∙ ap is_some (found_number key es)
@@ -93,6 +97,9 @@ module _ (kind : MetricKind) (key : KeyText) (registry : Registry) where
       (λ j. new_id (kind_of_id kind n key (of_kind kind registry) id are found j) (sym given j))
 
   -- none is live
+  pub live-none : id_of_key key (of_kind kind registry) ≡ None → live_series kind key (state_of registry) ≡ None
+  live-none none = none_mapped (λ (series : Series). series.number) (live_series kind key (state_of registry)) (number_found ∙ ap (option_map (λ (i : SeriesId). i.number)) none)
+
   pub number-new : id_of_key key (of_kind kind registry) ≡ None → number_given kind key (state_of registry) ≡ registry.made
   number-new none = ap (λ o. unwrap_or o registry.made) (number_found ∙ ap (option_map (λ (i : SeriesId). i.number)) none)
 

@@ -6,7 +6,7 @@ ghost use Rattle.distributions.specs.Recording.{StandsFor};
 ghost use Rattle.prom_format.specs.Names.{sanitized_metric_name};
 ghost use Rattle.sample_queue.specs.Passes.{view_of};
 ghost use Rattle.histogram_series.specs.Series.{with_one_back};
-ghost use Rattle.prom_exporter.specs.State.{register, number_given};
+ghost use Rattle.prom_exporter.specs.State.{register, live_series, number_given};
 ghost use Rattle.prom_exporter.specs.Stepped.{AreCounted, DrainsEach, DrainsInPart, DrainsWhole, IsCounted};
 ghost use Rattle.prom_exporter.specs.Families.{distribution_of};
 ghost use Rattle.prom_exporter.specs.Sampled.{unsampled};
@@ -25,14 +25,15 @@ use std::alloc::Global;
 use std::sync::Wait;
 
 impl PrometheusState {
-    /// Registers a histogram. Where one with an equal key is live its id is given, and nothing changes; otherwise a new
-    /// one of no samples goes last. Past 2^64 - 1 series none is made, and the id names none.
+    /// Registers a histogram. Where one with an equal key is live its id is given, no memory is taken, and nothing changes;
+    /// otherwise a new one of no samples goes last. Past 2^64 - 1 series none is made, and the id names none.
     pub fn register_histogram(&mut self, alloc: Global, key: &Key) -> Result<SeriesId, Memory>
         ensures registered { OnOk result (state_of self.new ≡ register Histogram key.now (state_of self.old)) }
         ensures cells { OnOk result ((self.new ≡ self.old) ⊎ AddsHistogram key.now self.old self.new) }
         ensures home { AllHome self.old → AllHome self.new }
         ensures settings { self.new.settings ≡ self.old.settings }
         ensures id { IfOk result (λ id. id ≡ record { kind = Histogram; number = number_given Histogram key.now (state_of self.old) }) }
+        ensures absent { OnErr result (live_series Histogram key.now (state_of self.old) ≡ None) }
         ensures refused { OnErr result (self.new ≡ self.old) }
     {
         // The clause on ids needs how many were made.
@@ -43,13 +44,15 @@ impl PrometheusState {
         self.register_owned_histogram(alloc, key.clone(alloc)?)
     }
 
-    /// Registers a histogram as `register_histogram` does, under a key that the exporter then keeps: it is not copied.
+    /// Registers a histogram as `register_histogram` does, under a key that the exporter then keeps: it is not copied. A key that
+    /// is live takes no memory.
     pub fn register_owned_histogram(&mut self, alloc: Global, key: Key) -> Result<SeriesId, Memory>
         ensures registered { OnOk result (state_of self.new ≡ register Histogram key (state_of self.old)) }
         ensures cells { OnOk result ((self.new ≡ self.old) ⊎ AddsHistogram key self.old self.new) }
         ensures home { AllHome self.old → AllHome self.new }
         ensures settings { self.new.settings ≡ self.old.settings }
         ensures id { IfOk result (λ id. id ≡ record { kind = Histogram; number = number_given Histogram key (state_of self.old) }) }
+        ensures absent { OnErr result (live_series Histogram key (state_of self.old) ≡ None) }
         ensures refused { OnErr result (self.new ≡ self.old) }
     {
         let number = self.series.made();

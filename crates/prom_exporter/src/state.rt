@@ -6,8 +6,8 @@ ghost use Rattle.metrics_core.specs.Outside.{Rose, GrewBy, GrewByPrefix};
 ghost use Rattle.prom_format.specs.LabelSets.{labels_of};
 ghost use Rattle.series_cells.specs.Pass.{view_of};
 ghost use Rattle.metric_descriptions.specs.Descriptions.{nothing_described};
-ghost use Rattle.prom_exporter.specs.State.{register, number_given, page_step};
-ghost use Rattle.prom_exporter.specs.Shared.{TakesBack, unused};
+ghost use Rattle.prom_exporter.specs.State.{register, live_series, number_given, page_step};
+ghost use Rattle.prom_exporter.specs.Shared.{TakesBack};
 ghost use Rattle.prom_exporter.specs.Builder.{with_globals, SpanIsTooLong};
 ghost use Rattle.prom_exporter.specs.Stepped.{IsNoted, AreNoted, Steps, DrainsEach, DrainsInPart};
 ghost use Rattle.prom_exporter.specs.Exporter.{Exporter, state_of, no_cells, AllHome, AddsCounter, AddsGauge, AreTimely, ChangesCounter, ChangesGauge, page_body, shown_body};
@@ -94,14 +94,15 @@ impl PrometheusState {
         self.gauge_rows.label_sets.reserve(gauges)
     }
 
-    /// Registers a counter. Where one with an equal key is live its id is given, and nothing changes; otherwise a new
-    /// one at 0 goes last. Past 2^64 - 1 series none is made, and the id names none.
+    /// Registers a counter. Where one with an equal key is live its id is given, no memory is taken, and nothing changes;
+    /// otherwise a new one at 0 goes last. Past 2^64 - 1 series none is made, and the id names none.
     pub fn register_counter(&mut self, alloc: Global, key: &Key) -> Result<SeriesId, Memory>
         ensures registered { OnOk result (state_of self.new ≡ register Counter key.now (state_of self.old)) }
         ensures cells { OnOk result ((self.new ≡ self.old) ⊎ AddsCounter key.now self.old self.new) }
         ensures home { AllHome self.old → AllHome self.new }
         ensures settings { self.new.settings ≡ self.old.settings }
         ensures id { IfOk result (λ id. id ≡ record { kind = Counter; number = number_given Counter key.now (state_of self.old) }) }
+        ensures absent { OnErr result (live_series Counter key.now (state_of self.old) ≡ None) }
         ensures refused { OnErr result (self.new ≡ self.old) }
     {
         // The clause on ids needs how many were made.
@@ -112,23 +113,20 @@ impl PrometheusState {
         self.register_owned_counter(alloc, key.clone(alloc)?)
     }
 
-    /// Registers a counter as `register_counter` does, under a key that the exporter then keeps: it is not copied.
+    /// Registers a counter as `register_counter` does, under a key that the exporter then keeps: it is not copied. A key that is
+    /// live takes no memory.
     pub fn register_owned_counter(&mut self, alloc: Global, key: Key) -> Result<SeriesId, Memory>
         ensures registered { OnOk result (state_of self.new ≡ register Counter key (state_of self.old)) }
         ensures cells { OnOk result ((self.new ≡ self.old) ⊎ AddsCounter key self.old self.new) }
         ensures home { AllHome self.old → AllHome self.new }
         ensures settings { self.new.settings ≡ self.old.settings }
         ensures id { IfOk result (λ id. id ≡ record { kind = Counter; number = number_given Counter key (state_of self.old) }) }
+        ensures absent { OnErr result (live_series Counter key (state_of self.old) ≡ None) }
         ensures refused { OnErr result (self.new ≡ self.old) }
     {
         let number = self.series.made();
         if number < u64::MAX {
-            return self.series.register_counter(
-                key,
-                || -> Result<CounterCell, Memory>
-                    ensures { IfOk result (λ made. made ≡ unused made.cell) }
-                { new_counter(alloc) },
-            );
+            return self.series.register_counter(key, || new_counter(alloc));
         }
         match self.series.find_counter(&key) {
             Some(id) => Ok(id),
@@ -139,13 +137,14 @@ impl PrometheusState {
         }
     }
 
-    /// Registers a gauge, as `register_counter` does a counter.
+    /// Registers a gauge, as `register_counter` does a counter: a key that is live takes no memory.
     pub fn register_gauge(&mut self, alloc: Global, key: &Key) -> Result<SeriesId, Memory>
         ensures registered { OnOk result (state_of self.new ≡ register Gauge key.now (state_of self.old)) }
         ensures cells { OnOk result ((self.new ≡ self.old) ⊎ AddsGauge key.now self.old self.new) }
         ensures home { AllHome self.old → AllHome self.new }
         ensures settings { self.new.settings ≡ self.old.settings }
         ensures id { IfOk result (λ id. id ≡ record { kind = Gauge; number = number_given Gauge key.now (state_of self.old) }) }
+        ensures absent { OnErr result (live_series Gauge key.now (state_of self.old) ≡ None) }
         ensures refused { OnErr result (self.new ≡ self.old) }
     {
         // The clause on ids needs how many were made.
@@ -156,23 +155,20 @@ impl PrometheusState {
         self.register_owned_gauge(alloc, key.clone(alloc)?)
     }
 
-    /// Registers a gauge as `register_gauge` does, under a key that the exporter then keeps: it is not copied.
+    /// Registers a gauge as `register_gauge` does, under a key that the exporter then keeps: it is not copied. A key that is
+    /// live takes no memory.
     pub fn register_owned_gauge(&mut self, alloc: Global, key: Key) -> Result<SeriesId, Memory>
         ensures registered { OnOk result (state_of self.new ≡ register Gauge key (state_of self.old)) }
         ensures cells { OnOk result ((self.new ≡ self.old) ⊎ AddsGauge key self.old self.new) }
         ensures home { AllHome self.old → AllHome self.new }
         ensures settings { self.new.settings ≡ self.old.settings }
         ensures id { IfOk result (λ id. id ≡ record { kind = Gauge; number = number_given Gauge key (state_of self.old) }) }
+        ensures absent { OnErr result (live_series Gauge key (state_of self.old) ≡ None) }
         ensures refused { OnErr result (self.new ≡ self.old) }
     {
         let number = self.series.made();
         if number < u64::MAX {
-            return self.series.register_gauge(
-                key,
-                || -> Result<GaugeCell, Memory>
-                    ensures { IfOk result (λ made. made ≡ unused made.cell) }
-                { new_gauge(alloc) },
-            );
+            return self.series.register_gauge(key, || new_gauge(alloc));
         }
         match self.series.find_gauge(&key) {
             Some(id) => Ok(id),

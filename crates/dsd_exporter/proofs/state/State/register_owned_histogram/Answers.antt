@@ -1,9 +1,9 @@
-use Rattle.std.proofs.Common.{rules, ap, sym, arith}
+use Rattle.std.proofs.Common.{rules, sym, arith}
+use Rattle.std.proofs.lemmas.Result.{IfOk-weaker, on_err_weaker}
 use Rattle.metrics_core.specs.declared.kinds.MetricKind.TheVariants.{Histogram}
-use Rattle.metrics_core.specs.declared.kinds.SeriesId.{SeriesId}
-use Rattle.metrics_registry.specs.Live.{RegistersHistogram}
-use Rattle.dsd_exporter.specs.Exporter.{Cells, Exporter, settings_of}
-use Rattle.dsd_exporter.proofs.Registered.{GivenHistogram, histogram_adds, histogram_given, histogram_home, either, id-there, if_ok, on_ok}
+use Rattle.metrics_registry.proofs.Registered.{either_way}
+use Rattle.dsd_exporter.specs.Exporter.{Exporter, settings_of}
+use Rattle.dsd_exporter.proofs.Registered.{histogram_adds, histogram_given, histogram_home, id-there, number-none}
 use Rattle.dsd_exporter.proofs.state.State.register_owned_histogram.Goals as goal
 use Rattle.dsd_exporter.proofs.state.State.register_owned_histogram.Goals.{After-register_histogram}
 
@@ -12,28 +12,32 @@ exporter c = record { settings = settings_of c.self.inside.configuration; series
 
 pub returns-then-number-lt18446744073709551615-clause-registered : goal.returns-then-number-lt18446744073709551615-clause-registered
 returns-then-number-lt18446744073709551615-clause-registered c =
-    rw (← c.self.view_is) (on_ok _ _ c.register_histogram.result c.register_histogram.ensures.registered
-    (λ id r. (histogram_given _ c.args.key id c.self.inside.series c.register_histogram.new.self (λ cell made. search rules) (λ full. absurd (omega (arith, c.if-number-lt18446744073709551615.true, c.made-number.ensures.made, full))) c.made-number.ensures.numbered.histograms.1 r).registered))
+    rw (← c.self.view_is) (IfOk-weaker c.register_histogram.result _ _
+    (λ id r. (histogram_given _ c.args.key id c.self.inside.series c.register_histogram.new.self (λ cell made. search rules) (λ full. absurd (omega (arith, c.if-number-lt18446744073709551615.true, c.made-number.ensures.made, full))) c.made-number.ensures.numbered.histograms.1 r).registered) c.register_histogram.ensures.registered)
 
 pub returns-then-number-lt18446744073709551615-clause-cells : goal.returns-then-number-lt18446744073709551615-clause-cells
 returns-then-number-lt18446744073709551615-clause-cells c =
-    rw (← c.self.view_is) (on_ok _ _ c.register_histogram.result c.register_histogram.ensures.registered
+    rw (← c.self.view_is) (IfOk-weaker c.register_histogram.result _ _
     (λ id r. histogram_adds c.args.key id (exporter c) c.register_histogram.new.self
-    (histogram_given _ c.args.key id c.self.inside.series c.register_histogram.new.self (λ cell made. search rules) (λ full. absurd (omega (arith, c.if-number-lt18446744073709551615.true, c.made-number.ensures.made, full))) c.made-number.ensures.numbered.histograms.1 r)))
+    (histogram_given _ c.args.key id c.self.inside.series c.register_histogram.new.self (λ cell made. search rules) (λ full. absurd (omega (arith, c.if-number-lt18446744073709551615.true, c.made-number.ensures.made, full))) c.made-number.ensures.numbered.histograms.1 r)) c.register_histogram.ensures.registered)
 
 pub returns-then-number-lt18446744073709551615-clause-home : goal.returns-then-number-lt18446744073709551615-clause-home
 returns-then-number-lt18446744073709551615-clause-home c =
-    rw (← c.self.view_is) (either _ _ _ c.register_histogram.result c.register_histogram.ensures.registered c.register_histogram.ensures.refused
+    rw (← c.self.view_is) (either_way _ _ _ c.register_histogram.result c.register_histogram.ensures.registered c.register_histogram.ensures.refused
     (λ id r. histogram_home c.args.key id (exporter c) c.register_histogram.new.self
     (histogram_given _ c.args.key id c.self.inside.series c.register_histogram.new.self (λ cell made. search rules) (λ full. absurd (omega (arith, c.if-number-lt18446744073709551615.true, c.made-number.ensures.made, full))) c.made-number.ensures.numbered.histograms.1 r))
     (λ same. rw same (λ home. home)))
 
 pub returns-then-number-lt18446744073709551615-clause-id : goal.returns-then-number-lt18446744073709551615-clause-id
 returns-then-number-lt18446744073709551615-clause-id c =
-    rw (← c.self.view_is) (if_ok _ _ c.register_histogram.result c.register_histogram.ensures.registered
-    (λ id r. (histogram_given _ c.args.key id c.self.inside.series c.register_histogram.new.self (λ cell made. search rules) (λ full. absurd (omega (arith, c.if-number-lt18446744073709551615.true, c.made-number.ensures.made, full))) c.made-number.ensures.numbered.histograms.1 r).id_is))
+    rw (← c.self.view_is) (IfOk-weaker c.register_histogram.result _ _
+    (λ id r. (histogram_given _ c.args.key id c.self.inside.series c.register_histogram.new.self (λ cell made. search rules) (λ full. absurd (omega (arith, c.if-number-lt18446744073709551615.true, c.made-number.ensures.made, full))) c.made-number.ensures.numbered.histograms.1 r).id_is) c.register_histogram.ensures.registered)
 
 pub returns-in-Some-clause-id : goal.returns-in-Some-clause-id
 returns-in-Some-clause-id c =
     let series = c.self.inside.series in
     rw (← c.self.view_is) (id-there Histogram c.args.key series series.made series.histograms c.in-Some.id c.made-number.ensures.numbered.histograms.1 (sym c.in-Some.ensures) (sym c.in-Some.ensures))
+
+pub returns-then-number-lt18446744073709551615-clause-absent : goal.returns-then-number-lt18446744073709551615-clause-absent
+returns-then-number-lt18446744073709551615-clause-absent c =
+    rw (← c.self.view_is) (on_err_weaker c.register_histogram.result (number-none Histogram c.args.key c.self.inside.series) c.register_histogram.ensures.absent)

@@ -1,5 +1,6 @@
 use Rattle.std.proofs.Common.{◌≡◌, ◌+◌, [], ◌∷◌, ◌++◌, map, refl, sym, ap, ◌∙◌, inr}
 use Rattle.std.proofs.lemmas.List.{map_push}
+use Rattle.std.proofs.lemmas.Result.{err_from_is_err_and}
 use Rattle.metrics_core.specs.declared.kinds.MetricKind.TheVariants.{Histogram}
 use Rattle.prom_format.specs.LabelSets.{labels_of}
 use Rattle.metrics_registry.specs.Live.{LiveSeries}
@@ -11,6 +12,7 @@ use Rattle.prom_exporter.proofs.Upkeep.{made_by, kept-added}
 use Rattle.prom_exporter.proofs.Home.{adds_histogram-home, histogram_added}
 use Rattle.prom_exporter.specs.Values.{series_of, sampled_series, seen_registry, state_seen}
 use Rattle.prom_exporter.specs.Sampled.{Sampled, calls_known, unsampled}
+use Rattle.prom_exporter.proofs.Given.{histogram_absent}
 use Rattle.prom_exporter.proofs.Seen.{id_of_key-sampled, is_numbered-seen}
 use Rattle.prom_exporter.proofs.States.{register-live, id-live, number-new, register-new, registered_said}
 use Rattle.prom_exporter.proofs.state.PrometheusState.register_owned_histogram.Goals as goal
@@ -68,3 +70,12 @@ invariant_of-self c = rw c.in_default-add_histogram.ensures.refused c.self.invar
 pub invariant_of-self-2 : goal.invariant_of-self-2
 invariant_of-self-2 c =
     kept-added _ _ c.self.inside.series _ _ _ c.self.invariant c.add_histogram.new.self c.in-Ok.id c.args.key c.in_ok-cell.cell c.in-Ok.ensures.added (ap (λ (s : Sampled). s.series.kind) (made_by c.args.self.now (with_globals c.self.inside.settings (labels_of c.self.inside.globals.entries)) c.self.inside.series c.self.inside.descriptions c.in_ok-cell.cell (sanitized_metric_name c.args.key.name) c.self.view_is c.in_ok-cell.ensures))
+
+pub returns-in_err-cell-clause-absent : goal.returns-in_err-cell-clause-absent
+returns-in_err-cell-clause-absent c =
+    let refusal = err_from_is_err_and c.from_residual.result c.from_residual.ensures.1 in
+    rw (refusal.1, ← c.self.view_is) (histogram_absent c.args.key c.self.inside.series (sym c.in_default.ensures))
+
+pub returns-in_default-add_histogram-clause-absent : goal.returns-in_default-add_histogram-clause-absent
+returns-in_default-add_histogram-clause-absent c =
+    rw (← c.self.view_is) (histogram_absent c.args.key c.self.inside.series (sym c.in_default.ensures))
