@@ -146,8 +146,7 @@ module _ (name : List ℕ) where
   kept-longer sets more places others [] are = tt
   kept-longer sets more places others (rows ∷ kept) (here, later) =
       let front = front-longer together places others in
-      let behind = behind-longer together places others in
-      (
+      let behind = behind-longer together places others in (
         subst (λ l. AreRows name (sets ++ more) l rows.values.items (string_bytes rows.text)) (sym front.1) (rows-longer name sets more (take together places) front.0 rows.values.items (string_bytes rows.text) here),
         subst (λ l. AreKept name (sets ++ more) l kept) (sym behind.1) (kept-longer sets more (drop together places) behind.0 kept later),
       )

@@ -90,7 +90,15 @@ fn write_blocks<C: Shown, K: Sink>(
         naming.write_title(name, suffix, family_type.as_str(), &mut full, buffer)?;
         begin_family(printed, index, *buffer.allocator())?;
         let rows = &mut printed[index];
-        write_rows(full.as_str(), rows, label_sets, series, places.as_slice(), buffer, sink)?;
+        write_rows(
+            full.as_str(),
+            rows,
+            label_sets,
+            series,
+            places.as_slice(),
+            buffer,
+            sink,
+        )?;
         end_block(buffer)?;
     }
     Ok(())
