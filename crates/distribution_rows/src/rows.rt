@@ -5,7 +5,8 @@ ghost use Rattle.metrics_core.specs.Keys.{LabelText};
 ghost use Rattle.prom_format.specs.Pages.{label_set_text, row_text};
 ghost use Rattle.prom_format.specs.PrintedRows.{IsPrintedSet};
 ghost use Rattle.histogram_series.specs.Rows.{shown_rows};
-ghost use Rattle.distribution_rows.specs.Lines.{histogram_lines, last_bucket_line, summary_lines, shown_lines};
+ghost use Rattle.distribution_rows.specs.Lines.{histogram_lines, last_bucket_line, summary_lines, shown_lines, value_line};
+ghost use Rattle.rolling_summaries.specs.Summaries.{snapshot_at};
 ghost use Rattle.distribution_rows.specs.Series.{series_row};
 
 use crate::parts::{push_buckets, push_quantiles, push_sum_and_count, whole_value};
@@ -104,7 +105,29 @@ fn push_summary(
     ensures { OnOk result (string_bytes buffer.new
         ≡ string_bytes buffer.old ++ summary_lines name.now labels.now moment window.now quantiles.now sum) }
 {
-    let bag = window.snapshot(*buffer.allocator(), moment)?;
-    push_quantiles(buffer, name, labels, quantiles, &bag)?;
+    push_window(buffer, name, labels, window, quantiles, moment)?;
     push_sum_and_count(buffer, name, labels, sum, window.count())
+}
+
+/// Appends the rows of quantiles over the window at a moment. Where one bucket of the window has all values they are read there, and
+/// else the values of its buckets are put together.
+fn push_window(
+    buffer: &mut String,
+    name: &str,
+    labels: &str,
+    window: &RollingSummary,
+    quantiles: &[Quantile],
+    moment: u64,
+) -> Result<(), Memory>
+    requires { IsPrintedSet labels.now }
+    ensures { OnOk result (string_bytes buffer.new ≡ string_bytes buffer.old
+        ++ flat_map (value_line name.now labels.now (snapshot_at moment window.now)) quantiles.now) }
+{
+    match window.sole_values(moment) {
+        Some(values) => push_quantiles(buffer, name, labels, quantiles, values),
+        None => {
+            let values = window.snapshot(*buffer.allocator(), moment)?;
+            push_quantiles(buffer, name, labels, quantiles, &values)
+        }
+    }
 }

@@ -4,11 +4,12 @@ use Rattle.std.specs.Prelude.{ℤ, Option, option_map, filter, nat_lt, not, unwr
 use Rattle.std.specs.List.{All, prefix_len}
 use Rattle.std.specs.List.Sorted.{IsPartitionedBy, IsPartitionPoint}
 use Rattle.std.proofs.lemmas.Bool.Decides.{nat_tests}
+use Rattle.std.proofs.lemmas.Option.{none-some, same_Some}
 use Rattle.std.proofs.lemmas.List.Elements.{filter-append, All-head, All-tail, All-cons, All-nil, All-weaker, All-filter, All-get_or, All-take}
 use Rattle.metrics_registry.specs.Quantiles.{ascending}
 use Rattle.metrics_registry.specs.QuantileLaws.{ascending-left, ascending-again}
 use Rattle.rolling_summaries.specs.declared.buckets.Bucket.{Bucket}
-use Rattle.rolling_summaries.specs.Summaries.{in_window, kept_in_window, takes, ends_search, taker_at, taker_from, taker, aligned, joined, newest_begin, new_begin, begun_at, begun, kept_by, kept_after, Apart}
+use Rattle.rolling_summaries.specs.Summaries.{in_window, kept_in_window, takes, ends_search, taker_at, taker_from, taker, aligned, joined, newest_begin, new_begin, begun_at, begun, kept_by, kept_after, Apart, AreOrdered}
 use Rattle.rolling_summaries.proofs.Kept.{values_of, newest-here}
 use Rattle.rolling_summaries.proofs.Held.{not_in-out, none-left}
 use Rattle.rolling_summaries.proofs.Landed.{taker-newest, taker-none, aligned-after}
@@ -100,6 +101,57 @@ walked-in span t kept rest older b bag new is within own walked =
 
 pub ordered-more : (bag values new : List ℤ) → new ≡ ascending (bag ++ values) → new ≡ ascending new
 ordered-more bag values new is = is ∙ sym (ascending-again (bag ++ values)) ∙ ap ascending (sym is)
+
+-- ---- the values of each bucket in order
+
+ordered-joined : (values : List ℤ) (place : ℕ) (kept : List Bucket) → AreOrdered kept → AreOrdered (joined values place kept)
+ordered-joined values place [] ordered = tt
+ordered-joined values zero (b ∷ older) (here, later) = (sym (ascending-again (b.values ++ values)), later)
+ordered-joined values (suc place) (b ∷ older) (here, later) = (here, ordered-joined values place older later)
+
+ordered-take : (n : ℕ) (kept : List Bucket) → AreOrdered kept → AreOrdered (take n kept)
+ordered-take zero kept ordered = tt
+ordered-take (suc n) [] ordered = tt
+ordered-take (suc n) (b ∷ older) (here, later) = (here, ordered-take n older later)
+
+ordered-kept : (span t : ℕ) (kept : List Bucket) → AreOrdered kept → AreOrdered (kept_in_window span t kept)
+ordered-kept span t [] ordered = tt
+ordered-kept span t (b ∷ older) (here, later) =
+    elim (in_window span t b.begin) as (λ r. AreOrdered (cond r (b ∷ kept_in_window span t older) (kept_in_window span t older))) [
+      | true ↦ (here, ordered-kept span t older later)
+      | false ↦ ordered-kept span t older later
+    ]
+
+pub ordered-kept_after : (limit width t : ℕ) (values : List ℤ) (kept : List Bucket) → AreOrdered kept → AreOrdered (kept_after limit width t values kept)
+ordered-kept_after limit width t values kept ordered = by (taker width t kept)
+  where
+    left : List Bucket
+    left = kept_in_window (limit * width) t kept
+
+    begun_so : (begin : Option ℕ) → AreOrdered (begun_at limit values left begin)
+    begun_so None = ordered-kept (limit * width) t kept ordered
+    begun_so (Some begin) = ordered-take limit (record { begin = begin; values = ascending values } ∷ left) (sym (ascending-again values), ordered-kept (limit * width) t kept ordered)
+
+    by : (place : Option ℕ) → AreOrdered (kept_by limit width t values kept place)
+    by None = begun_so (new_begin width t (newest_begin left))
+    by (Some place) = ordered-joined values place kept ordered
+
+-- where one bucket alone is in the window, its values are those of the window
+none_older : (width span t : ℕ) (older : List Bucket) → Apart width older → ((o : Bucket) → slice_get older 0 ≡ Some o → in_window span t o.begin ≡ false) → kept_in_window span t older ≡ []
+none_older width span t [] apart out = refl
+none_older width span t (o ∷ rest) apart out = none-left width span t o rest (out o refl) apart.0
+
+pub sole : (width span t : ℕ) (kept : List Bucket) (d : Bucket) → Apart width kept → AreOrdered kept → slice_get kept 0 ≡ Some d → in_window span t d.begin ≡ true
+    → ((o : Bucket) → slice_get kept 1 ≡ Some o → in_window span t o.begin ≡ false) → d.values ≡ ascending (values_of (kept_in_window span t kept))
+sole width span t [] d apart ordered at within out = absurd (none-some d at)
+sole width span t (b ∷ older) d apart ordered at within out =
+    let same = same_Some b d at in
+    let none = none_older width span t older apart.1 out in
+    ap (λ (x : Bucket). x.values) (sym same)
+    ∙ ordered.0
+    ∙ ap ascending (sym (append-nil b.values))
+    ∙ ap (λ l. ascending (values_of (b ∷ l))) (sym none)
+    ∙ ap (λ r. ascending (values_of (cond r (b ∷ kept_in_window span t older) (kept_in_window span t older)))) (sym (ap (λ (x : Bucket). in_window span t x.begin) same ∙ within))
 
 -- ---- the bucket that takes a sample
 

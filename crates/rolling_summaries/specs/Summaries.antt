@@ -1,5 +1,5 @@
 -- What a rolling summary keeps, sample by sample, at any moments (this project's rule).
-use Rattle.std.specs.Prelude.{ℕ, zero, suc, ◌+◌, ◌^◌, ◌<◌, ◌≤◌, length, ◌-◌, ◌*◌, ◌/◌, ◌&&◌, ◌||◌, Bool, false, nat_lt, nat_le, List, [], ◌∷◌, ◌++◌, take, filter, flat_map, replicate, position, slice_get, ℤ, Option, Some, None, option_map, unwrap_or, if◌then◌else◌}
+use Rattle.std.specs.Prelude.{◌≡◌, ℕ, zero, suc, ◌+◌, ◌^◌, ◌<◌, ◌≤◌, length, ◌-◌, ◌*◌, ◌/◌, ◌&&◌, ◌||◌, Bool, false, nat_lt, nat_le, List, [], ◌∷◌, ◌++◌, take, filter, flat_map, replicate, position, slice_get, ℤ, Option, Some, None, option_map, unwrap_or, if◌then◌else◌}
 use Rattle.std.specs.List.{All}
 use Rattle.metrics_core.specs.Numbers.{in_64_bits}
 use Rattle.metrics_registry.specs.Quantiles.{ascending}
@@ -100,11 +100,17 @@ abbrev pub Apart : ℕ → List Bucket → Type 0
 Apart width [] = Unit {0}
 Apart width (bucket ∷ older) = All (λ o. o.begin + width ≤ bucket.begin) older × Apart width older
 
+-- the values of each bucket stand in ascending order
+abbrev pub AreOrdered : List Bucket → Type 0
+AreOrdered [] = Unit {0}
+AreOrdered (bucket ∷ older) = (bucket.values ≡ ascending bucket.values) × AreOrdered older
+
 -- what every summary keeps: it has a bucket at least, a width and a span of 64 bits, and no more buckets than it was
--- built for, which are apart
+-- built for, which are apart, each with its values in order
 pub record IsBuilt (limit width : ℕ) (kept : List Bucket) : Type 0 where
   pub some : 0 < limit
   pub wide : 0 < width
   pub fits : limit * width < 2 ^ 64
   pub within : length kept ≤ limit
   pub apart : Apart width kept
+  pub ordered : AreOrdered kept

@@ -2,7 +2,7 @@
 
 ghost use Rattle.std.specs.Prelude.{◌≡◌, ◌<◌, ◌≤◌, ◌*◌, ◌^◌, [], length, flat_map, replicate, None, IfOk, IsOk, IfSome, OnOk, OnErr};
 ghost use Rattle.metrics_registry.specs.Quantiles.{ascending};
-ghost use Rattle.rolling_summaries.specs.Summaries.{in_window, takes, taker, joined, newest_begin, new_begin, begun, kept_in_window, kept_after, Apart};
+ghost use Rattle.rolling_summaries.specs.Summaries.{in_window, takes, taker, joined, newest_begin, new_begin, begun, kept_in_window, kept_after, Apart, AreOrdered};
 
 use metrics_core::{Fixed, Memory};
 use metrics_registry::Bag;
@@ -200,4 +200,22 @@ pub fn values_in_window(
         bag = bag.merged_with(&bucket.values)?;
     }
     Ok(bag)
+}
+
+/// The values of the buckets in the window, where that is one bucket.
+pub fn sole_in_window(kept: &VecDeque<Bucket>, window: Window) -> Option<&Bag>
+    requires fits { window.limit * window.width < 2 ^ 64 }
+    requires apart { Apart window.width kept.now.items }
+    requires ordered { AreOrdered kept.now.items }
+    ensures { let shown = flat_map (λ bucket. bucket.values) (kept_in_window (window.limit * window.width) window.now kept.now.items) in
+        IfSome result (λ bag. bag.now ≡ ascending shown) }
+{
+    let newest = kept.front()?;
+    if !window.holds(newest.begin) {
+        return None;
+    }
+    match kept.get(1) {
+        Some(older) if window.holds(older.begin) => None,
+        _ => Some(&newest.values),
+    }
 }

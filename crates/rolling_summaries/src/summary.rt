@@ -1,12 +1,12 @@
 //! Summaries over a window that moves on with time.
 
-ghost use Rattle.std.specs.Prelude.{◌≡◌, ◌<◌, ◌≤◌, ◌*◌, ◌^◌, ◌==◌, [], length, IfOk, IsOk, OnOk, OnErr};
+ghost use Rattle.std.specs.Prelude.{◌≡◌, ◌<◌, ◌≤◌, ◌*◌, ◌^◌, ◌==◌, [], length, IfOk, IfSome, IsOk, OnOk, OnErr};
 ghost use Rattle.std.specs.Int.NonZero.{non_zero_u32_get};
 ghost use Rattle.rolling_summaries.specs.Summaries.{empty_summary, added, snapshot_at};
 ghost use Rattle.rolling_summaries.specs.Standing.{StandsFor, StandsForMore, ShowsWindow, same_samples};
 
 use crate::Bucket;
-use crate::buckets::{Window, put, values_in_window};
+use crate::buckets::{Window, put, sole_in_window, values_in_window};
 use metrics_core::{Fixed, Memory};
 use metrics_registry::Bag;
 use std::alloc::Global;
@@ -117,6 +117,18 @@ impl RollingSummary {
             now,
         };
         values_in_window(alloc, &self.kept, window)
+    }
+
+    /// The values of the window at a moment, where one bucket has all of them: they are lent, and take no memory.
+    pub fn sole_values(&self, now: u64) -> Option<&Bag>
+        ensures { IfSome result (λ bag. bag.now ≡ snapshot_at now self.now) }
+    {
+        let window = Window {
+            limit: self.limit,
+            width: self.width,
+            now,
+        };
+        sole_in_window(&self.kept, window)
     }
 
     /// Whether there was no sample so far. Since the number of samples is kept modulo 2^64, it is so too after each 2^64

@@ -1,9 +1,9 @@
 use Rattle.std.proofs.Common.{length, ap, sym, subst, arith}
 use Rattle.std.specs.Prelude.{replicate}
 use Rattle.rolling_summaries.specs.Standing.{StandsFor}
-use Rattle.rolling_summaries.specs.Summaries.{Apart}
+use Rattle.rolling_summaries.specs.Summaries.{Apart, AreOrdered}
 use Rattle.rolling_summaries.proofs.Kept.{within-kept_after}
-use Rattle.rolling_summaries.proofs.Ordered.{Apart-kept_after}
+use Rattle.rolling_summaries.proofs.Ordered.{Apart-kept_after, ordered-kept_after}
 use Rattle.rolling_summaries.proofs.Landed.{stands-added}
 use Rattle.rolling_summaries.proofs.summary.RollingSummary.add.Goals as goal
 
@@ -18,6 +18,9 @@ invariant_of-self-2 c =
       apart =
           subst (Apart c.self.inside.width) (sym c.in_ok-put.ensures.put)
           (Apart-kept_after c.self.inside.limit c.self.inside.width c.args.now (replicate c.args.count c.args.value.0) c.self.inside.kept.items c.self.invariant.some c.self.invariant.wide c.self.invariant.apart);
+      ordered =
+          subst AreOrdered (sym c.in_ok-put.ensures.put)
+          (ordered-kept_after c.self.inside.limit c.self.inside.width c.args.now (replicate c.args.count c.args.value.0) c.self.inside.kept.items c.self.invariant.ordered);
     }
 
 pub returns-clause-stands : goal.returns-clause-stands
