@@ -1,5 +1,5 @@
 -- What follows where the buckets of a summary are apart.
-use Rattle.std.proofs.Common.{◌≡◌, ℕ, zero, suc, ◌+◌, ◌-◌, ◌*◌, ◌<◌, ◌≤◌, Bool, true, false, cond, List, [], ◌∷◌, ◌++◌, length, get_or, take, Some, None, refl, sym, ap, subst, ◌∙◌, arith, append-nil, append_assoc}
+use Rattle.std.proofs.Common.{◌≡◌, ◌≢◌, ℕ, zero, suc, ◌+◌, ◌-◌, ◌*◌, ◌<◌, ◌≤◌, Bool, true, false, cond, List, [], ◌∷◌, ◌++◌, length, get_or, take, Some, None, refl, sym, ap, subst, ◌∙◌, arith, append-nil, append_assoc}
 use Rattle.std.specs.Prelude.{ℤ, Option, option_map, filter, nat_lt, not, unwrap_or, slice_get}
 use Rattle.std.specs.List.{All, prefix_len}
 use Rattle.std.specs.List.Sorted.{IsPartitionedBy, IsPartitionPoint}
@@ -152,6 +152,14 @@ sole width span t (b ∷ older) d apart ordered at within out =
     ∙ ap ascending (sym (append-nil b.values))
     ∙ ap (λ l. ascending (values_of (b ∷ l))) (sym none)
     ∙ ap (λ r. ascending (values_of (cond r (b ∷ kept_in_window span t older) (kept_in_window span t older)))) (sym (ap (λ (x : Bucket). in_window span t x.begin) same ∙ within))
+
+-- where the newest bucket is out of the window there isn't one bucket in it
+pub none-sole : (width span t : ℕ) (kept : List Bucket) (d : Bucket) → Apart width kept → slice_get kept 0 ≡ Some d → in_window span t d.begin ≡ false → length (kept_in_window span t kept) ≢ 1
+none-sole width span t [] d apart at out one = absurd (none-some d at)
+none-sole width span t (b ∷ older) d apart at out one =
+    let none = none-left width span t b older (ap (λ (x : Bucket). in_window span t x.begin) (same_Some b d at) ∙ out) apart.0 in
+    let no : 0 ≡ 1 = sym (ap length none) ∙ one in
+    omega (arith, no)
 
 -- ---- the bucket that takes a sample
 

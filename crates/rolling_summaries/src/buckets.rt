@@ -1,6 +1,6 @@
 //! The buckets of a summary: which of them takes a sample, where a new one begins, and which are in a window.
 
-ghost use Rattle.std.specs.Prelude.{◌≡◌, ◌<◌, ◌≤◌, ◌*◌, ◌^◌, [], length, flat_map, replicate, None, IfOk, IsOk, IfSome, OnOk, OnErr};
+ghost use Rattle.std.specs.Prelude.{◌≡◌, ◌<◌, ◌≤◌, ◌*◌, ◌^◌, [], ◌≢◌, length, flat_map, replicate, None, IfNone, IfOk, IsOk, IfSome, OnOk, OnErr};
 ghost use Rattle.metrics_registry.specs.Quantiles.{ascending};
 ghost use Rattle.rolling_summaries.specs.Summaries.{in_window, takes, taker, joined, newest_begin, new_begin, begun, kept_in_window, kept_after, Apart, AreOrdered};
 
@@ -207,8 +207,9 @@ pub fn sole_in_window(kept: &VecDeque<Bucket>, window: Window) -> Option<&Bag>
     requires fits { window.limit * window.width < 2 ^ 64 }
     requires apart { Apart window.width kept.now.items }
     requires ordered { AreOrdered kept.now.items }
-    ensures { let shown = flat_map (λ bucket. bucket.values) (kept_in_window (window.limit * window.width) window.now kept.now.items) in
+    ensures sole { let shown = flat_map (λ bucket. bucket.values) (kept_in_window (window.limit * window.width) window.now kept.now.items) in
         IfSome result (λ bag. bag.now ≡ ascending shown) }
+    ensures others { IfNone result (length (kept_in_window (window.limit * window.width) window.now kept.now.items) ≢ 1) }
 {
     let newest = kept.front()?;
     if !window.holds(newest.begin) {

@@ -1,8 +1,8 @@
 //! Summaries over a window that moves on with time.
 
-ghost use Rattle.std.specs.Prelude.{◌≡◌, ◌<◌, ◌≤◌, ◌*◌, ◌^◌, ◌==◌, [], length, IfOk, IfSome, IsOk, OnOk, OnErr};
+ghost use Rattle.std.specs.Prelude.{◌≡◌, ◌<◌, ◌≤◌, ◌*◌, ◌^◌, ◌==◌, [], ◌≢◌, length, IfNone, IfOk, IfSome, IsOk, OnOk, OnErr};
 ghost use Rattle.std.specs.Int.NonZero.{non_zero_u32_get};
-ghost use Rattle.rolling_summaries.specs.Summaries.{empty_summary, added, snapshot_at};
+ghost use Rattle.rolling_summaries.specs.Summaries.{empty_summary, added, kept_in_window, snapshot_at};
 ghost use Rattle.rolling_summaries.specs.Standing.{StandsFor, StandsForMore, ShowsWindow, same_samples};
 
 use crate::Bucket;
@@ -119,9 +119,10 @@ impl RollingSummary {
         values_in_window(alloc, &self.kept, window)
     }
 
-    /// The values of the window at a moment, where one bucket has all of them: they are lent, and take no memory.
+    /// The values of the window at a moment, where exactly one bucket is in it: they are lent, and take no memory.
     pub fn sole_values(&self, now: u64) -> Option<&Bag>
-        ensures { IfSome result (λ bag. bag.now ≡ snapshot_at now self.now) }
+        ensures sole { IfSome result (λ bag. bag.now ≡ snapshot_at now self.now) }
+        ensures others { IfNone result (length (kept_in_window (self.now.limit * self.now.width) now self.now.kept) ≢ 1) }
     {
         let window = Window {
             limit: self.limit,

@@ -4,7 +4,7 @@ use Rattle.std.proofs.lemmas.Bool.Decides.{nat_tests}
 use Rattle.std.proofs.lemmas.Option.{none-some, same_Some, slice_get_read, slice_get_past}
 use Rattle.rolling_summaries.specs.declared.buckets.Bucket.{Bucket}
 use Rattle.rolling_summaries.specs.Summaries.{in_window}
-use Rattle.rolling_summaries.proofs.Ordered.{sole}
+use Rattle.rolling_summaries.proofs.Ordered.{none-sole, sole}
 use Rattle.rolling_summaries.proofs.buckets.sole_in_window.Goals as goal
 use Rattle.rolling_summaries.proofs.buckets.sole_in_window.Goals.{in_default-via-in-Some+else-holds, in_default-via-in_default}
 
@@ -15,8 +15,8 @@ stands kept i b within is = slice_get_read _ _ _ _ refl within is
 few : {i n : ℕ} → false ≡ nat_lt i n → n ≤ i
 few {i} {n} is = grind (arith, nat_tests)
 
-pub returns-in_default : goal.returns-in_default
-returns-in_default c =
+pub returns-in_default-clause-sole : goal.returns-in_default-clause-sole
+returns-in_default-clause-sole c =
     let w = c.args.window in
     let kept = c.args.kept.now.items in
     let newest = c.in_ok-newest.ensures.item in
@@ -28,3 +28,9 @@ returns-in_default c =
       | in_default-via-in_default v ↦ absurd (none-some o (sym (slice_get_past kept 1 (few v.in_default.ensures.item.0)) ∙ at))
     ]) in
     sole w.width (w.limit * w.width) w.now kept c.in_ok-newest.newest.now c.requires.apart c.requires.ordered (stands kept 0 c.in_ok-newest.newest.now newest.3.0 newest.1) (sym c.holds.ensures ∙ c.if-not-holds.false) out
+
+pub returns-then-not-holds-clause-others : goal.returns-then-not-holds-clause-others
+returns-then-not-holds-clause-others c =
+    let w = c.args.window in
+    let newest = c.in_ok-newest.ensures.item in
+    none-sole w.width (w.limit * w.width) w.now c.args.kept.now.items c.in_ok-newest.newest.now c.requires.apart (stands c.args.kept.now.items 0 c.in_ok-newest.newest.now newest.3.0 newest.1) (sym c.holds.ensures ∙ c.if-not-holds.true)
