@@ -1,5 +1,5 @@
 -- What is read from the front of a line is what stands there, and what stands there is read.
-use Rattle.std.proofs.Common.{◌≡◌, ◌≢◌, ℕ, ◌+◌, ◌-◌, ◌*◌, ◌^◌, ◌<◌, ◌≤◌, Bool, true, false, cond, not, ◌&&◌, leb, List, [], ◌∷◌, ◌++◌, length, get_or, take, drop, Option, Some, None, Result, Ok, Err, refl, sym, ap, subst, ◌∙◌, arith, inl, inr, lit<}
+use Rattle.std.proofs.Common.{◌≡◌, ◌≢◌, ℕ, suc, ◌+◌, ◌-◌, ◌*◌, ◌^◌, ◌<◌, ◌≤◌, Bool, true, false, cond, not, ◌&&◌, leb, List, [], ◌∷◌, ◌++◌, length, get_or, take, drop, Option, Some, None, Result, Ok, Err, refl, sym, ap, subst, ◌∙◌, arith, inl, inr, lit<}
 use Rattle.std.specs.Prelude.{decimal, bytes_eq, position, unwrap_or, MatchOption, MatchResult, IsUtf8}
 use Rattle.std.specs.Result.{result_ok, OkIff}
 use Rattle.std.specs.Char.{is_ascii_digit, digit_value}
@@ -176,3 +176,42 @@ short_decimal digits all some few plain = sym (decimal-digits_value own digits a
   where
     first : get_or digits 0 0 ≡ 48 → length digits ≡ 1
     first e = elim (cases_lt 1 (length digits)) [ inl long ↦ absurd (plain long e) | inr short ↦ omega arith ]
+
+-- ---- a number in one pass
+
+digit_first : (c : ℕ) (cs : List ℕ) → is_ascii_digit c ≡ true → digit_count (c ∷ cs) ≡ suc (digit_count cs)
+digit_first c cs e = rw (e, one-add) refl
+
+value_of_digit : (c : ℕ) → is_ascii_digit c ≡ true → digit_value c ≡ c - 48
+value_of_digit c e = let value = digit_value_digit c (digit_from_value c (is_digit_value c e)) in omega (arith, value)
+
+-- the value so far goes on with the first digit to the same number, and the same bytes are behind it
+pub goes_on : (n c : ℕ) (cs : List ℕ) → is_ascii_digit c ≡ true
+    → digits_value_after 10 n (take (digit_count (c ∷ cs)) (c ∷ cs)) ≡ digits_value_after 10 (n * 10 + (c - 48)) (take (digit_count cs) cs)
+goes_on n c cs e = rw (digit_first c cs e) (ap (λ d. digits_value_after 10 (n * 10 + d) (take (digit_count cs) cs)) (value_of_digit c e))
+
+pub goes_past : (c : ℕ) (cs : List ℕ) → is_ascii_digit c ≡ true → drop (digit_count (c ∷ cs)) (c ∷ cs) ≡ drop (digit_count cs) cs
+goes_past c cs e = rw (digit_first c cs e) refl
+
+pub zero_front : (c : ℕ) (cs : List ℕ) → c ≡ 48 → digit_count cs ≡ 0 → take (digit_count (c ∷ cs)) (c ∷ cs) ≡ decimal 0
+zero_front c cs zero none =
+    ap (λ d. take (digit_count (d ∷ cs)) (d ∷ cs)) zero ∙ ap (λ n. take n (48 ∷ cs)) (digit_first 48 cs refl ∙ ap suc none) ∙ sym (decimal_digit 0 (lit< tt))
+
+-- digits behind one that is no zero are the decimal form of the value that they go on to
+pub begun_number : (n c : ℕ) (cs : List ℕ) → is_ascii_digit c ≡ true → c ≢ 48 → n < 2 ^ 64 → n ≡ digits_value_after 10 (c - 48) (take (digit_count cs) cs)
+    → take (digit_count (c ∷ cs)) (c ∷ cs) ≡ decimal n
+begun_number n c cs digit plain small is = front ∙ sym (decimal-digits_value own digits all (omega arith) (λ e. absurd (plain e)) (rw value small)) ∙ ap decimal value
+  where
+    digits : List ℕ
+    digits = c ∷ take (digit_count cs) cs
+
+    front : take (digit_count (c ∷ cs)) (c ∷ cs) ≡ digits
+    front = rw (digit_first c cs digit) refl
+
+    all : AllDigits 10 digits
+    all = subst (AllDigits 10) front (digits_front (c ∷ cs))
+
+    value : digits_value 10 digits ≡ n
+    value =
+        let same : 0 * 10 + (c - 48) ≡ c - 48 = omega arith in
+        sym (ap (digits_value 10) front) ∙ goes_on 0 c cs digit ∙ ap (λ m. digits_value_after 10 m (take (digit_count cs) cs)) same ∙ sym is

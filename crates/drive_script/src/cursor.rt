@@ -25,7 +25,7 @@ ghost use Rattle.std.specs.Prelude.{
   [],
 };
 ghost use Rattle.std.specs.Cow.{cow_str_bytes};
-ghost use Rattle.std.specs.Str.Parse.{AllDigits, digits_value};
+ghost use Rattle.std.specs.Str.Parse.{AllDigits, digits_value, digits_value_after};
 ghost use Rattle.drive_script.specs.Reading.{
   after,
   and_then,
@@ -87,6 +87,9 @@ const PLACES: usize = 9;
 /// The greatest whole part of a value.
 const MOST_WHOLE: u64 = 9_223_372_036;
 
+/// Up to this value another digit has room behind a number in 64 bits.
+const MOST_GROWING: u64 = 999_999_999_999_999_999;
+
 /// So many digits are read without a look whether their value has room in 64 bits.
 const MOST_SHORT: usize = 19;
 
@@ -119,6 +122,22 @@ impl<'a> Cursor<'a> {
 
     /// Takes a number of at most `most`, which has no zero at its front and which no digit follows.
     pub(crate) fn number(&mut self, most: u64) -> Option<u64>
+        ensures value { MatchOption result (number_at most self.old.rest.now ≡ None)
+            (λ n. number_at most self.old.rest.now ≡ Some (n, self.new.rest.now)) }
+        ensures most { IfSome result (λ n. n ≤ most) }
+    {
+        let Some((value, rest)) = short_number(self.rest) else {
+            return self.any_number(most);
+        };
+        if value > most {
+            return None;
+        }
+        self.rest = rest;
+        Some(value)
+    }
+
+    /// Takes a number as `number` does, however many digits it has.
+    fn any_number(&mut self, most: u64) -> Option<u64>
         ensures value { MatchOption result (number_at most self.old.rest.now ≡ None)
             (λ n. number_at most self.old.rest.now ≡ Some (n, self.new.rest.now)) }
         ensures most { IfSome result (λ n. n ≤ most) }
@@ -574,6 +593,57 @@ fn digit_count(bytes: &[u8]) -> usize
         .unwrap_or(bytes.len())
 }
 
+/// The number in the digits at the front and the bytes behind it, in one pass, where no zero stands in front of others and it
+/// has at most nineteen digits. Elsewhere it tells nothing.
+fn short_number(bytes: &[u8]) -> Option<(u64, &[u8])>
+    ensures number { IfSome result (λ found. take (digit_count bytes.now) bytes.now ≡ decimal found.0) }
+    ensures fits { IfSome result (λ found. found.0 < 2 ^ 64) }
+    ensures rest { IfSome result (λ found. found.1.now ≡ drop (digit_count bytes.now) bytes.now) }
+{
+    let (first, behind) = bytes.split_first()?;
+    if !first.is_ascii_digit() {
+        return None;
+    }
+    if *first == b'0' {
+        return zero_before(behind);
+    }
+    let (value, rest) = digits_behind(u64::from(*first - b'0'), behind)?;
+    Some((value, rest))
+}
+
+/// The number 0 and the bytes behind it, where they don't begin with a digit.
+fn zero_before(bytes: &[u8]) -> Option<(u64, &[u8])>
+    ensures { IfSome result (λ found. (digit_count bytes.now ≡ 0) × (found.0 ≡ 0) × (found.1.now ≡ bytes.now)) }
+{
+    if let Some(next) = bytes.first()
+        && next.is_ascii_digit()
+    {
+        return None;
+    }
+    Some((0, bytes))
+}
+
+/// A value that goes on with the digits at the front, and the bytes behind them, where it has room.
+fn digits_behind(begun: u64, bytes: &[u8]) -> Option<(u64, &[u8])>
+    ensures value { IfSome result (λ found. found.0 ≡ digits_value_after 10 begun (take (digit_count bytes.now) bytes.now)) }
+    ensures fits { IfSome result (λ found. found.0 < 2 ^ 64) }
+    ensures rest { IfSome result (λ found. found.1.now ≡ drop (digit_count bytes.now) bytes.now) }
+{
+    let mut value = begun;
+    let mut rest = bytes;
+    while let Some((first, behind)) = rest.split_first() {
+        if !first.is_ascii_digit() {
+            return Some((value, rest));
+        }
+        if value > MOST_GROWING {
+            return None;
+        }
+        value = value * 10 + u64::from(*first - b'0');
+        rest = behind;
+    }
+    Some((value, rest))
+}
+
 /// The number that the digits are the decimal form of.
 fn number_of(digits: &[u8]) -> Option<u64>
     requires { AllDigits 10 digits.now }
@@ -583,7 +653,10 @@ fn number_of(digits: &[u8]) -> Option<u64>
     if digits.len() > 1 && digits[0] == b'0' {
         return None;
     }
-    if digits.is_empty() || digits.len() > MOST_SHORT {
+    if digits.is_empty() {
+        return None;
+    }
+    if digits.len() > MOST_SHORT {
         return parsed_number(digits);
     }
     Some(short_value(digits))

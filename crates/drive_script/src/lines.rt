@@ -12,6 +12,7 @@ use crate::recent::Recent;
 use crate::{Act, CallLine, Setup};
 use metrics_core::{Key, KeyName, Memory, MetricKind};
 use std::alloc::Global;
+use std::sync::Arc;
 
 /// The number of the last lane.
 const LAST_LANE: u64 = 7;
@@ -98,7 +99,8 @@ fn register_line<'a>(
     let Some(labels) = cursor.labels(alloc, recent)? else {
         return Ok(None);
     };
-    let key = Key::from_parts(KeyName::from(name), labels);
+    let labels = Arc::new(alloc, labels)?;
+    let key = Key::from_shared_labels(KeyName::from(name), labels);
     Ok(Some((kind, key)))
 }
 

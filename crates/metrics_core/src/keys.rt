@@ -5,6 +5,7 @@ ghost use Rattle.std.specs.Cmp.{partial_equiv_from_equiv, partial_order_from_agr
 ghost use Rattle.std.specs.Cmp.Lexicographic.{slice_cmp, nat_list_eq_equiv, nat_list_cmp_total, texts_po, texts_ties};
 ghost use Rattle.std.specs.Ordering.{nat_cmp};
 ghost use Rattle.std.specs.Hash as fed;
+ghost use Rattle.std.specs.Arc.{arc_value};
 ghost use Rattle.std.specs.Slice.Iter.{iter_rest};
 ghost use Rattle.std.specs.Iterator.Adapters.{IterYieldsInOrder};
 ghost use Rattle.metrics_core.specs.Texts.{cow_text};
@@ -22,6 +23,7 @@ use std::cmp::Ordering;
 use std::hash::{Hash, Hasher};
 use std::marker::Model;
 use std::slice;
+use std::sync::Arc;
 
 /// The name of a metric: any text. A contract sees it as its UTF-8 bytes.
 #[derive(Debug, Drop)]
@@ -183,6 +185,16 @@ impl Key {
         Key {
             name,
             labels: CowSlice::from_owned(labels),
+        }
+    }
+
+    /// The key of a series with labels that it shares: a copy of it takes no new list.
+    pub fn from_shared_labels(name: KeyName, labels: Arc<Vec<Label>>) -> Key
+        ensures parts { result ≡ record { name = name; labels = (arc_value labels).items } }
+    {
+        Key {
+            name,
+            labels: CowSlice::from_shared(labels),
         }
     }
 

@@ -104,23 +104,15 @@ ordered-more bag values new is = is ∙ sym (ascending-again (bag ++ values)) �
 
 -- ---- the values of each bucket in order
 
+abbrev IsOrdered : Bucket → Type 0
+IsOrdered b = b.values ≡ ascending b.values
+
 ordered-joined : (values : List ℤ) (place : ℕ) (kept : List Bucket) → AreOrdered kept → AreOrdered (joined values place kept)
-ordered-joined values place [] ordered = tt
-ordered-joined values zero (b ∷ older) (here, later) = (sym (ascending-again (b.values ++ values)), later)
-ordered-joined values (suc place) (b ∷ older) (here, later) = (here, ordered-joined values place older later)
-
-ordered-take : (n : ℕ) (kept : List Bucket) → AreOrdered kept → AreOrdered (take n kept)
-ordered-take zero kept ordered = tt
-ordered-take (suc n) [] ordered = tt
-ordered-take (suc n) (b ∷ older) (here, later) = (here, ordered-take n older later)
-
-ordered-kept : (span t : ℕ) (kept : List Bucket) → AreOrdered kept → AreOrdered (kept_in_window span t kept)
-ordered-kept span t [] ordered = tt
-ordered-kept span t (b ∷ older) (here, later) =
-    elim (in_window span t b.begin) as (λ r. AreOrdered (cond r (b ∷ kept_in_window span t older) (kept_in_window span t older))) [
-      | true ↦ (here, ordered-kept span t older later)
-      | false ↦ ordered-kept span t older later
-    ]
+ordered-joined values place [] ordered = ordered
+ordered-joined values zero (b ∷ older) ordered =
+    All-cons IsOrdered (record b { values = ascending (b.values ++ values) }) older (sym (ascending-again (b.values ++ values))) (All-tail IsOrdered b older ordered)
+ordered-joined values (suc place) (b ∷ older) ordered =
+    All-cons IsOrdered b (joined values place older) (All-head IsOrdered b older ordered) (ordered-joined values place older (All-tail IsOrdered b older ordered))
 
 pub ordered-kept_after : (limit width t : ℕ) (values : List ℤ) (kept : List Bucket) → AreOrdered kept → AreOrdered (kept_after limit width t values kept)
 ordered-kept_after limit width t values kept ordered = by (taker width t kept)
@@ -128,9 +120,14 @@ ordered-kept_after limit width t values kept ordered = by (taker width t kept)
     left : List Bucket
     left = kept_in_window (limit * width) t kept
 
+    ordered_left : AreOrdered left
+    ordered_left = All-filter (λ b. in_window (limit * width) t b.begin) IsOrdered kept ordered
+
     begun_so : (begin : Option ℕ) → AreOrdered (begun_at limit values left begin)
-    begun_so None = ordered-kept (limit * width) t kept ordered
-    begun_so (Some begin) = ordered-take limit (record { begin = begin; values = ascending values } ∷ left) (sym (ascending-again values), ordered-kept (limit * width) t kept ordered)
+    begun_so None = ordered_left
+    begun_so (Some begin) =
+        All-take IsOrdered limit (record { begin = begin; values = ascending values } ∷ left)
+        (All-cons IsOrdered (record { begin = begin; values = ascending values }) left (sym (ascending-again values)) ordered_left)
 
     by : (place : Option ℕ) → AreOrdered (kept_by limit width t values kept place)
     by None = begun_so (new_begin width t (newest_begin left))
@@ -148,7 +145,7 @@ sole width span t (b ∷ older) d apart ordered at within out =
     let same = same_Some b d at in
     let none = none_older width span t older apart.1 out in
     ap (λ (x : Bucket). x.values) (sym same)
-    ∙ ordered.0
+    ∙ All-head IsOrdered b older ordered
     ∙ ap ascending (sym (append-nil b.values))
     ∙ ap (λ l. ascending (values_of (b ∷ l))) (sym none)
     ∙ ap (λ r. ascending (values_of (cond r (b ∷ kept_in_window span t older) (kept_in_window span t older)))) (sym (ap (λ (x : Bucket). in_window span t x.begin) same ∙ within))

@@ -102,8 +102,7 @@ Apart width (bucket ∷ older) = All (λ o. o.begin + width ≤ bucket.begin) ol
 
 -- the values of each bucket stand in ascending order
 abbrev pub AreOrdered : List Bucket → Type 0
-AreOrdered [] = Unit {0}
-AreOrdered (bucket ∷ older) = (bucket.values ≡ ascending bucket.values) × AreOrdered older
+AreOrdered kept = All (λ bucket. bucket.values ≡ ascending bucket.values) kept
 
 -- what every summary keeps: it has a bucket at least, a width and a span of 64 bits, and no more buckets than it was
 -- built for, which are apart, each with its values in order

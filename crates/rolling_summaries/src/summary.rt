@@ -122,6 +122,7 @@ impl RollingSummary {
     /// The values of the window at a moment, where exactly one bucket is in it: they are lent, and take no memory.
     pub fn sole_values(&self, now: u64) -> Option<&Bag>
         ensures sole { IfSome result (λ bag. bag.now ≡ snapshot_at now self.now) }
+        ensures window { IfSome result (λ bag. ShowsWindow self.now now bag.now) }
         ensures others { IfNone result (length (kept_in_window (self.now.limit * self.now.width) now self.now.kept) ≢ 1) }
     {
         let window = Window {
