@@ -4,9 +4,9 @@ use Rattle.std.specs.Prelude.{min, nat_lt, slice_get, option_map, flat_map, ℤ,
 use Rattle.std.proofs.lemmas.Option.{same_Some, none-some}
 use Rattle.std.proofs.lemmas.List.{take-append-drop, drop-drop, drop_all}
 use Rattle.metrics_registry.specs.Live.{LiveSeries}
-use Rattle.prom_exporter.specs.Rows.{row_at, row_if}
+use Rattle.prom_exporter.specs.Rows.{row_at, row_if, value_line}
 use Rattle.prom_exporter.specs.Values.{with_member}
-use Rattle.prom_exporter.specs.Printed.{AreKept, AreRows, ArePrinted, ShowValues, together, value_line}
+use Rattle.prom_exporter.specs.Printed.{AreKept, AreRows, ArePrinted, ShowValues, together}
 use Rattle.prom_exporter.proofs.PieceTexts.{beyond, take-everything, within}
 use Rattle.prom_exporter.specs.declared.cells.Billionths.{Billionths}
 use Rattle.prom_exporter.specs.declared.printed.PrintedRows.{PrintedRows}

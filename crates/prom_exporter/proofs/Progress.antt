@@ -75,3 +75,41 @@ module _ (a b : Option (List ℕ)) (w v x : List ℕ) where
 -- a prefix of some bytes is one of more
 pub sends_prefix_more : (a b : Option (List ℕ)) (w x y : List ℕ) → SendsPrefix a b w x → SendsPrefix a b w (x ++ y)
 sends_prefix_more a b w x y first start bytes waits = subst (GrewByPrefix start b) (append_assoc bytes x y) (grew_prefix-longer start b (bytes ++ x) y (first start bytes waits))
+
+-- ---- one more block: the lines above its rows wait, its rows are sent or wait, and its end waits
+
+module _ (a b : Option (List ℕ)) (w v so_far : List ℕ) (first : SendsMore a b w v so_far) where
+  -- nothing of it was sent
+  pub block_none : (block rest whole : List ℕ) → whole ≡ (so_far ++ block) ++ rest → SendsPrefix a b w whole
+  block_none block rest whole is =
+      subst (SendsPrefix a b w) (sym (is ∙ append_assoc so_far block rest)) (sends_stopped a b w v so_far (block ++ rest) first)
+
+  module _ (c : Option (List ℕ)) (u title rows : List ℕ) (titled : u ≡ v ++ title) where
+    above : SendsMore a b w u (so_far ++ title)
+    above = sends_behind a b w v so_far b u title first (sends_grown b v u title titled)
+
+    cut : (end rest whole : List ℕ) → whole ≡ (so_far ++ ((title ++ rows) ++ end)) ++ rest → ((so_far ++ title) ++ rows) ++ (end ++ rest) ≡ whole
+    cut end rest whole is =
+        let same : (so_far ++ ((title ++ rows) ++ end)) ++ rest ≡ ((so_far ++ title) ++ rows) ++ (end ++ rest) = simp append_assoc in
+        sym (is ∙ same)
+
+    -- a prefix of its rows was sent
+    pub block_cut : SendsPrefix b c u rows → (end rest whole : List ℕ) → whole ≡ (so_far ++ ((title ++ rows) ++ end)) ++ rest → SendsPrefix a c w whole
+    block_cut prefix end rest whole is =
+        subst (SendsPrefix a c w) (cut end rest whole is)
+        (sends_prefix_more a c w ((so_far ++ title) ++ rows) (end ++ rest) (sends_prefix_behind a b w u (so_far ++ title) c rows above prefix))
+
+    module _ (y : List ℕ) (rowed : SendsMore b c u y rows) where
+      through : SendsMore a c w y ((so_far ++ title) ++ rows)
+      through = sends_behind a b w u (so_far ++ title) c y rows above rowed
+
+      -- its end is missing
+      pub block_stopped : (end rest whole : List ℕ) → whole ≡ (so_far ++ ((title ++ rows) ++ end)) ++ rest → SendsPrefix a c w whole
+      block_stopped end rest whole is =
+          subst (SendsPrefix a c w) (cut end rest whole is) (sends_stopped a c w y ((so_far ++ title) ++ rows) (end ++ rest) through)
+
+      -- all of it was sent or waits
+      pub block_more : (z end more : List ℕ) → z ≡ y ++ end → more ≡ so_far ++ ((title ++ rows) ++ end) → SendsMore a c w z more
+      block_more z end more ended is =
+          let whole : ((so_far ++ title) ++ rows) ++ end ≡ so_far ++ ((title ++ rows) ++ end) = simp append_assoc in
+          subst (SendsMore a c w z) (whole ∙ sym is) (sends_behind a c w y ((so_far ++ title) ++ rows) c z end through (sends_grown c y z end ended))

@@ -78,16 +78,6 @@ module _ {E X : Type 0} (block : X → List ℕ) (seen : E → X) where
         ∙ ap (λ l. blocks (map deref some) ++ blocks l) (rest_more deref left after r x is step)
         ∙ sym (append_assoc (blocks (map deref some)) (block (seen (deref x))) (blocks after))
 
--- the parts of a block, behind what was written: its type line, its rows, its empty line
-pub before_block : (b y t f n a : List ℕ) → b ++ ((y ++ ((t ++ f) ++ n)) ++ a) ≡ (b ++ y) ++ (((t ++ f) ++ n) ++ a)
-before_block b y t f n a = simp append_assoc
-
-pub before_end : (b y t f n a : List ℕ) → b ++ ((y ++ ((t ++ f) ++ n)) ++ a) ≡ (((b ++ y) ++ t) ++ f) ++ (n ++ a)
-before_end b y t f n a = simp append_assoc
-
-pub whole_block : (b y t f n : List ℕ) → (((b ++ y) ++ t) ++ f) ++ n ≡ b ++ (y ++ ((t ++ f) ++ n))
-whole_block b y t f n = simp append_assoc
-
 -- what holds of each thing that is seen holds of one in the middle
 pub all_yielded : {E X : Type 0} (Q : X → Type 0) (seen : E → X) (before after : List E) (e : E) → AllByRecursion Q (map seen (before ++ e ∷ after)) → Q (seen e)
 all_yielded Q seen [] after e all = all.0

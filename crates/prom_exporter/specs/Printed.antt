@@ -1,8 +1,7 @@
 -- Rows of counters and gauges as they were printed last, which stay for the next page (this project's rule).
-use Rattle.std.specs.Prelude.{◌≡◌, ℕ, List, [], ◌∷◌, ◌++◌, take, drop, slice_get, ℤ, Option, Some, option_map, codes, string_bytes}
-use Rattle.metrics_core.specs.Characters.{line}
-use Rattle.metrics_core.specs.Numbers.{page_number}
+use Rattle.std.specs.Prelude.{◌≡◌, ℕ, List, [], ◌∷◌, ◌++◌, take, drop, slice_get, ℤ, Option, Some, option_map, string_bytes}
 use Rattle.metrics_registry.specs.Live.{LiveSeries}
+use Rattle.prom_exporter.specs.Rows.{value_line}
 use Rattle.prom_exporter.specs.declared.cells.Billionths.{Billionths}
 use Rattle.prom_exporter.specs.declared.printed.PrintedRows.{PrintedRows}
 use Rattle.prom_exporter.specs.declared.printed.PrintedFamily.{PrintedFamily}
@@ -10,10 +9,6 @@ use Rattle.prom_exporter.specs.declared.printed.PrintedFamily.{PrintedFamily}
 -- so many rows of a family are kept together
 abbrev pub together : ℕ
 together = 8
-
--- the row of a value, in billionths, with the printed label set, under the full name of its family
-abbrev pub value_line : List ℕ → List ℕ → ℤ → List ℕ
-value_line name labels value = line (name ++ labels ++ codes " " ++ page_number value)
 
 -- a text is the rows of these values, of the series at the first of some places
 abbrev pub AreRows : List ℕ → List (List ℕ) → List ℕ → List Billionths → List ℕ → Type 0

@@ -48,10 +48,14 @@ family_kept entry = (string_bytes entry.0, entry.1.items)
 
 -- ---- the lines that are written of what is kept
 
+-- a row: the full name of its family, the printed label set, a space and the value, in billionths
+abbrev pub value_line : List ℕ → List ℕ → ℤ → List ℕ
+value_line name labels value = line (name ++ labels ++ codes " " ++ page_number value)
+
 module _ {X : Type 0} (shown : X → ℤ) where
-  -- a row: the full name of its family, the label set, a space and the value
+  -- the row of a series
   abbrev pub kept_row : List ℕ → List ℕ → X → List ℕ
-  kept_row name labels cell = line (name ++ labels ++ codes " " ++ page_number (shown cell))
+  kept_row name labels cell = value_line name labels (shown cell)
 
   -- the row of the series at a place, if there is one
   abbrev pub row_if : List ℕ → Option (List ℕ) → Option (LiveSeries X) → List ℕ

@@ -1,12 +1,12 @@
 //! The body of a page, written to a sink (Prometheus text exposition format, version 0.0.4).
 
-ghost use Rattle.std.specs.Prelude.{◌≡◌, ◌≤◌, ◌++◌, ◌∷◌, [], ℕ, List, Option, flat_map, map, ◌⊎◌, IfErr, OnOk, OnErr, string_bytes};
+ghost use Rattle.std.specs.Prelude.{◌≡◌, ◌++◌, [], ℕ, List, Option, flat_map, map, slice_get, OnOk, OnErr, string_bytes};
 ghost use Rattle.metrics_core.specs.Characters.{line};
-ghost use Rattle.metrics_core.specs.Outside.{Rose, GrewByPrefix};
+ghost use Rattle.metrics_core.specs.Outside.{GrewByPrefix};
 ghost use Rattle.std.specs.Option.{option_copied};
 ghost use Rattle.prom_exporter.specs.Printed.{AreKept, ArePrinted};
 ghost use Rattle.prom_exporter.specs.Rows.{family_kept, kept_block, kept_row, row_at};
-ghost use Rattle.prom_exporter.specs.Sending.{IsSent};
+ghost use Rattle.prom_exporter.specs.Sending.{IsSent, FailsOnly, Sends};
 
 use crate::BuildError;
 use crate::cells::Shown;
@@ -35,15 +35,9 @@ pub(crate) fn write_families<C: Shown, K: Sink>(
     sink: &mut K,
 ) -> Result<(), BuildError>
     ensures same { rows.new ≡ rows.old }
-    ensures sent { (start : Option (List ℕ)) (bytes : List ℕ) → IsSent start (K.written sink.old) (string_bytes buffer.old) bytes
-        → OnOk result (IsSent start (K.written sink.new) (string_bytes buffer.new)
-        (bytes ++ flat_map (kept_block C.shown naming.now (option_copied suffix.entry) family_type rows.old.label_sets series.now) rows.old.families)) }
-    ensures prefix { (start : Option (List ℕ)) (bytes : List ℕ) → IsSent start (K.written sink.old) (string_bytes buffer.old) bytes
-        → OnErr result (GrewByPrefix start (K.written sink.new)
-        (bytes ++ flat_map (kept_block C.shown naming.now (option_copied suffix.entry) family_type rows.old.label_sets series.now) rows.old.families)) }
-    ensures errors { IfErr result (λ error. (error ≡ BuildError.WriteFault) ⊎ (error ≡ BuildError.Memory)) }
-    ensures cause { result ≡ Err BuildError.WriteFault → Rose (K.faults sink.old) (K.faults sink.new) }
-    ensures never_falls { K.faults sink.old ≤ K.faults sink.new }
+    ensures sends { Sends result (K.written sink.old) (K.written sink.new) (string_bytes buffer.old) (string_bytes buffer.new)
+        (flat_map (kept_block C.shown naming.now (option_copied suffix.entry) family_type rows.old.label_sets series.now) rows.old.families) }
+    ensures fails { FailsOnly result (K.faults sink.old) (K.faults sink.new) }
 {
     write_blocks(
         naming,
@@ -72,15 +66,9 @@ fn write_blocks<C: Shown, K: Sink>(
 ) -> Result<(), BuildError>
     requires printed { ArePrinted label_sets.now (map family_kept families.now.entries) printed.old.items }
     ensures printed { ArePrinted label_sets.now (map family_kept families.now.entries) printed.new.items }
-    ensures sent { (start : Option (List ℕ)) (bytes : List ℕ) → IsSent start (K.written sink.old) (string_bytes buffer.old) bytes
-        → OnOk result (IsSent start (K.written sink.new) (string_bytes buffer.new)
-        (bytes ++ flat_map (kept_block C.shown naming.now (option_copied suffix.entry) family_type label_sets.now series.now) (map family_kept families.now.entries))) }
-    ensures prefix { (start : Option (List ℕ)) (bytes : List ℕ) → IsSent start (K.written sink.old) (string_bytes buffer.old) bytes
-        → OnErr result (GrewByPrefix start (K.written sink.new)
-        (bytes ++ flat_map (kept_block C.shown naming.now (option_copied suffix.entry) family_type label_sets.now series.now) (map family_kept families.now.entries))) }
-    ensures errors { IfErr result (λ error. (error ≡ BuildError.WriteFault) ⊎ (error ≡ BuildError.Memory)) }
-    ensures cause { result ≡ Err BuildError.WriteFault → Rose (K.faults sink.old) (K.faults sink.new) }
-    ensures never_falls { K.faults sink.old ≤ K.faults sink.new }
+    ensures sends { Sends result (K.written sink.old) (K.written sink.new) (string_bytes buffer.old) (string_bytes buffer.new)
+        (flat_map (kept_block C.shown naming.now (option_copied suffix.entry) family_type label_sets.now series.now) (map family_kept families.now.entries)) }
+    ensures fails { FailsOnly result (K.faults sink.old) (K.faults sink.new) }
 {
     let mut full = String::new(*buffer.allocator());
     for index in 0..families.len() {
@@ -88,11 +76,10 @@ fn write_blocks<C: Shown, K: Sink>(
             unreachable!()
         };
         naming.write_title(name, suffix, family_type.as_str(), &mut full, buffer)?;
-        begin_family(printed, index, *buffer.allocator())?;
-        let rows = &mut printed[index];
-        write_rows(
+        write_family(
             full.as_str(),
-            rows,
+            printed,
+            index,
             label_sets,
             series,
             places.as_slice(),
@@ -112,6 +99,34 @@ pub(crate) fn end_block(buffer: &mut String) -> Result<(), Memory>
     Ok(())
 }
 
+/// Appends the rows of the series at these places, of the family at an index, under its full name. What fills a piece goes to the
+/// sink. Of few rows nothing is kept; what is kept of others is used, and kept on.
+fn write_family<C: Shown, K: Sink>(
+    name: &str,
+    printed: &mut Vec<PrintedFamily>,
+    index: usize,
+    label_sets: &LabelSets,
+    series: &SeriesIter<'_, C>,
+    places: &[usize],
+    buffer: &mut String,
+    sink: &mut K,
+) -> Result<(), BuildError>
+    ensures printed { (families : List (List ℕ × List ℕ)) (family : List ℕ) → slice_get families index ≡ Some (family, places.now)
+        → ArePrinted label_sets.now families printed.old.items → ArePrinted label_sets.now families printed.new.items }
+    ensures sends { (families : List (List ℕ × List ℕ)) (family : List ℕ) → slice_get families index ≡ Some (family, places.now)
+        → ArePrinted label_sets.now families printed.old.items
+        → Sends result (K.written sink.old) (K.written sink.new) (string_bytes buffer.old) (string_bytes buffer.new)
+        (flat_map (row_at C.shown name.now label_sets.now series.now) places.now) }
+    ensures fails { FailsOnly result (K.faults sink.old) (K.faults sink.new) }
+{
+    if places.len() < TOGETHER {
+        return write_new_rows(name, label_sets, series, places, buffer, sink);
+    }
+    begin_family(printed, index, *buffer.allocator())?;
+    let rows = &mut printed[index];
+    write_rows(name, rows, label_sets, series, places, buffer, sink)
+}
+
 /// Appends the rows of the series at these places, in a family of this full name. What fills a piece goes to the sink. What is kept
 /// of them is used, and kept on.
 fn write_rows<C: Shown, K: Sink>(
@@ -125,15 +140,12 @@ fn write_rows<C: Shown, K: Sink>(
 ) -> Result<(), BuildError>
     ensures kept { AreKept (string_bytes printed.old.name) label_sets.now places.now printed.old.rows.items
         → AreKept (string_bytes printed.new.name) label_sets.now places.now printed.new.rows.items }
-    ensures sent { AreKept (string_bytes printed.old.name) label_sets.now places.now printed.old.rows.items → (start : Option (List ℕ)) (bytes : List ℕ) → IsSent start (K.written sink.old) (string_bytes buffer.old) bytes
-        → OnOk result (IsSent start (K.written sink.new) (string_bytes buffer.new) (bytes ++ flat_map (row_at C.shown name.now label_sets.now series.now) places.now)) }
-    ensures prefix { AreKept (string_bytes printed.old.name) label_sets.now places.now printed.old.rows.items → (start : Option (List ℕ)) (bytes : List ℕ) → IsSent start (K.written sink.old) (string_bytes buffer.old) bytes
-        → OnErr result (GrewByPrefix start (K.written sink.new) (bytes ++ flat_map (row_at C.shown name.now label_sets.now series.now) places.now)) }
-    ensures errors { IfErr result (λ error. (error ≡ BuildError.WriteFault) ⊎ (error ≡ BuildError.Memory)) }
-    ensures cause { result ≡ Err BuildError.WriteFault → Rose (K.faults sink.old) (K.faults sink.new) }
-    ensures never_falls { K.faults sink.old ≤ K.faults sink.new }
+    ensures sends { AreKept (string_bytes printed.old.name) label_sets.now places.now printed.old.rows.items
+        → Sends result (K.written sink.old) (K.written sink.new) (string_bytes buffer.old) (string_bytes buffer.new)
+        (flat_map (row_at C.shown name.now label_sets.now series.now) places.now) }
+    ensures fails { FailsOnly result (K.faults sink.old) (K.faults sink.new) }
 {
-    if printed.is_kept(name, places.len()) {
+    if printed.begin_page(name, places.len()) {
         return write_kept_rows(name, printed, label_sets, series, places, buffer, sink);
     }
     write_new_rows(name, label_sets, series, places, buffer, sink)
@@ -153,13 +165,10 @@ fn write_kept_rows<C: Shown, K: Sink>(
     requires name { string_bytes printed.old.name ≡ name.now }
     ensures kept { AreKept (string_bytes printed.old.name) label_sets.now places.now printed.old.rows.items
         → AreKept (string_bytes printed.new.name) label_sets.now places.now printed.new.rows.items }
-    ensures sent { AreKept (string_bytes printed.old.name) label_sets.now places.now printed.old.rows.items → (start : Option (List ℕ)) (bytes : List ℕ) → IsSent start (K.written sink.old) (string_bytes buffer.old) bytes
-        → OnOk result (IsSent start (K.written sink.new) (string_bytes buffer.new) (bytes ++ flat_map (row_at C.shown name.now label_sets.now series.now) places.now)) }
-    ensures prefix { AreKept (string_bytes printed.old.name) label_sets.now places.now printed.old.rows.items → (start : Option (List ℕ)) (bytes : List ℕ) → IsSent start (K.written sink.old) (string_bytes buffer.old) bytes
-        → OnErr result (GrewByPrefix start (K.written sink.new) (bytes ++ flat_map (row_at C.shown name.now label_sets.now series.now) places.now)) }
-    ensures errors { IfErr result (λ error. (error ≡ BuildError.WriteFault) ⊎ (error ≡ BuildError.Memory)) }
-    ensures cause { result ≡ Err BuildError.WriteFault → Rose (K.faults sink.old) (K.faults sink.new) }
-    ensures never_falls { K.faults sink.old ≤ K.faults sink.new }
+    ensures sends { AreKept (string_bytes printed.old.name) label_sets.now places.now printed.old.rows.items
+        → Sends result (K.written sink.old) (K.written sink.new) (string_bytes buffer.old) (string_bytes buffer.new)
+        (flat_map (row_at C.shown name.now label_sets.now series.now) places.now) }
+    ensures fails { FailsOnly result (K.faults sink.old) (K.faults sink.new) }
 {
     let mut rest = places;
     for index in 0..places.len() / TOGETHER + 1 {
@@ -180,13 +189,9 @@ fn write_new_rows<C: Shown, K: Sink>(
     buffer: &mut String,
     sink: &mut K,
 ) -> Result<(), BuildError>
-    ensures sent { (start : Option (List ℕ)) (bytes : List ℕ) → IsSent start (K.written sink.old) (string_bytes buffer.old) bytes
-        → OnOk result (IsSent start (K.written sink.new) (string_bytes buffer.new) (bytes ++ flat_map (row_at C.shown name.now label_sets.now series.now) places.now)) }
-    ensures prefix { (start : Option (List ℕ)) (bytes : List ℕ) → IsSent start (K.written sink.old) (string_bytes buffer.old) bytes
-        → OnErr result (GrewByPrefix start (K.written sink.new) (bytes ++ flat_map (row_at C.shown name.now label_sets.now series.now) places.now)) }
-    ensures errors { IfErr result (λ error. (error ≡ BuildError.WriteFault) ⊎ (error ≡ BuildError.Memory)) }
-    ensures cause { result ≡ Err BuildError.WriteFault → Rose (K.faults sink.old) (K.faults sink.new) }
-    ensures never_falls { K.faults sink.old ≤ K.faults sink.new }
+    ensures sends { Sends result (K.written sink.old) (K.written sink.new) (string_bytes buffer.old) (string_bytes buffer.new)
+        (flat_map (row_at C.shown name.now label_sets.now series.now) places.now) }
+    ensures fails { FailsOnly result (K.faults sink.old) (K.faults sink.new) }
 {
     for place in places {
         push_row(name, label_sets, series, *place, buffer)?;
@@ -253,9 +258,7 @@ pub(crate) fn send_full<K: Sink>(buffer: &mut String, sink: &mut K) -> Result<()
         → OnOk result (IsSent start (K.written sink.new) (string_bytes buffer.new) bytes) }
     ensures prefix { (start : Option (List ℕ)) (bytes : List ℕ) → IsSent start (K.written sink.old) (string_bytes buffer.old) bytes
         → OnErr result (GrewByPrefix start (K.written sink.new) bytes) }
-    ensures errors { IfErr result (λ error. (error ≡ BuildError.WriteFault) ⊎ (error ≡ BuildError.Memory)) }
-    ensures cause { result ≡ Err BuildError.WriteFault → Rose (K.faults sink.old) (K.faults sink.new) }
-    ensures never_falls { K.faults sink.old ≤ K.faults sink.new }
+    ensures fails { FailsOnly result (K.faults sink.old) (K.faults sink.new) }
 {
     if buffer.len() >= PIECE {
         write_whole(sink, buffer.as_bytes())?;

@@ -152,16 +152,13 @@ impl PrintedFamily {
         }
     }
 
-    /// Whether rows are to be kept on a page that shows so many of them under a full name: from the second page on that shows
-    /// as many, where they are not few. What was kept under another name is let go.
-    pub(crate) fn is_kept(&mut self, name: &str, count: usize) -> bool
+    /// Begins a page that shows so many rows under a full name, and lets go what was kept under another name. Answers whether rows
+    /// are to be kept on this page: from the second page on that shows as many.
+    pub(crate) fn begin_page(&mut self, name: &str, count: usize) -> bool
         ensures rows { (label_sets : List (List ℕ)) (places : List ℕ) → AreKept (string_bytes self.old.name) label_sets places self.old.rows.items
             → AreKept (string_bytes self.new.name) label_sets places self.new.rows.items }
         ensures named { IsTrue result → string_bytes self.new.name ≡ name.now }
     {
-        if count < TOGETHER {
-            return false;
-        }
         if self.name.as_str() == name && (self.count == count || !self.rows.is_empty()) {
             return true;
         }
@@ -200,18 +197,17 @@ impl PrintedFamily {
     }
 }
 
-/// Makes a place for what is kept of the family at an index, where it is the first one that has none.
+/// Makes places for what is kept of families, up to the one at an index.
 pub(crate) fn begin_family(
     printed: &mut Vec<PrintedFamily>,
     index: usize,
     alloc: Global,
 ) -> Result<(), Memory>
-    requires index { index ≤ length printed.old.items }
     ensures index { OnOk result (index < length printed.new.items) }
     ensures printed { (label_sets : List (List ℕ)) (families : List (List ℕ × List ℕ)) → index < length families
         → ArePrinted label_sets families printed.old.items → ArePrinted label_sets families printed.new.items }
 {
-    if index == printed.len() {
+    while printed.len() <= index {
         printed.push(PrintedFamily::new(alloc))?;
     }
     Ok(())

@@ -98,7 +98,7 @@ returns-in_err-write_families-clause-prefix g c =
     let counted = counter_blocks naming used (counter_suffix settings) (option_copied c.counter_suffix-suffix.result) globals c.catch_up.new.self series.counters c.counters-counters.result named c.counter_suffix-suffix.ensures (c.in_ok-catch_up.ensures.all ∙ ap (λ l. rows_of globals (keys_of l)) c.counters-counters.ensures) c.counters-counters.ensures in
     let page = (page_is c.args.moment settings series c.self.inside.descriptions c.args.self.now _ _ _ c.self.view_is counted refl refl) in
     let P : List ℕ → Type 0 = GrewByPrefix told (g.K.Sink.written c.write_families.new.sink) in
-    let blocks = c.in_err-write_families.ensures.prefix told [] (starts told _ c.new-buffer.ensures.bytes) in
+    let blocks = c.in_err-write_families.ensures.sends.1 told [] (starts told _ c.new-buffer.ensures.bytes) in
     rw refusal.1 (λ timely. subst P (sym page) (prefix_longer told _ _ _ (prefix_longer told _ _ _ blocks)))
 
 pub returns-in_err-write_families-2-clause-prefix : goal.returns-in_err-write_families-2-clause-prefix
@@ -115,8 +115,8 @@ returns-in_err-write_families-2-clause-prefix g c =
     let gauged = gauge_blocks naming used globals c.catch_up-2.new.self series.gauges c.gauges-gauges.result named (c.in_ok-catch_up-2.ensures.all ∙ ap (λ l. rows_of globals (keys_of l)) c.gauges-gauges.ensures) c.gauges-gauges.ensures in
     let page = (page_is c.args.moment settings series c.self.inside.descriptions c.args.self.now _ _ _ c.self.view_is counted gauged refl) in
     let P : List ℕ → Type 0 = GrewByPrefix told (g.K.Sink.written c.write_families-2.new.sink) in
-    let sent = c.in_ok-write_families.ensures.sent told [] (starts told _ c.new-buffer.ensures.bytes) in
-    let blocks = c.in_err-write_families-2.ensures.prefix told _ sent in
+    let sent = c.in_ok-write_families.ensures.sends.0 told [] (starts told _ c.new-buffer.ensures.bytes) in
+    let blocks = c.in_err-write_families-2.ensures.sends.1 told _ sent in
     rw refusal.1 (λ timely. subst P (sym page) (prefix_longer told _ _ _ blocks))
 
 pub returns-in_err-write_distributions-clause-prefix : goal.returns-in_err-write_distributions-clause-prefix
@@ -135,7 +135,7 @@ returns-in_err-write_distributions-clause-prefix g c =
     let shown = λ (timely : AreTimely c.args.moment c.args.self.now). shown_here globals c.args.moment settings series c.self.inside.descriptions c.args.self.now c.histograms-histograms.result c.catch_up-3.new.self c.self.view_is c.in_ok-catch_up-3.ensures.all c.histograms-histograms.ensures timely in
     let page = (page_is c.args.moment settings series c.self.inside.descriptions c.args.self.now _ _ _ c.self.view_is counted gauged drawn) in
     let P : List ℕ → Type 0 = GrewByPrefix told (g.K.Sink.written c.write_distributions.new.sink) in
-    let sent = c.in_ok-write_families-2.ensures.sent told _ (c.in_ok-write_families.ensures.sent told [] (starts told _ c.new-buffer.ensures.bytes)) in
+    let sent = c.in_ok-write_families-2.ensures.sends.0 told _ (c.in_ok-write_families.ensures.sends.0 told [] (starts told _ c.new-buffer.ensures.bytes)) in
     rw refusal.1 (λ timely. subst P (sym page) (c.in_err-write_distributions.ensures.prefix globals (shown timely) told _ sent))
 
 pub returns-in_err-write_whole-clause-prefix : goal.returns-in_err-write_whole-clause-prefix
@@ -154,7 +154,7 @@ returns-in_err-write_whole-clause-prefix g c =
     let shown = λ (timely : AreTimely c.args.moment c.args.self.now). shown_here globals c.args.moment settings series c.self.inside.descriptions c.args.self.now c.histograms-histograms.result c.catch_up-3.new.self c.self.view_is c.in_ok-catch_up-3.ensures.all c.histograms-histograms.ensures timely in
     let page = (page_is c.args.moment settings series c.self.inside.descriptions c.args.self.now _ _ _ c.self.view_is counted gauged drawn) in
     let P : List ℕ → Type 0 = GrewByPrefix told (g.K.Sink.written c.write_whole.new.sink) in
-    let sent = c.in_ok-write_families-2.ensures.sent told _ (c.in_ok-write_families.ensures.sent told [] (starts told _ c.new-buffer.ensures.bytes)) in
+    let sent = c.in_ok-write_families-2.ensures.sends.0 told _ (c.in_ok-write_families.ensures.sends.0 told [] (starts told _ c.new-buffer.ensures.bytes)) in
     let last : GrewByPrefix (g.K.Sink.written c.write_distributions.new.sink) (g.K.Sink.written c.write_whole.new.sink) (string_bytes c.write_distributions.new.buffer) = rw (← c.as_bytes.ensures.value) c.in_err-write_whole.ensures.prefix in
     rw refusal.1 (λ timely. subst P (append-nil _ ∙ sym page) (sent_prefix _ _ _ _ (c.in_ok-write_distributions.ensures.sent globals (shown timely) told _ sent) _ last []))
 
@@ -173,6 +173,6 @@ returns-clause-body g c =
     let shown = λ (timely : AreTimely c.args.moment c.args.self.now). shown_here globals c.args.moment settings series c.self.inside.descriptions c.args.self.now c.histograms-histograms.result c.catch_up-3.new.self c.self.view_is c.in_ok-catch_up-3.ensures.all c.histograms-histograms.ensures timely in
     let page = (page_is c.args.moment settings series c.self.inside.descriptions c.args.self.now _ _ _ c.self.view_is counted gauged drawn) in
     let P : List ℕ → Type 0 = GrewBy told (g.K.Sink.written c.write_whole.new.sink) in
-    let sent = c.in_ok-write_families-2.ensures.sent told _ (c.in_ok-write_families.ensures.sent told [] (starts told _ c.new-buffer.ensures.bytes)) in
+    let sent = c.in_ok-write_families-2.ensures.sends.0 told _ (c.in_ok-write_families.ensures.sends.0 told [] (starts told _ c.new-buffer.ensures.bytes)) in
     let last : GrewBy (g.K.Sink.written c.write_distributions.new.sink) (g.K.Sink.written c.write_whole.new.sink) (string_bytes c.write_distributions.new.buffer) = rw (← c.as_bytes.ensures.value) c.in_ok-write_whole.ensures.whole in
     λ timely. subst P (sym page) (sent_all _ _ _ _ (c.in_ok-write_distributions.ensures.sent globals (shown timely) told _ sent) _ last)
