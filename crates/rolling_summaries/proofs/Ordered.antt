@@ -150,6 +150,14 @@ sole width span t (b ∷ older) d apart ordered at within out =
     ∙ ap (λ l. ascending (values_of (b ∷ l))) (sym none)
     ∙ ap (λ r. ascending (values_of (cond r (b ∷ kept_in_window span t older) (kept_in_window span t older)))) (sym (ap (λ (x : Bucket). in_window span t x.begin) same ∙ within))
 
+-- then there is one bucket in it
+pub one-sole : (width span t : ℕ) (kept : List Bucket) (d : Bucket) → Apart width kept → slice_get kept 0 ≡ Some d → in_window span t d.begin ≡ true
+    → ((o : Bucket) → slice_get kept 1 ≡ Some o → in_window span t o.begin ≡ false) → length (kept_in_window span t kept) ≡ 1
+one-sole width span t [] d apart at within out = absurd (none-some d at)
+one-sole width span t (b ∷ older) d apart at within out =
+    ap (λ r. length (cond r (b ∷ kept_in_window span t older) (kept_in_window span t older))) (ap (λ (x : Bucket). in_window span t x.begin) (same_Some b d at) ∙ within)
+    ∙ ap (λ l. length (b ∷ l)) (none_older width span t older apart.1 out)
+
 -- where the newest bucket is out of the window there isn't one bucket in it
 pub none-sole : (width span t : ℕ) (kept : List Bucket) (d : Bucket) → Apart width kept → slice_get kept 0 ≡ Some d → in_window span t d.begin ≡ false → length (kept_in_window span t kept) ≢ 1
 none-sole width span t [] d apart at out one = absurd (none-some d at)

@@ -209,6 +209,7 @@ pub fn sole_in_window(kept: &VecDeque<Bucket>, window: Window) -> Option<&Bag>
     requires ordered { AreOrdered kept.now.items }
     ensures sole { let shown = flat_map (λ bucket. bucket.values) (kept_in_window (window.limit * window.width) window.now kept.now.items) in
         IfSome result (λ bag. bag.now ≡ ascending shown) }
+    ensures one { IfSome result (λ _. length (kept_in_window (window.limit * window.width) window.now kept.now.items) ≡ 1) }
     ensures others { IfNone result (length (kept_in_window (window.limit * window.width) window.now kept.now.items) ≢ 1) }
 {
     let newest = kept.front()?;

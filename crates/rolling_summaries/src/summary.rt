@@ -123,6 +123,7 @@ impl RollingSummary {
     pub fn sole_values(&self, now: u64) -> Option<&Bag>
         ensures sole { IfSome result (λ bag. bag.now ≡ snapshot_at now self.now) }
         ensures window { IfSome result (λ bag. ShowsWindow self.now now bag.now) }
+        ensures one { IfSome result (λ _. length (kept_in_window (self.now.limit * self.now.width) now self.now.kept) ≡ 1) }
         ensures others { IfNone result (length (kept_in_window (self.now.limit * self.now.width) now self.now.kept) ≢ 1) }
     {
         let window = Window {
