@@ -1,5 +1,5 @@
 -- The calls of a lane, each made on both exporters.
-use Rattle.std.specs.Prelude.{◌≡◌, ℕ, zero, suc, ◌+◌, ◌<◌, ◌==◌, ◌&&◌, Bool, false, if◌then◌else◌, not, List, [], ◌∷◌, ◌++◌, Option, Some, None, IfSome, map, filter, length, option_map, unwrap_or, slice_get}
+use Rattle.std.specs.Prelude.{◌≡◌, ℕ, zero, suc, ◌+◌, ◌<◌, ◌⊎◌, ◌==◌, ◌&&◌, Bool, false, if◌then◌else◌, not, List, [], ◌∷◌, ◌++◌, Option, Some, None, IfSome, map, filter, length, option_map, unwrap_or, slice_get}
 use mathlib.Core.Option.{some}
 use lib.ListN.{get_elem?}
 use Rattle.cell_lanes.specs.declared.lane.Lane.{Lane}
@@ -56,6 +56,10 @@ is_place j (Some index) = index == j
 
 abbrev pub HasLane : ℕ → CallLine → Bool
 HasLane l line = line.lane == l
+
+-- the cells of a lane with this one: as they were, or with it behind them
+abbrev pub AreWith : ℕ → List ℕ → List ℕ → Type 0
+AreWith index old new = (more : List ℕ) × (new ≡ old ++ more) × ((more ≡ []) ⊎ (more ≡ index ∷ []))
 
 -- the calls of lane l on the series at an index, in the script's order
 abbrev pub lines_at : List SeriesId → List SeriesId → ℕ → ℕ → List CallLine → List CallLine

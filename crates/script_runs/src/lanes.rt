@@ -1,7 +1,7 @@
 //! The lanes of a round: which series each one's calls are on, and the calls. Each call is made on both exporters, on the Prometheus
 //! series, where that is live, and then on the DogStatsD series.
 
-ghost use Rattle.std.specs.Prelude.{◌≡◌, ◌<◌, ◌++◌, ◌∷◌, ◌+◌, ◌==◌, ℕ, [], All, IfOk, IfSome, OnOk, filter, flat_map, if◌then◌else◌, length, map, option_map, slice_get};
+ghost use Rattle.std.specs.Prelude.{◌≡◌, ◌<◌, ◌++◌, ◌∷◌, ◌+◌, ◌==◌, ℕ, [], All, IfOk, IfSome, IsTrue, OnOk, Some, filter, flat_map, if◌then◌else◌, length, map, option_map, slice_get};
 ghost use Rattle.cell_lanes.specs.declared.lane.Lane.{Lane};
 ghost use mathlib.Core.Option.{some};
 ghost use lib.ListN.{get_elem?};
@@ -16,7 +16,7 @@ ghost use Rattle.exporter_lanes.specs.ExporterLanes.{first_prometheus, things_of
 ghost use Rattle.drive_script.specs.Script.{kind_of};
 ghost use Rattle.drive_script.specs.Texts.{act_of, call_line_of};
 ghost use Rattle.script_runs.specs.Fitting.{FitsHandle};
-ghost use Rattle.script_runs.specs.LaneCalls.{AllAsked, AreInPlace, AreReady, AsksKind, IsOfKind, PlacesAsk, SeriesIds, asked, both_at, call_asked, calls_at, gathered_asked, gathered_at, gathered_parts, has_lines, ids_of, is_at, is_place, lane_asks, lane_cells, lane_lines, lane_number, numbered_asked, numbered_at, on_both, parts_of};
+ghost use Rattle.script_runs.specs.LaneCalls.{AllAsked, AreInPlace, AreReady, AreWith, AsksKind, IsOfKind, PlacesAsk, SeriesIds, asked, both_at, call_asked, calls_at, gathered_asked, gathered_at, gathered_parts, has_lines, ids_of, is_at, is_place, lane_asks, lane_cells, lane_lines, lane_number, numbered_asked, numbered_at, on_both, parts_of};
 
 use cell_lanes::{Lane, Line};
 use drive_script::{Act, CallLine};
@@ -26,6 +26,12 @@ use indexmap::IndexSet;
 use metrics_core::{Memory, SeriesCall, SeriesId};
 use prom_exporter::PrometheusState;
 use std::alloc::Global;
+
+/// How many numbers a lane may have.
+const LANES: usize = 256;
+
+/// How many series a lane of many calls has guesses for.
+const GUESSES: usize = 1024;
 
 /// The lanes of a round at a moment that have calls, each with its number. A call line is two lines of its lane: its call on the
 /// Prometheus series that the handle names, and the same on the DogStatsD series. Where an exporter has no such series, the line is
@@ -62,6 +68,7 @@ pub(crate) fn lanes_of(
     ensures numbered { IsNumbered exporters.now.dogstatsd.series }
 {
     let first = exporters.dogstatsd.series_count();
+    let counts = count_calls(calls);
     let mut gathered = Vec::new(alloc);
     for line in calls {
         let prometheus = prometheus_index(&exporters.prometheus, handles, guesses, line);
@@ -73,7 +80,7 @@ pub(crate) fn lanes_of(
         gather(
             alloc,
             &mut gathered,
-            calls,
+            &counts,
             lane,
             places,
             call_of(moment, line.act),
@@ -145,11 +152,21 @@ fn behind(first: usize, index: Option<usize>) -> Result<Option<usize>, Memory>
     }
 }
 
-/// Puts a call last on a lane, on the series at both places. Lanes that begin have room for what they have of these calls.
+/// How many of these calls each lane has.
+fn count_calls(calls: &[CallLine]) -> [usize; LANES] {
+    let mut counts = [0_usize; LANES];
+    for line in calls {
+        let count = &mut counts[usize::from(line.lane)];
+        *count = count.saturating_add(1);
+    }
+    counts
+}
+
+/// Puts a call last on a lane, on the series at both places. Lanes that begin have room for as many calls as the counts say.
 fn gather(
     alloc: Global,
     gathered: &mut Vec<LaneCalls>,
-    calls: &[CallLine],
+    counts: &[usize],
     lane: usize,
     places: Places,
     call: SeriesCall,
@@ -167,15 +184,15 @@ fn gather(
         ≡ gathered_asked gathered.old.items l
         ++ (if lane == l then on_both call else [])) }
 {
-    make_room(alloc, gathered, calls, lane)?;
+    make_room(alloc, gathered, counts, lane)?;
     gathered[lane].push_both(places, call)
 }
 
-/// Adds lanes without calls, until there is one with this number. Each has room for what it has of these calls.
+/// Adds lanes without calls, until there is one with this number. Each has room for as many calls as the counts say.
 fn make_room(
     alloc: Global,
     gathered: &mut Vec<LaneCalls>,
-    calls: &[CallLine],
+    counts: &[usize],
     lane: usize,
 ) -> Result<(), Memory>
     requires { lane < 256 }
@@ -190,7 +207,8 @@ fn make_room(
         → gathered_asked gathered.new.items l ≡ gathered_asked gathered.old.items l) }
 {
     for number in gathered.len()..lane + 1 {
-        let empty = LaneCalls::with_room(alloc, number, calls)?;
+        let count = counts.get(number).copied().unwrap_or(0);
+        let empty = LaneCalls::with_room(alloc, number, count)?;
         gathered.push(empty)?;
     }
     Ok(())
@@ -220,23 +238,23 @@ pub struct LaneCalls {
     number: usize,
     /// The indices of the series that its calls are on, each once.
     cells: IndexSet<usize>,
+    /// Where to look first for a series among the cells, by the end of its index; none in a lane of few calls.
+    guesses: Vec<u32>,
     lines: Vec<Line<ExporterCall>>,
 }
 
 impl LaneCalls {
-    /// The lane with this number, without calls, and with room for the two lines of each of these calls that is its own: so
-    /// none of its lines is moved while they are gathered.
-    fn with_room(alloc: Global, number: usize, calls: &[CallLine]) -> Result<LaneCalls, Memory>
+    /// The lane with this number, without calls, and with room for the two lines of each of so many calls: so none of its lines
+    /// is moved while they are gathered.
+    fn with_room(alloc: Global, number: usize, count: usize) -> Result<LaneCalls, Memory>
         ensures empty { IfOk result (λ lane. (lane_cells lane ≡ []) × (lane_lines lane ≡ [])) }
         ensures number { IfOk result (λ lane. lane.number ≡ number) }
     {
-        let count = calls
-            .iter()
-            .filter(|line| usize::from(line.lane) == number)
-            .count();
+        let guesses = if count < GUESSES { 0 } else { GUESSES };
         Ok(LaneCalls {
             number,
             cells: IndexSet::new(alloc),
+            guesses: vec![in alloc; 0; guesses]?,
             lines: Vec::with_capacity(alloc, count.saturating_mul(2))?,
         })
     }
@@ -280,10 +298,25 @@ impl LaneCalls {
             self.lines.push(Line { slot: None, call })?;
             return Ok(());
         };
-        let (slot, _) = self.cells.insert_full(index)?;
-        let slot = Some(slot);
-        self.lines.push(Line { slot, call })?;
+        let slot = self.slot(index)?;
+        self.lines.push(Line {
+            slot: Some(slot),
+            call,
+        })?;
         Ok(())
+    }
+
+    /// The place of a series among those of the lane. One that isn't there goes last.
+    fn slot(&mut self, index: usize) -> Result<usize, Memory>
+        ensures number { self.new.number ≡ self.old.number }
+        ensures lines { lane_lines self.new ≡ lane_lines self.old }
+        ensures grown { OnOk result (AreWith index (lane_cells self.old) (lane_cells self.new)) }
+        ensures stored { IfOk result (λ slot. slice_get (lane_cells self.new) slot ≡ Some index) }
+    {
+        match self.guesses.get_mut(index % GUESSES) {
+            Some(guess) => slot_near(&mut self.cells, guess, index),
+            None => slot_of(&mut self.cells, index),
+        }
     }
 
     /// The lane.
@@ -296,6 +329,39 @@ impl LaneCalls {
             cells: Vec::from_slice(alloc, self.cells.as_slice())?,
             lines: self.lines,
         })
+    }
+}
+
+/// The place of a series among those of a lane. One that isn't there goes last.
+fn slot_of(cells: &mut IndexSet<usize>, index: usize) -> Result<usize, Memory>
+    ensures grown { OnOk result (AreWith index cells.old.keys cells.new.keys) }
+    ensures stored { IfOk result (λ slot. slice_get cells.new.keys slot ≡ Some index) }
+{
+    let (slot, _) = cells.insert_full(index)?;
+    Ok(slot)
+}
+
+/// The place of a series as `slot_of` answers it. It looks first where a guess says, and keeps where it found the series.
+fn slot_near(cells: &mut IndexSet<usize>, guess: &mut u32, index: usize) -> Result<usize, Memory>
+    ensures grown { OnOk result (AreWith index cells.old.keys cells.new.keys) }
+    ensures stored { IfOk result (λ slot. slice_get cells.new.keys slot ≡ Some index) }
+{
+    let near = *guess as usize;
+    if is_cell(cells, near, index) {
+        return Ok(near);
+    }
+    let slot = slot_of(cells, index)?;
+    *guess = u32::try_from(slot).unwrap_or(0);
+    Ok(slot)
+}
+
+/// Whether a series has this place among those of a lane.
+fn is_cell(cells: &IndexSet<usize>, slot: usize, index: usize) -> bool
+    ensures { IsTrue result → slice_get cells.now.keys slot ≡ Some index }
+{
+    match cells.get_index(slot) {
+        Some(cell) => *cell == index,
+        None => false,
     }
 }
 

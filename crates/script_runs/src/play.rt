@@ -30,7 +30,7 @@ use prom_exporter::BuildError;
 use std::alloc::Global;
 use std::mem;
 use std::sync::Wait;
-use std::thread::Threads;
+use std::thread::{Threads, spawn};
 
 /// Plays a script: the lanes of each round run side by side, then a page goes to the sink, ended by the line `# EOF`, and then the payloads of
 /// a flush go to the link, which is aimed at the address. The gate is called around each call of a lane. The script is taken apart:
@@ -191,8 +191,8 @@ impl Player {
         Ok(())
     }
 
-    /// Ends the exporter of the pages.
-    pub(crate) fn end<R: Wait>(self, rt: &R) {
+    /// Ends the exporter of the pages. What both exporters keep is let go side by side.
+    pub(crate) fn end<R: Threads + Wait>(self, rt: &R) {
         let Player {
             exporters,
             handles: _,
@@ -203,9 +203,13 @@ impl Player {
         } = self;
         let Exporters {
             prometheus,
-            dogstatsd: _,
+            dogstatsd,
         } = exporters;
+        let aside = spawn(rt, move || drop(dogstatsd));
         prometheus.end(rt);
+        if let Ok(thread) = aside {
+            thread.join(rt);
+        }
     }
 
     /// Plays a round: its setup, its calls, its page, its flush.

@@ -1,10 +1,9 @@
-use Rattle.std.proofs.Common.{◌++◌, [], ap, sym, ◌∙◌, Some, nat_eq}
-use Rattle.std.proofs.lemmas.Bool.{eqb-true}
+use Rattle.std.proofs.Common.{◌∷◌, ◌++◌, [], ap, sym, ◌∙◌, Some}
 use Rattle.cell_lanes.specs.Lanes.{cell_calls}
 use Rattle.cell_lanes.proofs.Lists.{in_some}
 use Rattle.legal_history.specs.History.{keep}
 use Rattle.script_runs.specs.LaneCalls.{AsksKind, is_place, lane_cells, lane_lines}
-use Rattle.script_runs.proofs.LaneSteps.{grown_keys, past_asked, past_calls, past_fit, pushed_asked, pushed_calls, pushed_fit}
+use Rattle.script_runs.proofs.LaneSteps.{past_asked, past_calls, past_fit, pushed_asked, pushed_calls, pushed_fit}
 use Rattle.script_runs.proofs.lanes.LaneCalls.push.Goals as goal
 
 pub returns-in_default-clause-fit : goal.returns-in_default-clause-fit
@@ -20,17 +19,17 @@ returns-in_default-clause-calls c j =
 
 pub returns-clause-fit : goal.returns-clause-fit
 returns-clause-fit c =
-    let stored = c.in_ok-slot.ensures.stored in
-    pushed_fit _ _ _ _ c.in-Some.index c.in_ok-slot.slot c.args.call (grown_keys nat_eq _ _ _ c.in_ok-slot.ensures.keys) (stored.1 ∙ ap Some (sym (eqb-true c.in-Some.index stored.0 stored.2))) c.in_ok-push-2.ensures.items c.requires
+    let found = c.in_ok-slot.ensures in
+    pushed_fit _ _ _ _ c.in-Some.index c.in_ok-slot.slot c.args.call found.grown found.stored (c.in_ok-push-2.ensures.items ∙ ap (λ lines. lines ++ record { slot = Some c.in_ok-slot.slot; call = c.args.call } ∷ []) found.lines) c.requires
 
 pub returns-clause-asked : goal.returns-clause-asked
 returns-clause-asked c = λ ids asks.
-    let stored = c.in_ok-slot.ensures.stored in
-    pushed_asked _ _ _ _ c.in-Some.index c.in_ok-slot.slot c.args.call (grown_keys nat_eq _ _ _ c.in_ok-slot.ensures.keys) (stored.1 ∙ ap Some (sym (eqb-true c.in-Some.index stored.0 stored.2))) c.in_ok-push-2.ensures.items c.requires
+    let found = c.in_ok-slot.ensures in
+    pushed_asked _ _ _ _ c.in-Some.index c.in_ok-slot.slot c.args.call found.grown found.stored (c.in_ok-push-2.ensures.items ∙ ap (λ lines. lines ++ record { slot = Some c.in_ok-slot.slot; call = c.args.call } ∷ []) found.lines) c.requires
     ids (in_some c.args.place c.in-Some.index (λ index. AsksKind ids index c.args.call) c.in-Some.is asks)
 
 pub returns-clause-calls : goal.returns-clause-calls
 returns-clause-calls c j =
-    let stored = c.in_ok-slot.ensures.stored in
-    pushed_calls _ _ _ _ c.in-Some.index c.in_ok-slot.slot c.args.call (grown_keys nat_eq _ _ _ c.in_ok-slot.ensures.keys) (stored.1 ∙ ap Some (sym (eqb-true c.in-Some.index stored.0 stored.2))) c.in_ok-push-2.ensures.items c.requires j
+    let found = c.in_ok-slot.ensures in
+    pushed_calls _ _ _ _ c.in-Some.index c.in_ok-slot.slot c.args.call found.grown found.stored (c.in_ok-push-2.ensures.items ∙ ap (λ lines. lines ++ record { slot = Some c.in_ok-slot.slot; call = c.args.call } ∷ []) found.lines) c.requires j
     ∙ ap (λ place. cell_calls j (lane_cells c.args.self.now) (lane_lines c.args.self.now) ++ keep (is_place j place) c.args.call []) (sym c.in-Some.is)
