@@ -1,11 +1,13 @@
 pub mod CallKinds
 pub mod CallsTaken
 pub mod Counters
+pub mod Crossing
 pub mod Draining
 pub mod Flushed
 pub mod FoundAll
 pub mod FoundHome
 pub mod Gauges
+pub mod GaugeKeys
 pub mod Handed
 pub mod Histograms
 pub mod LaneIndices

@@ -5,7 +5,7 @@ use Rattle.legal_history.specs.History.{calls, first}
 use Rattle.cell_lanes.specs.Things.{Thing}
 use Rattle.metrics_core.specs.declared.numbers.Fixed.{Fixed as FixedOf}
 use Rattle.metrics_core.specs.Keys.{KeyText}
-use Rattle.metrics_registry.specs.Live.{RegistryText, with_counter, with_gauge, with_histogram}
+use Rattle.metrics_registry.specs.Live.{LiveSeries, RegistryText, with_counter, with_gauge, with_histogram}
 use Rattle.flushed_cells.specs.declared.counter.DsdCounter.{DsdCounter}
 use Rattle.flushed_cells.specs.declared.counter_calls.CounterCall.{CounterCall}
 use Rattle.flushed_cells.specs.declared.counter_state.CounterState.{CounterState}
@@ -69,6 +69,10 @@ unused cell = record { root = first; fixed = cell }
 
 abbrev pub empty_queue : SampleQueue FixedOf → Queued
 empty_queue cell = record { cell = cell; root = first; taken = [] }
+
+-- the keys of series
+abbrev pub keys_of : {X : Type 0} → List (LiveSeries X) → List KeyText
+keys_of live = map (λ series. series.key) live
 
 -- ---- the sequential state
 

@@ -59,18 +59,26 @@ Counts outcomes counts = (counts.0 ≡ length (sent_of outcomes)) × (counts.1 �
 abbrev pub payloads_in : WriterText → List (List ℕ)
 payloads_in w = framed_payloads w.on_stream (payloads_of w.limit w.lines)
 
--- A flush was written, its payloads were handed to a link, and all of it is reported: where items account for what was written, `dropped` is the number of their points that were left out, modulo 2 ^ 64.
-pub record SendsFlush (moment : ℕ) (old new : Exporter) (marks noted : List Bool) (w v : WriterText) (u n : UpdateText) (to_come left : Option (ℕ → ℕ))
-    (aimed : Option RemoteText) (told tells : Option (List SentText)) (faults now_faults : ℕ) (report : FlushReport) : Type 0 where
-  pub written : WriterText
-  pub flushed : UpdateText
+-- A flush was written, whole. Where items account for what was written, so many of their points were left out, modulo 2 ^ 64.
+pub record WritesFlush (moment : ℕ) (old new : Exporter) (marks noted : List Bool) (w written : WriterText) (u flushed : UpdateText) (to_come left : Option (ℕ → ℕ)) (left_out : ℕ) : Type 0 where
   pub found : Found
   pub flushes : Flushes moment found old new marks noted w written u flushed to_come left
   pub whole : IsWhole found old
   pub home : AllHome old → FlushesAll moment old new marks noted w written u flushed to_come left
+  pub dropped : (items : List FlushItem) → Sends items w written u flushed → left_out ≡ in_64_bits (left_out_of_items w.limit items)
+
+-- The payloads of a writer were handed to a link, and counted; the writer has none then.
+pub record SendsWritten (written v : WriterText) (u n : UpdateText) (aimed : Option RemoteText) (told tells : Option (List SentText)) (faults now_faults : ℕ) (numbers : ℕ × ℕ) : Type 0 where
   pub outcomes : List Outcome
-  pub hands : HandsOut (payloads_in written) outcomes aimed told tells faults now_faults flushed n
+  pub hands : HandsOut (payloads_in written) outcomes aimed told tells faults now_faults u n
   pub emptied : IsEmptied written v
-  pub counts : Counts outcomes (report.sent, report.unsent)
-  pub all : report.sent + report.unsent ≡ length (payloads_in written)
-  pub dropped : (items : List FlushItem) → Sends items w written u flushed → report.dropped ≡ in_64_bits (left_out_of_items w.limit items)
+  pub counts : Counts outcomes numbers
+  pub all : numbers.0 + numbers.1 ≡ length (payloads_in written)
+
+-- A flush was written, its payloads were handed to a link, and all of it is reported.
+pub record SendsFlush (moment : ℕ) (old new : Exporter) (marks noted : List Bool) (w v : WriterText) (u n : UpdateText) (to_come left : Option (ℕ → ℕ))
+    (aimed : Option RemoteText) (told tells : Option (List SentText)) (faults now_faults : ℕ) (report : FlushReport) : Type 0 where
+  pub written : WriterText
+  pub flushed : UpdateText
+  pub writes : WritesFlush moment old new marks noted w written u flushed to_come left report.dropped
+  pub sends : SendsWritten written v flushed n aimed told tells faults now_faults (report.sent, report.unsent)

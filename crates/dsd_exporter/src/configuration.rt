@@ -54,8 +54,15 @@ impl StateConfiguration {
     pub(crate) fn prefix_for(&self, key: &Key) -> Option<&str>
         ensures { option_copied result ≡ prefix_before (settings_of self.now).name_prefix key.now.name }
     {
+        self.prefix_before(key.name().as_bytes())
+    }
+
+    /// What stands before a name.
+    pub(crate) fn prefix_before(&self, name: &[u8]) -> Option<&str>
+        ensures { option_copied result ≡ prefix_before (settings_of self.now).name_prefix name.now }
+    {
         match &self.global_prefix {
-            Some(prefix) if !is_own(key) => Some(prefix.as_str()),
+            Some(prefix) if !is_own(name) => Some(prefix.as_str()),
             _ => None,
         }
     }
@@ -71,11 +78,9 @@ impl StateConfiguration {
     }
 }
 
-/// Whether a key is that of one of the exporter's own counters.
-fn is_own(key: &Key) -> bool
-    ensures { result ≡ starts_with nat_eq key.now.name own_prefix }
+/// Whether a name is that of one of the exporter's own counters.
+fn is_own(name: &[u8]) -> bool
+    ensures { result ≡ starts_with nat_eq name.now own_prefix }
 {
-    key.name()
-        .as_bytes()
-        .starts_with(b"datadog.dogstatsd.client")
+    name.starts_with(b"datadog.dogstatsd.client")
 }

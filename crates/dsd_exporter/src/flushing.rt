@@ -1,6 +1,6 @@
 //! A flush: what waits in each series is taken, written and counted, series by series.
 
-ghost use Rattle.std.specs.Prelude.{◌≡◌, ◌&&◌, ◌<◌, ℕ, ℤ, ◌^◌, List, ◌∷◌, [], length, decimal, vec_len, vec_capacity, OnOk, OnErr, FitsSigned, true};
+ghost use Rattle.std.specs.Prelude.{◌≡◌, ◌&&◌, ◌<◌, ℕ, ℤ, ◌^◌, List, ◌∷◌, [], length, decimal, option_map, slice_get, vec_len, vec_capacity, OnOk, OnErr, FitsSigned, true};
 ghost use Rattle.std.specs.Bool.{OnTrue, OnFalse};
 ghost use Rattle.std.specs.Int.{w64};
 ghost use Rattle.metrics_core.specs.Keys.{KeyText};
@@ -16,7 +16,7 @@ ghost use Rattle.dsd_exporter.specs.Flushing.{Found, Flushes, FlushesAll, IsWhol
 use crate::flush_state::{FlushState, has_mark, replace_mark, reserve_mark};
 use crate::state::State;
 use crate::update::TelemetryUpdate;
-use dsd_writer::{PayloadWriter, WriteResult};
+use dsd_writer::{KeptKey, PayloadWriter, WriteResult};
 use metrics_core::{Fixed, Memory, MetricKind, Words};
 use std::alloc::Global;
 use std::sync::Wait;
@@ -180,6 +180,13 @@ impl State {
         Ok(())
     }
 
+    /// The key of the gauge at a place, as its line wants it, if there is one.
+    fn gauge_key(&self, place: usize) -> Option<KeptKey<'_>>
+        ensures { result ≡ option_map (λ series. series.key) (slice_get self.now.series.gauges place) }
+    {
+        self.gauge_keys.get(place)
+    }
+
     /// Makes room for the line of the gauge at a place, whatever its value.
     fn reserve_gauge(
         &self,
@@ -192,11 +199,12 @@ impl State {
         ensures room { OnOk result ((key : KeyText) → HasKeyAt place key self.now.series.gauges → (value : ℤ) → FitsSigned w64 value
             → HasRoomFor writer.new (lines_of writer.old.limit (gauge_line self.now.settings writer.old.global_tags moment key) (dogstatsd_number value ∷ []))) }
     {
-        let Some(key) = self.series.gauges().key(place) else {
+        let Some(key) = self.gauge_key(place) else {
             return Ok(());
         };
         let timestamp = self.configuration.timestamp_at(moment);
-        writer.reserve_gauge(key, timestamp, self.configuration.prefix_for(key))
+        let prefix = self.configuration.prefix_before(key.name());
+        writer.reserve_kept_gauge(&key, timestamp, prefix)
     }
 
     /// Takes what waits in the gauge at a place: its value, which it keeps, and its number of updates.
@@ -223,12 +231,12 @@ impl State {
         ensures { (key : KeyText) × HasKeyAt place key self.now.series.gauges
             × WritesOne (gauge_line self.now.settings writer.old.global_tags moment key) (dogstatsd_number value.0) result writer.old writer.new }
     {
-        let Some(key) = self.series.gauges().key(place) else {
+        let Some(key) = self.gauge_key(place) else {
             unreachable!()
         };
         let timestamp = self.configuration.timestamp_at(moment);
-        let prefix = self.configuration.prefix_for(key);
-        let Ok(written) = writer.write_gauge(key, value, timestamp, prefix) else {
+        let prefix = self.configuration.prefix_before(key.name());
+        let Ok(written) = writer.write_kept_gauge(&key, value, timestamp, prefix) else {
             unreachable!()
         };
         written

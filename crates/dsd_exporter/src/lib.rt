@@ -45,7 +45,7 @@ pub use rest_laws::{
     a_flush_leaves_rest, a_new_series_leaves_rest, an_exporter_begins_at_rest,
     lanes_begin_and_end_at_rest,
 };
-pub use sending::{FlushReport, send_flush};
+pub use sending::{FlushReport, send_flush, send_written, write_flush};
 pub use socket_link::SocketLink;
 pub use state::State;
 pub use update::TelemetryUpdate;

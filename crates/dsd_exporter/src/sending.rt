@@ -5,7 +5,7 @@ ghost use Rattle.metrics_core.specs.Numbers.{in_64_bits};
 ghost use Rattle.dsd_writer.specs.Left.{payloads_left};
 ghost use Rattle.dsd_writer.specs.Writers.{IsEmptied};
 ghost use Rattle.dsd_exporter.specs.Flushing.{Found, Flushes};
-ghost use Rattle.dsd_exporter.specs.Sending.{Outcome, HandsOut, Counts, SendsFlush, payloads_in};
+ghost use Rattle.dsd_exporter.specs.Sending.{Outcome, HandsOut, Counts, SendsFlush, SendsWritten, WritesFlush, payloads_in};
 
 use crate::flush_state::FlushState;
 use crate::link::Link;
@@ -90,9 +90,52 @@ fn grown(before: u64, now: u64) -> u64
     now.wrapping_sub(before)
 }
 
-/// Flushes all series, as `State::flush` does, and hands each payload that the writer then has to the link, once, in order.
-/// Each is counted in the update with its bytes, the length before it included. The moment is in nanoseconds. Where memory is
-/// refused the series before the refused one were flushed, and nothing was handed to the link.
+/// Flushes all series into a writer, as `State::flush` does, and answers how many points were left out, modulo 2^64. The moment
+/// is in nanoseconds. Where memory is refused the series before the refused one were flushed.
+pub fn write_flush<R: Wait, W: Words>(
+    rt: &R,
+    alloc: Global,
+    state: &mut State,
+    flush_state: &mut FlushState,
+    writer: &mut PayloadWriter,
+    telemetry: &mut TelemetryUpdate,
+    moment: u64,
+    words: &mut W,
+) -> Result<u64, Memory>
+    ensures written { IfOk result (WritesFlush moment state.old state.new flush_state.old flush_state.new writer.old writer.new telemetry.old telemetry.new
+        (W.to_come words.old) (W.to_come words.new)) }
+    ensures refused { OnErr result ((found : Found) × Flushes moment found state.old state.new flush_state.old flush_state.new writer.old writer.new
+        telemetry.old telemetry.new (W.to_come words.old) (W.to_come words.new)) }
+{
+    let before = telemetry.points_left_out();
+    state.flush(rt, alloc, flush_state, writer, telemetry, moment, words)?;
+    Ok(grown(before, telemetry.points_left_out()))
+}
+
+/// Hands the payloads of a flush that was written to a link, each once, in order. Each is counted in the update with its bytes,
+/// the length before it included. What is reported as left out is what `write_flush` answered.
+pub fn send_written<L: Link>(
+    writer: &mut PayloadWriter,
+    telemetry: &mut TelemetryUpdate,
+    dropped: u64,
+    link: &mut L,
+) -> FlushReport
+    ensures sent { SendsWritten writer.old writer.new telemetry.old telemetry.new (L.aimed link.old) (L.sent link.old) (L.sent link.new)
+        (L.faults link.old) (L.faults link.new) (result.sent, result.unsent) }
+    ensures dropped { result.dropped ≡ dropped }
+    ensures aimed { L.aimed link.new ≡ L.aimed link.old }
+    ensures never_falls { L.faults link.old ≤ L.faults link.new }
+{
+    let (sent, unsent) = send_lines(writer, telemetry, link);
+    FlushReport {
+        sent,
+        unsent,
+        dropped,
+    }
+}
+
+/// Flushes all series, as `write_flush` does, and hands each payload that the writer then has to the link, as `send_written`
+/// does. Where memory is refused nothing was handed to the link.
 pub fn send_flush<R: Wait, L: Link, W: Words>(
     rt: &R,
     alloc: Global,
@@ -112,13 +155,15 @@ pub fn send_flush<R: Wait, L: Link, W: Words>(
     ensures aimed { L.aimed link.new ≡ L.aimed link.old }
     ensures never_falls { L.faults link.old ≤ L.faults link.new }
 {
-    let before = telemetry.points_left_out();
-    state.flush(rt, alloc, flush_state, writer, telemetry, moment, words)?;
-    let dropped = grown(before, telemetry.points_left_out());
-    let (sent, unsent) = send_lines(writer, telemetry, link);
-    Ok(FlushReport {
-        sent,
-        unsent,
-        dropped,
-    })
+    let dropped = write_flush(
+        rt,
+        alloc,
+        state,
+        flush_state,
+        writer,
+        telemetry,
+        moment,
+        words,
+    )?;
+    Ok(send_written(writer, telemetry, dropped, link))
 }

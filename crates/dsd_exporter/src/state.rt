@@ -1,17 +1,19 @@
 //! The state of the exporter: its series of each kind, in order of registration. None is ever removed.
 
-ghost use Rattle.std.specs.Prelude.{◌≡◌, ◌⊎◌, IfOk, None, OnErr, OnOk};
+ghost use Rattle.std.specs.Prelude.{◌≡◌, ◌⊎◌, ◌-◌, ◌^◌, ◌<◌, IfOk, None, OnErr, OnOk};
 ghost use Rattle.metrics_core.specs.declared.kinds.MetricKind.TheVariants.{Counter, Gauge, Histogram};
+ghost use Rattle.metrics_registry.specs.Live.{RegistersGauge, id_of_key};
 ghost use Rattle.flushed_cells.specs.Passes as flushed;
 ghost use Rattle.sample_queue.specs.Passes as queued;
 ghost use Rattle.dsd_exporter.specs.State.{register, number_found, number_given};
-ghost use Rattle.dsd_exporter.specs.Exporter.{Exporter, AllHome, AddsCounter, AddsGauge, AddsHistogram, no_cells, series_seen, settings_of};
+ghost use Rattle.dsd_exporter.specs.Exporter.{Exporter, AllHome, AddsCounter, AddsGauge, AddsHistogram, no_cells, series_seen, settings_of, unused};
 ghost use Rattle.dsd_exporter.specs.Lending.{LendsCounter, LendsGauge, LendsHistogram, LentCounter, LentGauge, LentHistogram, HasNoCounter, HasNoGauge, HasNoHistogram, ChangesCounter, ChangesGauge, ChangesHistogram, with_one_back, queue_back};
 
 use crate::configuration::StateConfiguration;
 use crate::lent::Lent;
 use crate::queued::QueuedSamples;
 use cell_lanes::OwnedCell;
+use dsd_writer::KeptKeys;
 use flushed_cells::{CounterPass, DsdCounter, DsdGauge, GaugePass};
 use hash_starts::HashStart;
 use metrics_core::{Fixed, Key, Memory, MetricKind, SeriesId};
@@ -27,14 +29,19 @@ use std::sync::Arc;
 pub struct State {
     pub(crate) configuration: StateConfiguration,
     pub(crate) series: Registry<OwnedCell<DsdCounter>, OwnedCell<DsdGauge>, QueuedSamples>,
+    /// The keys of the gauges, in order, as their lines want them.
+    pub(crate) gauge_keys: KeptKeys,
 }
 
 impl Model for State {
-    ghost use Rattle.dsd_exporter.specs.Exporter.{Exporter, settings_of};
+    ghost use Rattle.std.specs.Prelude.{◌≡◌};
+    ghost use Rattle.dsd_exporter.specs.Exporter.{Exporter, keys_of, settings_of};
 
     ghost Value = { Exporter };
 
     ghost view = { λ s. record { settings = settings_of s.configuration; series = s.series } };
+
+    ghost invariant = { λ s. s.gauge_keys ≡ keys_of s.series.gauges };
 }
 
 impl State {
@@ -57,6 +64,7 @@ impl State {
         Ok(State {
             configuration: config,
             series: Registry::starting_from(alloc, start)?,
+            gauge_keys: KeptKeys::new(alloc),
         })
     }
 
@@ -71,7 +79,8 @@ impl State {
     pub fn reserve(&mut self, counters: usize, gauges: usize) -> Result<(), Memory>
         ensures same { self.new ≡ self.old }
     {
-        self.series.reserve(counters, gauges)
+        self.series.reserve(counters, gauges)?;
+        self.gauge_keys.reserve(gauges)
     }
 
     /// Registers a counter. Where there is one with an equal key its id is given, no memory is taken, and nothing changes;
@@ -146,7 +155,7 @@ impl State {
     {
         let number = self.series.made();
         if number < u64::MAX {
-            return self.series.register_gauge(key, || DsdGauge::owned(alloc));
+            return self.add_gauge(alloc, key);
         }
         match self.series.find_gauge(&key) {
             Some(id) => Ok(id),
@@ -154,6 +163,32 @@ impl State {
                 kind: MetricKind::Gauge,
                 number,
             }),
+        }
+    }
+
+    /// Registers a gauge where a number is left. The key of a new one is kept for its lines; where memory for that is refused
+    /// the gauge is taken back.
+    fn add_gauge(&mut self, alloc: Global, key: Key) -> Result<SeriesId, Memory>
+        requires { self.old.series.made < 2 ^ 64 - 1 }
+        ensures registered { IfOk result (λ id. RegistersGauge (λ cell. cell ≡ unused cell.fixed) key id self.old.series self.new.series) }
+        ensures others { self.new ≡ record self.old { series = self.new.series } }
+        ensures absent { OnErr result (id_of_key key self.old.series.gauges ≡ None) }
+        ensures refused { OnErr result (self.new ≡ self.old) }
+    {
+        // That a gauge can be taken back needs how many were made.
+        let _made = self.series.made();
+        let count = self.series.gauge_count();
+        let id = self.series.register_gauge(key, || DsdGauge::owned(alloc))?;
+        let gauges = self.series.gauges();
+        let Some(key) = gauges.key(count) else {
+            return Ok(id);
+        };
+        match self.gauge_keys.push(key) {
+            Ok(()) => Ok(id),
+            Err(refused) => {
+                self.series.take_back_gauge();
+                Err(refused)
+            }
         }
     }
 

@@ -1,4 +1,5 @@
 pub mod Added
+pub mod Crossing
 pub mod Given
 pub mod Registered
 pub mod Runs

@@ -13,5 +13,6 @@ pub mod Stored
 pub mod Spare
 pub mod Written
 pub mod Tags
+pub mod KeptTexts
 pub mod Lengths
 pub mod PointRooms

@@ -9,3 +9,4 @@ pub mod Rooms
 pub mod Results
 pub mod Vectors
 pub mod Left
+pub mod Kept

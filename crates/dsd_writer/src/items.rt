@@ -6,10 +6,12 @@ ghost use Rattle.dsd_writer.specs.Lines.{ending_of};
 ghost use Rattle.dsd_writer.specs.Rooms.{Leaves};
 ghost use Rattle.dsd_writer.specs.Writers.{item_of, sampled, timed};
 
+use crate::kept_keys::KeptKey;
 use crate::parts::{
-    behind_all_tags, behind_rate, behind_timestamp, push_all_tags, push_rate, push_timestamp,
+    behind_all_tags, behind_kept_tags, behind_rate, behind_timestamp, push_all_tags,
+    push_kept_tags, push_rate, push_timestamp,
 };
-use crate::room::{behind, push, push_byte};
+use crate::room::{behind, behind_bytes, push, push_byte, push_bytes};
 use metrics_core::{Fixed, Key, Label};
 use std::marker::Model;
 
@@ -36,50 +38,97 @@ impl LineType {
     }
 }
 
+/// The key of a series.
+#[derive(Clone, Copy)]
+pub(crate) enum SeriesKey<'a> {
+    /// With its labels.
+    Live(&'a Key),
+    /// With its tags as text.
+    Kept(&'a KeptKey<'a>),
+}
+
+impl<'a> SeriesKey<'a> {
+    ghost use Rattle.dsd_writer.specs.Items.{key_text};
+    ghost use Rattle.dsd_writer.specs.Lines.{tags_text};
+
+    /// The name of the series.
+    fn name(self) -> &'a [u8]
+        ensures { result.now ≡ (key_text self.entry).name }
+    {
+        match self {
+            SeriesKey::Live(key) => key.name().as_bytes(),
+            SeriesKey::Kept(key) => key.name(),
+        }
+    }
+
+    /// What is left of a room after the tags of the series and then the global ones.
+    fn behind_tags(self, room: u64, global_tags: &[Label]) -> Option<u64>
+        ensures { Leaves result room (length (tags_text ((key_text self.entry).labels ++ global_tags.now))) }
+    {
+        match self {
+            SeriesKey::Live(key) => behind_all_tags(room, key.labels().as_slice(), global_tags),
+            SeriesKey::Kept(key) => behind_kept_tags(room, key, global_tags),
+        }
+    }
+
+    /// Appends the tags of the series and then the global ones, for which there is room.
+    fn push_tags(self, bytes: &mut Vec<u8>, global_tags: &[Label])
+        requires { vec_len bytes.old + length (tags_text ((key_text self).labels ++ global_tags.now)) ≤ vec_capacity bytes.old }
+        ensures items { bytes.new.items ≡ bytes.old.items ++ tags_text ((key_text self.entry).labels ++ global_tags.now) }
+        ensures len { vec_len bytes.new ≡ vec_len bytes.old + length (tags_text ((key_text self.entry).labels ++ global_tags.now)) }
+        ensures capacity { vec_capacity bytes.old ≤ vec_capacity bytes.new }
+    {
+        match self {
+            SeriesKey::Live(key) => push_all_tags(bytes, key.labels().as_slice(), global_tags),
+            SeriesKey::Kept(key) => push_kept_tags(bytes, key, global_tags),
+        }
+    }
+}
+
 /// What the lines of one series say beside their values. The tags of the series stand before the global ones.
 #[derive(Drop)]
 pub(crate) struct Item<'a> {
     prefix: Option<&'a str>,
-    name: &'a str,
+    key: SeriesKey<'a>,
     line_type: LineType,
     rate: Option<Fixed>,
-    tags: &'a [Label],
     global_tags: &'a [Label],
     timestamp: Option<u64>,
 }
 
 impl<'a> Model for Item<'a> {
     ghost use Rattle.std.specs.Prelude.{option_copied, option_map, ◌++◌};
-    ghost use Rattle.dsd_writer.specs.Items.{type_text};
+    ghost use Rattle.dsd_writer.specs.Items.{key_text, type_text};
     ghost use Rattle.dsd_writer.specs.Lines.{ItemText, prefixed};
 
     ghost Value = { ItemText };
 
     ghost view = { λ item. record {
-      name = prefixed (option_copied item.prefix) item.name.now;
+      name = prefixed (option_copied item.prefix) (key_text item.key).name;
       type = type_text item.line_type;
       rate = option_map (λ rate. rate.0) item.rate;
-      tags = item.tags.now ++ item.global_tags.now;
+      tags = (key_text item.key).labels ++ item.global_tags.now;
       timestamp = item.timestamp;
     } };
 }
 
 impl<'a> Item<'a> {
+    ghost use Rattle.dsd_writer.specs.Items.{key_text};
+
     /// What lines of a series say, without sample rate and timestamp.
     pub(crate) fn new(
         line_type: LineType,
         prefix: Option<&'a str>,
-        key: &'a Key,
+        key: SeriesKey<'a>,
         global_tags: &'a [Label],
     ) -> Item<'a>
-        ensures { result ≡ item_of (type_text line_type) (option_copied prefix.entry) key.now global_tags.now }
+        ensures { result ≡ item_of (type_text line_type) (option_copied prefix.entry) (key_text key.entry) global_tags.now }
     {
         Item {
             prefix,
-            name: key.name(),
+            key,
             line_type,
             rate: None,
-            tags: key.labels().as_slice(),
             global_tags,
             timestamp: None,
         }
@@ -103,7 +152,7 @@ impl<'a> Item<'a> {
     pub(crate) fn behind_name(&self, room: u64) -> Option<u64>
         ensures { Leaves result room (length self.now.name) }
     {
-        let room = behind(room, self.name)?;
+        let room = behind_bytes(room, self.key.name())?;
         match self.prefix {
             Some(prefix) => behind(behind(room, prefix)?, "."),
             None => Some(room),
@@ -121,7 +170,7 @@ impl<'a> Item<'a> {
             push(bytes, prefix);
             push_byte(bytes, b'.');
         }
-        push(bytes, self.name);
+        push_bytes(bytes, self.key.name());
     }
 
     /// What is left of a room after what stands behind the values.
@@ -131,7 +180,7 @@ impl<'a> Item<'a> {
         let room = behind(room, "|")?;
         let room = room.checked_sub(1)?;
         let room = behind_rate(room, self.rate)?;
-        let room = behind_all_tags(room, self.tags, self.global_tags)?;
+        let room = self.key.behind_tags(room, self.global_tags)?;
         let room = behind_timestamp(room, self.timestamp)?;
         behind(room, "\n")
     }
@@ -146,7 +195,7 @@ impl<'a> Item<'a> {
         push_byte(bytes, b'|');
         push_byte(bytes, self.line_type.letter());
         push_rate(bytes, self.rate);
-        push_all_tags(bytes, self.tags, self.global_tags);
+        self.key.push_tags(bytes, self.global_tags);
         push_timestamp(bytes, self.timestamp);
         push_byte(bytes, b'\n');
     }

@@ -9,6 +9,7 @@
 #![tactic(auto)]
 
 mod items;
+mod kept_keys;
 mod laws;
 mod many;
 mod numbers;
@@ -21,6 +22,7 @@ mod room;
 mod room_ahead;
 mod writer;
 
+pub use kept_keys::{KeptKey, KeptKeys};
 pub use laws::{
     full_cuts_have_the_fewest_runs, lines_add_their_bytes, lines_are_within_and_fewest,
     payloads_are_whole_and_fewest,

@@ -6,8 +6,9 @@ ghost use Rattle.std.specs.Option.{option_map};
 ghost use Rattle.dsd_writer.specs.Lines.{before_next, rate_text, tag_text, tags_behind, tags_text, timestamp_text};
 ghost use Rattle.dsd_writer.specs.Rooms.{Leaves};
 
+use crate::kept_keys::KeptKey;
 use crate::numbers::NumberText;
-use crate::room::{behind, push, push_byte};
+use crate::room::{behind, behind_bytes, push, push_byte, push_bytes};
 use itoa::Buffer;
 use metrics_core::{Fixed, Label};
 
@@ -95,7 +96,7 @@ fn before_next(first: &'static str, tags: &[Label]) -> &'static str
 }
 
 /// What is left of a room after tags, the first one with this before it.
-fn behind_tags(room: u64, first: &'static str, tags: &[Label]) -> Option<u64>
+pub(crate) fn behind_tags(room: u64, first: &'static str, tags: &[Label]) -> Option<u64>
     ensures { Leaves result room (length (tags_behind first.now tags.now)) }
 {
     let mut left = room;
@@ -108,7 +109,7 @@ fn behind_tags(room: u64, first: &'static str, tags: &[Label]) -> Option<u64>
 }
 
 /// Appends tags, for which there is room, the first one with this before it.
-fn push_tags(bytes: &mut Vec<u8>, first: &'static str, tags: &[Label])
+pub(crate) fn push_tags(bytes: &mut Vec<u8>, first: &'static str, tags: &[Label])
     requires { vec_len bytes.old + length (tags_behind first.now tags.now) ≤ vec_capacity bytes.old }
     ensures items { bytes.new.items ≡ bytes.old.items ++ tags_behind first.now tags.now }
     ensures len { vec_len bytes.new ≡ vec_len bytes.old + length (tags_behind first.now tags.now) }
@@ -141,4 +142,23 @@ pub(crate) fn push_all_tags(bytes: &mut Vec<u8>, tags: &[Label], global_tags: &[
 {
     push_tags(bytes, "|#", tags);
     push_tags(bytes, before_next("|#", tags), global_tags);
+}
+
+/// What is left of a room after the tags of a series whose key is kept, and then the global ones.
+pub(crate) fn behind_kept_tags(room: u64, key: &KeptKey<'_>, global_tags: &[Label]) -> Option<u64>
+    ensures { Leaves result room (length (tags_text (key.now.labels ++ global_tags.now))) }
+{
+    let left = behind_bytes(room, key.tags())?;
+    behind_tags(left, key.before_next(), global_tags)
+}
+
+/// Appends the tags of a series whose key is kept, and then the global ones, for which there is room.
+pub(crate) fn push_kept_tags(bytes: &mut Vec<u8>, key: &KeptKey<'_>, global_tags: &[Label])
+    requires { vec_len bytes.old + length (tags_text (key.now.labels ++ global_tags.now)) ≤ vec_capacity bytes.old }
+    ensures items { bytes.new.items ≡ bytes.old.items ++ tags_text (key.now.labels ++ global_tags.now) }
+    ensures len { vec_len bytes.new ≡ vec_len bytes.old + length (tags_text (key.now.labels ++ global_tags.now)) }
+    ensures capacity { vec_capacity bytes.old ≤ vec_capacity bytes.new }
+{
+    push_bytes(bytes, key.tags());
+    push_tags(bytes, key.before_next(), global_tags);
 }

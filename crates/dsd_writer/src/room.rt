@@ -10,8 +10,18 @@ pub(crate) fn push(bytes: &mut Vec<u8>, text: &str)
     ensures len { vec_len bytes.new ≡ vec_len bytes.old + length text.now }
     ensures capacity { vec_capacity bytes.old ≤ vec_capacity bytes.new }
 {
-    if !text.is_empty() {
-        let _ = bytes.extend_from_slice(text.as_bytes());
+    push_bytes(bytes, text.as_bytes());
+}
+
+/// Appends bytes for which there is room.
+pub(crate) fn push_bytes(bytes: &mut Vec<u8>, more: &[u8])
+    requires { vec_len bytes.old + length more.now ≤ vec_capacity bytes.old }
+    ensures items { bytes.new.items ≡ bytes.old.items ++ more.now }
+    ensures len { vec_len bytes.new ≡ vec_len bytes.old + length more.now }
+    ensures capacity { vec_capacity bytes.old ≤ vec_capacity bytes.new }
+{
+    if !more.is_empty() {
+        let _ = bytes.extend_from_slice(more);
     }
 }
 
@@ -29,5 +39,12 @@ pub(crate) fn push_byte(bytes: &mut Vec<u8>, byte: u8)
 pub(crate) fn behind(room: u64, text: &str) -> Option<u64>
     ensures { Leaves result room (length text.now) }
 {
-    room.checked_sub(text.len() as u64)
+    behind_bytes(room, text.as_bytes())
+}
+
+/// What is left of a room after bytes, where they fit.
+pub(crate) fn behind_bytes(room: u64, bytes: &[u8]) -> Option<u64>
+    ensures { Leaves result room (length bytes.now) }
+{
+    room.checked_sub(bytes.len() as u64)
 }

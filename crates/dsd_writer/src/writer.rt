@@ -3,12 +3,13 @@
 ghost use Rattle.std.specs.Prelude.{◌≡◌, ℕ, ℤ, ◌^◌, ◌<◌, ◌≤◌, List, [], ◌∷◌, length, codes, decimal, FitsSigned, IsOk, OnOk, option_copied};
 ghost use Rattle.std.specs.Int.{w64};
 ghost use Rattle.metrics_core.specs.Numbers.{dogstatsd_number};
-ghost use Rattle.dsd_writer.specs.Items.{type_text};
+ghost use Rattle.dsd_writer.specs.Items.{key_text, type_text};
 ghost use Rattle.dsd_writer.specs.Lines.{IsBestLines, lines_of, spelled_values};
 ghost use Rattle.dsd_writer.specs.Writers.{HasRoomFor, SameSettings, Writes, item_in, sampled, timed};
 
 use crate::WriteResult;
-use crate::items::{Item, LineType};
+use crate::items::{Item, LineType, SeriesKey};
+use crate::kept_keys::KeptKey;
 use crate::many::write_points;
 use crate::numbers::NumberText;
 use crate::packing::{PayloadBuffer, begin_anew};
@@ -121,7 +122,7 @@ impl PayloadWriter {
             OnOk result ((value : ℕ) → value < 2 ^ 64 → HasRoomFor self.new (lines_of self.old.limit item (decimal value ∷ []))) }
         ensures kept { self.old.spare ≤ self.new.spare }
     {
-        self.reserve_one(LineType::Counter, key, timestamp, prefix)
+        self.reserve_one(LineType::Counter, SeriesKey::Live(key), timestamp, prefix)
     }
 
     /// Makes room for the line of a gauge, as [`PayloadWriter::reserve_counter`] does for that of a counter.
@@ -137,20 +138,36 @@ impl PayloadWriter {
             OnOk result ((value : ℤ) → FitsSigned w64 value → HasRoomFor self.new (lines_of self.old.limit item (dogstatsd_number value ∷ []))) }
         ensures kept { self.old.spare ≤ self.new.spare }
     {
-        self.reserve_one(LineType::Gauge, key, timestamp, prefix)
+        self.reserve_one(LineType::Gauge, SeriesKey::Live(key), timestamp, prefix)
+    }
+
+    /// Makes room for the line of a gauge whose key is kept, as [`PayloadWriter::reserve_gauge`] does.
+    pub fn reserve_kept_gauge(
+        &mut self,
+        key: &KeptKey<'_>,
+        timestamp: Option<u64>,
+        prefix: Option<&str>,
+    ) -> Result<(), Memory>
+        ensures settings { SameSettings self.old self.new }
+        ensures lines { self.new.lines ≡ self.old.lines }
+        ensures room { let item = timed timestamp (item_in self.old (codes "g") (option_copied prefix.entry) key.now) in
+            OnOk result ((value : ℤ) → FitsSigned w64 value → HasRoomFor self.new (lines_of self.old.limit item (dogstatsd_number value ∷ []))) }
+        ensures kept { self.old.spare ≤ self.new.spare }
+    {
+        self.reserve_one(LineType::Gauge, SeriesKey::Kept(key), timestamp, prefix)
     }
 
     /// Makes room for the line of one number.
     fn reserve_one(
         &mut self,
         line_type: LineType,
-        key: &Key,
+        key: SeriesKey<'_>,
         timestamp: Option<u64>,
         prefix: Option<&str>,
     ) -> Result<(), Memory>
         ensures settings { SameSettings self.old self.new }
         ensures lines { self.new.lines ≡ self.old.lines }
-        ensures room { let item = timed timestamp (item_in self.old (type_text line_type) (option_copied prefix.entry) key.now) in
+        ensures room { let item = timed timestamp (item_in self.old (type_text line_type) (option_copied prefix.entry) (key_text key.entry)) in
             OnOk result ((text : List ℕ) → length text ≤ 255 → HasRoomFor self.new (lines_of self.old.limit item (text ∷ []))) }
         ensures kept { self.old.spare ≤ self.new.spare }
     {
@@ -174,7 +191,13 @@ impl PayloadWriter {
     {
         let mut digits = Buffer::new();
         let text = NumberText::of_count(&mut digits, value);
-        self.write_one(LineType::Counter, key, timestamp, prefix, &text)
+        self.write_one(
+            LineType::Counter,
+            SeriesKey::Live(key),
+            timestamp,
+            prefix,
+            &text,
+        )
     }
 
     /// Writes the value of a gauge, as [`PayloadWriter::write_counter`] does that of a counter.
@@ -191,7 +214,36 @@ impl PayloadWriter {
         let mut whole = Buffer::new();
         let mut fraction = Buffer::new();
         let text = NumberText::of_value(&mut whole, &mut fraction, value);
-        self.write_one(LineType::Gauge, key, timestamp, prefix, &text)
+        self.write_one(
+            LineType::Gauge,
+            SeriesKey::Live(key),
+            timestamp,
+            prefix,
+            &text,
+        )
+    }
+
+    /// Writes the value of a gauge whose key is kept, as [`PayloadWriter::write_gauge`] does.
+    pub fn write_kept_gauge(
+        &mut self,
+        key: &KeptKey<'_>,
+        value: Fixed,
+        timestamp: Option<u64>,
+        prefix: Option<&str>,
+    ) -> Result<WriteResult, Memory>
+        ensures writes { let item = item_in self.old (codes "g") (option_copied prefix.entry) key.now in
+            Writes result self.old self.new (timed timestamp item) (dogstatsd_number value.0 ∷ []) }
+    {
+        let mut whole = Buffer::new();
+        let mut fraction = Buffer::new();
+        let text = NumberText::of_value(&mut whole, &mut fraction, value);
+        self.write_one(
+            LineType::Gauge,
+            SeriesKey::Kept(key),
+            timestamp,
+            prefix,
+            &text,
+        )
     }
 
     /// Writes the values of a histogram, in order and in the fewest lines within the limit, each with the sample rate where
@@ -210,7 +262,13 @@ impl PayloadWriter {
         ensures best { let item = item_in self.old (codes "h") (option_copied prefix.entry) key.now in
             IsBestLines self.old.limit (sampled maybe_sample_rate item) (spelled_values values.now) }
     {
-        self.write_many(LineType::Histogram, key, values, maybe_sample_rate, prefix)
+        self.write_many(
+            LineType::Histogram,
+            SeriesKey::Live(key),
+            values,
+            maybe_sample_rate,
+            prefix,
+        )
     }
 
     /// Writes the values of a distribution, as [`PayloadWriter::write_histogram`] does those of a histogram.
@@ -229,7 +287,7 @@ impl PayloadWriter {
     {
         self.write_many(
             LineType::Distribution,
-            key,
+            SeriesKey::Live(key),
             values,
             maybe_sample_rate,
             prefix,
@@ -240,12 +298,12 @@ impl PayloadWriter {
     fn write_one(
         &mut self,
         line_type: LineType,
-        key: &Key,
+        key: SeriesKey<'_>,
         timestamp: Option<u64>,
         prefix: Option<&str>,
         text: &NumberText<'_>,
     ) -> Result<WriteResult, Memory>
-        ensures writes { let item = item_in self.old (type_text line_type) (option_copied prefix.entry) key.now in
+        ensures writes { let item = item_in self.old (type_text line_type) (option_copied prefix.entry) (key_text key.entry) in
             Writes result self.old self.new (timed timestamp item) (text.now ∷ []) }
     {
         let item = Item::new(line_type, prefix, key, self.global_tags.as_slice()).at(timestamp);
@@ -270,12 +328,12 @@ impl PayloadWriter {
     fn write_many(
         &mut self,
         line_type: LineType,
-        key: &Key,
+        key: SeriesKey<'_>,
         values: &[Fixed],
         rate: Option<Fixed>,
         prefix: Option<&str>,
     ) -> Result<WriteResult, Memory>
-        ensures writes { let item = item_in self.old (type_text line_type) (option_copied prefix.entry) key.now in
+        ensures writes { let item = item_in self.old (type_text line_type) (option_copied prefix.entry) (key_text key.entry) in
             Writes result self.old self.new (sampled rate item) (spelled_values values.now) }
     {
         let item = Item::new(line_type, prefix, key, self.global_tags.as_slice()).sampled(rate);

@@ -60,17 +60,17 @@ module _ (settings : SettingsText) (to : RemoteText) (moment : ℕ) (old new : E
 
   module _ (sends : SendsFlush moment old new marks noted w v u n to_come left aimed told.sent tells.sent told.faults tells.faults report) (home : AllHome old) where
     abbrev whole : FlushesAll moment old new marks noted w sends.written u sends.flushed to_come left
-    whole = sends.home home
+    whole = sends.writes.home home
 
     pub flush_stepped : state_seen noted new ≡ flush_step (state_seen marks old)
     flush_stepped = whole.step
 
     pub flush_ready : IsReady settings to w → IsReady settings to v
     flush_ready ready = record {
-      limit = sends.emptied.settings.same_limit ∙ whole.sends.settings.same_limit ∙ ready.limit;
-      on_stream = sends.emptied.settings.same_start ∙ whole.sends.settings.same_start ∙ ready.on_stream;
-      tags = sends.emptied.settings.same_tags ∙ whole.sends.settings.same_tags ∙ ready.tags;
-      lines = sends.emptied.lines;
+      limit = sends.sends.emptied.settings.same_limit ∙ whole.sends.settings.same_limit ∙ ready.limit;
+      on_stream = sends.sends.emptied.settings.same_start ∙ whole.sends.settings.same_start ∙ ready.on_stream;
+      tags = sends.sends.emptied.settings.same_tags ∙ whole.sends.settings.same_tags ∙ ready.tags;
+      lines = sends.sends.emptied.lines;
     }
 
     -- what was found to be sent is what the sequential state sends
@@ -90,14 +90,14 @@ module _ (settings : SettingsText) (to : RemoteText) (moment : ℕ) (old new : E
         → now.sent ≡ in_64_bits (before.sent + report.sent) → now.unsent ≡ in_64_bits (before.unsent + report.unsent) → now.dropped ≡ in_64_bits (before.dropped + report.dropped)
         → Delivers settings to (own_items ∷ []) told tells before now
     flush_delivers ready same is sent unsent dropped = record {
-      outcomes = sends.outcomes;
-      each = sends.hands.each ∙ same_payloads ready same ∙ sym (append-nil (flush_payloads settings to own_items));
-      grew = subst (λ (a : Option RemoteText). GrewBy told.sent tells.sent (addressed a (sent_of sends.outcomes))) is sends.hands.sent;
-      cause = sends.hands.cause;
-      sent = counts_sum before.sent (length (sent_of sends.outcomes)) now.sent (sent ∙ ap (λ m. in_64_bits (before.sent + m)) sends.counts.0);
-      unsent = counts_sum before.unsent (length (unsent_of sends.outcomes)) now.unsent (unsent ∙ ap (λ m. in_64_bits (before.unsent + m)) sends.counts.1);
+      outcomes = sends.sends.outcomes;
+      each = sends.sends.hands.each ∙ same_payloads ready same ∙ sym (append-nil (flush_payloads settings to own_items));
+      grew = subst (λ (a : Option RemoteText). GrewBy told.sent tells.sent (addressed a (sent_of sends.sends.outcomes))) is sends.sends.hands.sent;
+      cause = sends.sends.hands.cause;
+      sent = counts_sum before.sent (length (sent_of sends.sends.outcomes)) now.sent (sent ∙ ap (λ m. in_64_bits (before.sent + m)) sends.sends.counts.0);
+      unsent = counts_sum before.unsent (length (unsent_of sends.sends.outcomes)) now.unsent (unsent ∙ ap (λ m. in_64_bits (before.unsent + m)) sends.sends.counts.1);
       dropped =
           let left_out : report.dropped ≡ in_64_bits (left_out_of_items (payload_limit settings to) own_items + 0)
-          = sends.dropped _ whole.sends ∙ (λ i. in_64_bits (left_out_of_items (ready.limit i) (same_items ready same i))) ∙ ap in_64_bits (omega arith) in
+          = sends.writes.dropped _ whole.sends ∙ (λ i. in_64_bits (left_out_of_items (ready.limit i) (same_items ready same i))) ∙ ap in_64_bits (omega arith) in
           counts_left before.dropped report.dropped _ now.dropped left_out dropped;
     }

@@ -4,6 +4,7 @@ use Rattle.metrics_core.specs.declared.kinds.MetricKind.TheVariants.{Gauge}
 use Rattle.metrics_registry.specs.Live.{with_cell}
 use Rattle.dsd_exporter.specs.Exporter.{settings_of}
 use Rattle.dsd_exporter.proofs.PutBack.{put_back}
+use Rattle.dsd_exporter.proofs.GaugeKeys.{keys-with_cell}
 use Rattle.dsd_exporter.proofs.state.State.lend_gauge.Goals as goal
 
 pub returns-in_err-handle-clause-refused : goal.returns-in_err-handle-clause-refused
@@ -25,3 +26,9 @@ returns-clause-lent c =
       (record { id_is = refl; handle = c.in_ok-handle.ensures.lent.0; pass = c.in_ok-handle.ensures.lent.1; knows = c.in_ok-handle.ensures.lent.2 }, (λ j. record { root = c.in_ok-handle.ensures.root j; fixed = c.in_ok-handle.ensures.cell j })),
       refl,
     )
+
+pub invariant_of-self-in_err-handle : goal.invariant_of-self-in_err-handle
+invariant_of-self-in_err-handle c = c.self.invariant ∙ sym (keys-with_cell c.args.id c.self.inside.series.gauges _)
+
+pub invariant_of-self-2 : goal.invariant_of-self-2
+invariant_of-self-2 c = c.self.invariant ∙ sym (keys-with_cell c.args.id c.self.inside.series.gauges _)

@@ -1,9 +1,10 @@
-use Rattle.std.proofs.Common.{sym, ap, subst}
+use Rattle.std.proofs.Common.{sym, ap, subst, ◌∙◌}
 use Rattle.std.proofs.lemmas.Result.{err_from_is_err_and}
 use Rattle.dsd_exporter.specs.declared.indices.Place.TheVariants as places
 use Rattle.dsd_exporter.specs.LanePasses.{StandsAt, things_of, frame_of}
 use Rattle.dsd_exporter.specs.contracts.state.State.{the_view}
 use Rattle.dsd_exporter.proofs.LaneThings.{counter_kept, gauge_kept, histogram_kept, counter_lends, gauge_lends, histogram_lends}
+use Rattle.dsd_exporter.proofs.GaugeKeys.{keys-with_cell_at}
 use Rattle.dsd_exporter.proofs.state.State.lend_to_lane.Goals as goal
 
 pub returns-in_err-counter-in-Counter-clause-refused : goal.returns-in_err-counter-in-Counter-clause-refused
@@ -74,3 +75,9 @@ pub returns-in_ok-histogram-in-Histogram-clause-frame : goal.returns-in_ok-histo
 returns-in_ok-histogram-in-Histogram-clause-frame c =
     let at = subst (λ e. StandsAt c.args.index e (places.Histogram c.in-Histogram.place)) (sym c.self.view_is) c.in-Histogram.ensures in
     rw (← c.self.view_is) (histogram_lends (the_view c.self.inside) c.args.index c.in-Histogram.place c.histogram_at.result.now c.lend_to_lane.new.self c.in_ok-histogram-in-Histogram.histogram at c.histogram_at.ensures.value c.in_ok-histogram-in-Histogram.ensures.lent c.in_ok-histogram-in-Histogram.ensures.out).2
+
+pub invariant_of-self-in_err-gauge-in-Gauge : goal.invariant_of-self-in_err-gauge-in-Gauge
+invariant_of-self-in_err-gauge-in-Gauge c = c.self.invariant ∙ sym (keys-with_cell_at c.self.inside.series.gauges c.in-Gauge.place c.lend_cell-in-Gauge.new.cell)
+
+pub invariant_of-self-in-Gauge : goal.invariant_of-self-in-Gauge
+invariant_of-self-in-Gauge c = c.self.invariant ∙ sym (keys-with_cell_at c.self.inside.series.gauges c.in-Gauge.place c.lend_cell-in-Gauge.new.cell)

@@ -1,9 +1,10 @@
-use Rattle.std.proofs.Common.{rules, sym, arith}
+use Rattle.std.proofs.Common.{rules, sym, arith, ap, ◌∙◌}
 use Rattle.std.proofs.lemmas.Result.{IfOk-weaker, on_err_weaker}
 use Rattle.metrics_core.specs.declared.kinds.MetricKind.TheVariants.{Counter}
 use Rattle.metrics_registry.proofs.Registered.{either_way}
-use Rattle.dsd_exporter.specs.Exporter.{Exporter, settings_of}
+use Rattle.dsd_exporter.specs.Exporter.{Cells, Exporter, keys_of, settings_of}
 use Rattle.dsd_exporter.proofs.Registered.{counter_adds, counter_given, counter_home, id-there, number-none}
+use Rattle.dsd_exporter.proofs.GaugeKeys.{counter_leaves_gauges}
 use Rattle.dsd_exporter.proofs.state.State.register_owned_counter.Goals as goal
 use Rattle.dsd_exporter.proofs.state.State.register_owned_counter.Goals.{After-register_counter}
 
@@ -41,3 +42,9 @@ returns-in-Some-clause-id c =
 pub returns-then-number-lt18446744073709551615-clause-absent : goal.returns-then-number-lt18446744073709551615-clause-absent
 returns-then-number-lt18446744073709551615-clause-absent c =
     rw (← c.self.view_is) (on_err_weaker c.register_counter.result (number-none Counter c.args.key c.self.inside.series) c.register_counter.ensures.absent)
+
+pub invariant_of-self : goal.invariant_of-self
+invariant_of-self c =
+    either_way _ _ _ c.register_counter.result c.register_counter.ensures.registered c.register_counter.ensures.refused
+    (λ id r. c.self.invariant ∙ ap keys_of (sym (counter_leaves_gauges c.args.key id c.self.inside.series c.register_counter.new.self _ r)))
+    (λ same. c.self.invariant ∙ ap (λ (s : Cells). keys_of s.gauges) (sym same))

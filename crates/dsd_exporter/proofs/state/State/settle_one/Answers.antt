@@ -1,8 +1,9 @@
-use Rattle.std.proofs.Common.{sym, ap, subst}
+use Rattle.std.proofs.Common.{sym, ap, subst, ◌∙◌}
 use Rattle.dsd_exporter.specs.declared.indices.Place.TheVariants as places
 use Rattle.dsd_exporter.specs.LanePasses.{StandsAt, of_counter, of_gauge, of_histogram, things_of, frame_of}
 use Rattle.dsd_exporter.specs.contracts.state.State.{the_view}
 use Rattle.dsd_exporter.proofs.LaneThings.{HomeAt, counter_here, gauge_here, histogram_here, counter_settles, gauge_settles, histogram_settles}
+use Rattle.dsd_exporter.proofs.GaugeKeys.{keys-with_cell_at}
 use Rattle.dsd_exporter.proofs.state.State.settle_one.Goals as goal
 
 pub settle_cell-requires-clause-home : goal.settle_cell-requires-clause-home
@@ -67,3 +68,6 @@ pub returns-in-Histogram-clause-frame : goal.returns-in-Histogram-clause-frame
 returns-in-Histogram-clause-frame g c =
     let at = subst (λ e. StandsAt c.args.index e (places.Histogram c.in-Histogram.place)) (sym c.self.view_is) c.in-Histogram.ensures in
     rw (← c.self.view_is) (ap frame_of (histogram_settles (the_view c.self.inside) c.args.index c.in-Histogram.place c.histogram_at.result.now c.settle.new.self at c.histogram_at.ensures.value c.settle.ensures.same c.settle.ensures.settled).0)
+
+pub invariant_of-self-in-Gauge : goal.invariant_of-self-in-Gauge
+invariant_of-self-in-Gauge g c = c.self.invariant ∙ sym (keys-with_cell_at c.self.inside.series.gauges c.in-Gauge.place c.settle_cell-in-Gauge.new.cell)

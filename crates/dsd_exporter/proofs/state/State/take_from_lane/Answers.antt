@@ -1,8 +1,9 @@
-use Rattle.std.proofs.Common.{◌-◌, ◌+◌, ◌<◌, length, refl, sym, subst}
+use Rattle.std.proofs.Common.{◌-◌, ◌+◌, ◌<◌, length, refl, sym, subst, ◌∙◌}
 use Rattle.dsd_exporter.specs.declared.lanes.LanePass.TheVariants as passes
 use Rattle.dsd_exporter.specs.LanePasses.{of_counter, of_gauge, of_histogram, things_of}
 use Rattle.dsd_exporter.specs.contracts.state.State.{the_view}
 use Rattle.dsd_exporter.proofs.LaneThings.{IsPassHere, counter_here, gauge_here, histogram_here, counter_place, gauge_place, histogram_place, gauge_counted, histogram_counted, counter_takes_back, gauge_takes_back, histogram_takes_back}
+use Rattle.dsd_exporter.proofs.GaugeKeys.{keys-with_cell_at}
 use Rattle.dsd_exporter.proofs.state.State.take_from_lane.Goals as goal
 
 pub counter_at-requires : goal.counter_at-requires
@@ -102,3 +103,6 @@ returns-in-Histogram-clause-frame c =
     let owned : IsPassHere (the_view c.self.inside) (passes.Histogram c.in-Histogram.histogram) c.args.index = subst (λ p. IsPassHere (the_view c.self.inside) p c.args.index) c.in-Histogram.is (subst (λ e. IsPassHere e c.args.lent c.args.index) (sym c.self.view_is) c.requires.lent) in
     let at = histogram_counted (the_view c.self.inside) c.args.index c.counter_count.result c.gauge_count.result c.counter_count.ensures.count c.gauge_count.ensures (histogram_place (the_view c.self.inside) c.args.index c.in-Histogram.histogram below owned) in
     rw (← c.self.view_is) (histogram_takes_back (the_view c.self.inside) c.args.index (c.args.index - (c.counter_count.result + c.gauge_count.result)) c.histogram_at.result.now c.take_from_lane.new.self c.in-Histogram.histogram at.1 c.histogram_at.ensures.value c.take_from_lane.ensures).1
+
+pub invariant_of-self-in-Gauge : goal.invariant_of-self-in-Gauge
+invariant_of-self-in-Gauge c = c.self.invariant ∙ sym (keys-with_cell_at c.self.inside.series.gauges (c.args.index - c.counter_count-counters.result) c.take_cell-in-Gauge.new.cell)

@@ -11,7 +11,7 @@ returns-in_err-sent-clause-rest g c =
 pub returns-clause-rest : goal.returns-clause-rest
 returns-clause-rest g c =
     let sends = c.in_ok-sent.ensures.sent in
-    flush_rests _ _ _ sends.found _ _ _ _ _ _ _ _ sends.flushes c.requires.rest
+    flush_rests _ _ _ sends.writes.found _ _ _ _ _ _ _ _ sends.writes.flushes c.requires.rest
 
 pub returns-clause-sent : goal.returns-clause-sent
 returns-clause-sent g c = λ settings to ready same aims.
