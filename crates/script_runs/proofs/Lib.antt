@@ -27,7 +27,9 @@ pub mod LastPages
 pub mod BenchSteps
 pub mod SendSteps
 pub mod LineSteps
+pub mod SetupSteps
 pub mod PayloadLimits
 pub mod CommandSteps
+pub mod Crossing
 pub mod ServeEnds
 pub mod BenchEnds

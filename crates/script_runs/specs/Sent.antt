@@ -6,7 +6,7 @@ use Rattle.dsd_addresses.specs.Remotes.{RemoteText}
 use Rattle.dsd_writer.specs.Writers.{WriterText}
 use Rattle.dsd_exporter.specs.Links.{SentText}
 use Rattle.dsd_exporter.specs.Sending.{Outcome, RoseBy, addressed, handed, sent_of, unsent_of}
-use Rattle.dsd_exporter.specs.State.{FlushItem}
+use Rattle.dsd_exporter.specs.State.{FlushItem, left_out_of_items, lines_of_items}
 use Rattle.dsd_exporter.specs.declared.sending.FlushReport.{FlushReport}
 use Rattle.drive_script.specs.Script.{RoundText, ScriptText, SettingsText}
 use Rattle.script_runs.specs.Flushes.{FlushPlay, ForSomeFlushes, all_left_out, all_payloads, flush_start, is_stream, payload_limit}
@@ -51,6 +51,14 @@ ForFirstFlushes settings p rounds P = (done left : List RoundText) × (rounds �
 abbrev pub IsSentInPart : ScriptText → RemoteText → LinkTold → LinkTold → Type 0
 IsSentInPart script to told tells =
     ForFirstFlushes script.settings flush_start script.rounds (λ flushes. (now : FlushReport) × Delivers script.settings to flushes told tells none_sent now)
+
+-- A writer as a script's settings ask for has the lines of these items, and so many points were left out of them; they are counted modulo 2 ^ 64.
+pub record IsWritten (settings : SettingsText) (to : RemoteText) (items : List FlushItem) (writer : WriterText) (left_out : ℕ) : Type 0 where
+  pub limit : writer.limit ≡ payload_limit settings to
+  pub on_stream : writer.on_stream ≡ is_stream to
+  pub tags : writer.global_tags ≡ settings.dsd_globals
+  pub lines : writer.lines ≡ lines_of_items (payload_limit settings to) items
+  pub dropped : left_out ≡ in_64_bits (left_out_of_items (payload_limit settings to) items)
 
 -- a writer as a script's settings ask for, without lines
 pub record IsReady (settings : SettingsText) (to : RemoteText) (writer : WriterText) : Type 0 where

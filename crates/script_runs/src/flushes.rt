@@ -1,23 +1,23 @@
 //! The flushes of a play: the exporter that they are of, what they go through, and what came of them so far.
 
-ghost use Rattle.std.specs.Prelude.{◌≡◌, ◌≤◌, ◌+◌, [], ◌∷◌, IfOk, OnErr, OnOk, Some, not, option_map, string_bytes};
+ghost use Rattle.std.specs.Prelude.{◌≡◌, ◌≤◌, ◌+◌, List, [], ◌∷◌, IfOk, OnOk, Some, not, option_map, string_bytes};
 ghost use Rattle.metrics_core.specs.Numbers.{in_64_bits};
 ghost use Rattle.prom_format.specs.LabelSets.{labels_of};
 ghost use Rattle.dsd_addresses.specs.Remotes.{RemoteText, remote_text};
 ghost use Rattle.dsd_exporter.specs.Exporter.{AllHome, no_cells, state_seen};
 ghost use Rattle.dsd_exporter.specs.Resting.{AllRest};
-ghost use Rattle.dsd_exporter.specs.State.{flush_items, flush_step};
+ghost use Rattle.dsd_exporter.specs.State.{FlushItem, flush_items, flush_step};
 ghost use Rattle.drive_script.specs.Script.{SettingsText};
 ghost use Rattle.drive_script.specs.Texts.{settings_of};
 ghost use Rattle.script_runs.specs.Answers.{AreAllowed};
 ghost use Rattle.script_runs.specs.Flushes.{dogstatsd_settings, is_stream, payload_limit};
-ghost use Rattle.script_runs.specs.Sent.{Delivers, IsReady, none_sent};
+ghost use Rattle.script_runs.specs.Sent.{Delivers, IsReady, IsWritten, none_sent};
 
 use drive_script::Settings;
 use dsd_addresses::RemoteAddr;
 use dsd_exporter::{
     AggregationMode, FlushReport, FlushState, Link, State, StateConfiguration, TelemetryUpdate,
-    send_flush,
+    send_written, write_flush,
 };
 use dsd_writer::PayloadWriter;
 use hash_starts::HashStart;
@@ -75,31 +75,23 @@ impl Flushes {
         })
     }
 
-    /// Flushes an exporter at a moment, and hands the payloads to a link, each once, in order. Where memory is refused nothing
-    /// was handed to the link.
-    pub(crate) fn send<R: Wait, L: Link>(
+    /// Flushes an exporter at a moment into the writer, and answers how many points were left out, modulo 2^64.
+    pub(crate) fn write<R: Wait>(
         &mut self,
         rt: &R,
         alloc: Global,
         exporter: &mut State,
         moment: u64,
-        link: &mut L,
-    ) -> Result<(), Memory>
+    ) -> Result<u64, Memory>
         requires rest { AllRest exporter.old }
         ensures rest { AllRest exporter.new }
         ensures settings { exporter.new.settings ≡ exporter.old.settings }
+        ensures report { self.new.report ≡ self.old.report }
         ensures stepped { OnOk result (state_seen self.new.marks exporter.new ≡ flush_step (state_seen self.old.marks exporter.old)) }
-        ensures sent { (settings : SettingsText) (to : RemoteText) → IsReady settings to self.old.writer → exporter.old.settings ≡ dogstatsd_settings settings
-            → L.aimed link.old ≡ Some to → OnOk result (Delivers settings to
-            (flush_items (dogstatsd_settings settings) settings.dsd_globals moment [] (state_seen self.old.marks exporter.old) ∷ [])
-            (record { sent = L.sent link.old; faults = L.faults link.old }) (record { sent = L.sent link.new; faults = L.faults link.new })
-            self.old.report self.new.report) }
-        ensures ready { (settings : SettingsText) (to : RemoteText) → IsReady settings to self.old.writer → OnOk result (IsReady settings to self.new.writer) }
-        ensures unused { OnErr result (link.new ≡ link.old) }
-        ensures aimed { L.aimed link.new ≡ L.aimed link.old }
-        ensures never_falls { L.faults link.old ≤ L.faults link.new }
+        ensures written { (settings : SettingsText) (to : RemoteText) → IsReady settings to self.old.writer → exporter.old.settings ≡ dogstatsd_settings settings
+            → IfOk result (IsWritten settings to (flush_items (dogstatsd_settings settings) settings.dsd_globals moment [] (state_seen self.old.marks exporter.old)) self.new.writer) }
     {
-        let sent = send_flush(
+        write_flush(
             rt,
             alloc,
             exporter,
@@ -108,10 +100,22 @@ impl Flushes {
             &mut self.update,
             moment,
             &mut self.words,
-            link,
-        )?;
+        )
+    }
+
+    /// Hands the payloads of a flush that was written to a link, each once, in order. So many points of it were left out.
+    pub(crate) fn hand_out<L: Link>(&mut self, dropped: u64, link: &mut L)
+        ensures sent { (settings : SettingsText) (to : RemoteText) (items : List FlushItem) → IsWritten settings to items self.old.writer dropped
+            → L.aimed link.old ≡ Some to → Delivers settings to (items ∷ [])
+            (record { sent = L.sent link.old; faults = L.faults link.old }) (record { sent = L.sent link.new; faults = L.faults link.new })
+            self.old.report self.new.report }
+        ensures ready { (settings : SettingsText) (to : RemoteText) (items : List FlushItem) → IsWritten settings to items self.old.writer dropped → IsReady settings to self.new.writer }
+        ensures marks { self.new.marks ≡ self.old.marks }
+        ensures aimed { L.aimed link.new ≡ L.aimed link.old }
+        ensures never_falls { L.faults link.old ≤ L.faults link.new }
+    {
+        let sent = send_written(&mut self.writer, &mut self.update, dropped, link);
         self.report = both(self.report, sent);
-        Ok(())
     }
 }
 

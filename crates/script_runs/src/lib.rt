@@ -16,6 +16,7 @@ mod examples;
 mod flushes;
 mod gates;
 mod lanes;
+mod page;
 mod play;
 mod reading;
 mod relaying;
@@ -25,6 +26,7 @@ mod say;
 mod serving;
 mod serving_lines;
 mod serving_words;
+mod set_up;
 mod settings;
 
 pub use agent::default_agent;

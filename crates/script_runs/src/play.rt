@@ -1,6 +1,6 @@
 //! The play of a script: what each round does to both exporters, the page that it writes, and the flush that it sends.
 
-ghost use Rattle.std.specs.Prelude.{◌≡◌, ◌≤◌, [], All, fold, map, length, IfOk, IfErr, OnOk, OnErr, Some, vec_len};
+ghost use Rattle.std.specs.Prelude.{◌≡◌, ◌≤◌, [], All, fold, map, length, IfOk, IfErr, OnOk, OnErr, Some};
 ghost use Rattle.metrics_core.specs.Outside.{Rose, GrewBy, GrewByPrefix};
 ghost use Rattle.dsd_addresses.specs.Remotes.{remote_text};
 ghost use Rattle.drive_script.specs.Texts.{script_of, settings_of, round_of};
@@ -15,6 +15,8 @@ ghost use Rattle.script_runs.specs.Timely.{RiseFrom};
 use crate::flushes::{Flushes, lines_exporter};
 use crate::gates::GateHook;
 use crate::lanes::lanes_of;
+use crate::page::write_both;
+use crate::set_up::{lines_for_flushes, registers, registers_a, set_up_both};
 use crate::settings::builder_of;
 use crate::{Gate, Report};
 use cell_lanes::run_lanes;
@@ -23,10 +25,7 @@ use dsd_addresses::RemoteAddr;
 use dsd_exporter::Link;
 use exporter_lanes::Exporters;
 use hash_starts::HashStart;
-use metrics_core::{
-    Key, KeyName, Memory, MetricKind, SeriesId, SharedString, Sink, Unit, write_whole,
-};
-use prom_exporter::BuildError;
+use metrics_core::{Memory, MetricKind, SeriesId, Sink};
 use std::alloc::Global;
 use std::mem;
 use std::sync::Wait;
@@ -91,7 +90,7 @@ pub struct Player {
 }
 
 impl Player {
-    ghost use Rattle.std.specs.Prelude.{◌≡◌, ◌≤◌, ℕ, All, [], ◌∷◌, fold, map, string_bytes, IfOk, IfErr, OnOk, OnErr};
+    ghost use Rattle.std.specs.Prelude.{◌≡◌, ◌≤◌, ℕ, All, [], ◌∷◌, fold, map, IfOk, IfErr, OnOk, OnErr};
     ghost use Rattle.metrics_core.specs.Outside.{Rose, GrewBy, GrewByPrefix};
     ghost use Rattle.prom_format.specs.Pages.{page_text};
     ghost use Rattle.prom_exporter.specs.State.{page_step};
@@ -100,7 +99,7 @@ impl Player {
     ghost use Rattle.dsd_exporter.specs.Resting.{AllRest as LinesRest};
     ghost use Rattle.dsd_exporter.specs.State.{flush_items, flush_step};
     ghost use Rattle.dsd_exporter.specs.declared.sending.FlushReport.{FlushReport};
-    ghost use Rattle.drive_script.specs.Script.{RoundText, SettingsText, Describe, Register};
+    ghost use Rattle.drive_script.specs.Script.{RoundText, SettingsText};
     ghost use Rattle.drive_script.specs.Texts.{round_of, settings_of, setup_of, call_line_of};
     ghost use Rattle.script_runs.specs.Answers.{AreAllowed, IsPlayFault};
     ghost use Rattle.script_runs.specs.Orders.{ForSomeOrders, ForSomeRounds, IsCalled, round_text};
@@ -256,39 +255,22 @@ impl Player {
         } = round;
         self.set_up(rt, alloc, setup)?;
         self.make_calls(rt, alloc, gate, moment, calls)?;
-        self.write_page(rt, alloc, moment, out)?;
-        self.send_flush(rt, alloc, moment, link)?;
+        let series = self.handles.len();
+        let dropped = write_both(
+            rt,
+            alloc,
+            moment,
+            series,
+            &mut self.exporters,
+            &mut self.flushes,
+            out,
+        )?;
+        self.flushes.hand_out(dropped, link);
         Ok(())
     }
 
-    /// Sends the flush at a moment.
-    fn send_flush<R: Wait, L: Link>(
-        &mut self,
-        rt: &R,
-        alloc: Global,
-        moment: u64,
-        link: &mut L,
-    ) -> Result<(), Memory>
-        requires lines_rest { LinesRest self.old.exporters.dogstatsd }
-        ensures lines_rest { LinesRest self.new.exporters.dogstatsd }
-        ensures pages { self.new.exporters.prometheus ≡ self.old.exporters.prometheus }
-        ensures handles { self.new.handles ≡ self.old.handles }
-        ensures sent { (settings : SettingsText) (to : RemoteText) → AsksFor settings to self.old → L.aimed link.old ≡ Some to
-            → OnOk result (AsksFor settings to self.new
-            × (flush_state_of self.new ≡ record (flush_state_of self.old) { dogstatsd = flush_step (flush_state_of self.old).dogstatsd })
-            × Delivers settings to (flush_items (dogstatsd_settings settings) settings.dsd_globals moment [] (flush_state_of self.old).dogstatsd ∷ [])
-            (record { sent = L.sent link.old; faults = L.faults link.old }) (record { sent = L.sent link.new; faults = L.faults link.new })
-            self.old.flushes.report self.new.flushes.report) }
-        ensures unsent { OnErr result (link.new ≡ link.old) }
-        ensures aimed { L.aimed link.new ≡ L.aimed link.old }
-    {
-        self.flushes
-            .send(rt, alloc, &mut self.exporters.dogstatsd, moment, link)
-    }
-
-    /// Does the setup lines in order. They are taken from the end of a list that is turned round, so that the room of those
-    /// which are done is given back on the way.
-    pub(crate) fn set_up<R: Wait>(
+    /// Does the setup lines in order, those for the flushes on copies of their keys.
+    pub(crate) fn set_up<R: Threads + Wait + Sync>(
         &mut self,
         rt: &R,
         alloc: Global,
@@ -303,12 +285,18 @@ impl Player {
         ensures registered { OnOk result (flush_state_of self.new ≡ fold register_step (flush_state_of self.old) (map setup_of setup.items)) }
     {
         self.make_room(&setup)?;
-        setup.reverse();
-        while let Some(line) = setup.pop() {
-            self.set_up_line(rt, alloc, line)?;
-            give_room_back(&mut setup);
-        }
-        Ok(())
+        let mut copies = lines_for_flushes(alloc, &setup)?;
+        set_up_both(
+            rt,
+            alloc,
+            &mut self.exporters,
+            &mut self.line_handles,
+            &mut self.line_guesses,
+            &mut copies,
+            &mut self.handles,
+            &mut self.guesses,
+            &mut setup,
+        )
     }
 
     /// Makes room for what register lines make, where they are at least as many as those before them.
@@ -331,112 +319,11 @@ impl Player {
             .filter(|line| registers_a(line, MetricKind::Gauge))
             .count();
         self.exporters.prometheus.reserve(counters, gauges)?;
+        self.exporters.dogstatsd.reserve(counters, gauges)?;
         self.handles.reserve(registrations)?;
         self.guesses.reserve(registrations)?;
         self.line_handles.reserve(registrations)?;
         self.line_guesses.reserve(registrations)?;
-        Ok(())
-    }
-
-    /// Does one setup line.
-    fn set_up_line<R: Wait>(&mut self, rt: &R, alloc: Global, line: Setup) -> Result<(), Memory>
-        ensures settings { self.new.exporters.prometheus.settings ≡ self.old.exporters.prometheus.settings }
-        ensures rest { AllRest self.old.exporters.prometheus → AllRest self.new.exporters.prometheus }
-        ensures lines_settings { self.new.exporters.dogstatsd.settings ≡ self.old.exporters.dogstatsd.settings }
-        ensures lines_rest { LinesRest self.old.exporters.dogstatsd → LinesRest self.new.exporters.dogstatsd }
-        ensures flushes { self.new.flushes ≡ self.old.flushes }
-        ensures stepped { OnOk result (state_of self.new ≡ setup_step (state_of self.old) (setup_of line)) }
-        ensures registered { OnOk result (flush_state_of self.new ≡ register_step (flush_state_of self.old) (setup_of line)) }
-    {
-        match line {
-            Setup::Describe {
-                kind,
-                name,
-                unit,
-                text,
-            } => self.describe(rt, alloc, kind, name, unit, text),
-            Setup::Register { kind, key } => self.register(alloc, kind, key),
-        }
-    }
-
-    /// Describes the metric of a kind and a name. The exporter keeps the text.
-    fn describe<R: Wait>(
-        &mut self,
-        rt: &R,
-        alloc: Global,
-        kind: MetricKind,
-        name: String,
-        unit: Option<Unit>,
-        text: String,
-    ) -> Result<(), Memory>
-        ensures settings { self.new.exporters.prometheus.settings ≡ self.old.exporters.prometheus.settings }
-        ensures rest { AllRest self.old.exporters.prometheus → AllRest self.new.exporters.prometheus }
-        ensures lines { self.new.exporters.dogstatsd ≡ self.old.exporters.dogstatsd }
-        ensures line_handles { self.new.line_handles ≡ self.old.line_handles }
-        ensures flushes { self.new.flushes ≡ self.old.flushes }
-        ensures stepped { OnOk result (state_of self.new ≡ setup_step (state_of self.old) (Describe kind (string_bytes name) unit (string_bytes text))) }
-    {
-        let name = KeyName::from(name);
-        let text = SharedString::from_owned(text);
-        let pages = &mut self.exporters.prometheus;
-        match kind {
-            MetricKind::Counter => pages.describe_counter(rt, alloc, name, unit, text),
-            MetricKind::Gauge => pages.describe_gauge(rt, alloc, name, unit, text),
-            MetricKind::Histogram => pages.describe_histogram(rt, alloc, name, unit, text),
-        }
-    }
-
-    /// Registers a series of a kind under a key, for the flushes and for the pages, and gives both the next handle.
-    fn register(&mut self, alloc: Global, kind: MetricKind, key: Key) -> Result<(), Memory>
-        ensures settings { self.new.exporters.prometheus.settings ≡ self.old.exporters.prometheus.settings }
-        ensures rest { AllRest self.old.exporters.prometheus → AllRest self.new.exporters.prometheus }
-        ensures lines_settings { self.new.exporters.dogstatsd.settings ≡ self.old.exporters.dogstatsd.settings }
-        ensures lines_rest { LinesRest self.old.exporters.dogstatsd → LinesRest self.new.exporters.dogstatsd }
-        ensures flushes { self.new.flushes ≡ self.old.flushes }
-        ensures stepped { OnOk result (state_of self.new ≡ setup_step (state_of self.old) (Register kind key)) }
-        ensures registered { OnOk result (flush_state_of self.new ≡ register_step (flush_state_of self.old) (Register kind key)) }
-    {
-        self.register_line(alloc, kind, key.clone(alloc)?)?;
-        self.register_row(alloc, kind, key)
-    }
-
-    /// Registers a series of the flushes under a key, which it keeps, and gives it the next handle.
-    fn register_line(&mut self, alloc: Global, kind: MetricKind, key: Key) -> Result<(), Memory>
-        ensures pages { self.new.exporters.prometheus ≡ self.old.exporters.prometheus }
-        ensures handles { self.new.handles ≡ self.old.handles }
-        ensures lines_settings { self.new.exporters.dogstatsd.settings ≡ self.old.exporters.dogstatsd.settings }
-        ensures lines_rest { LinesRest self.old.exporters.dogstatsd → LinesRest self.new.exporters.dogstatsd }
-        ensures flushes { self.new.flushes ≡ self.old.flushes }
-        ensures registered { OnOk result (flush_state_of self.new ≡ register_step (flush_state_of self.old) (Register kind key)) }
-    {
-        let lines = &mut self.exporters.dogstatsd;
-        let id = match kind {
-            MetricKind::Counter => lines.register_owned_counter(alloc, key)?,
-            MetricKind::Gauge => lines.register_owned_gauge(alloc, key)?,
-            MetricKind::Histogram => lines.register_owned_histogram(alloc, key)?,
-        };
-        self.line_handles.push(id)?;
-        self.line_guesses.push(0)?;
-        Ok(())
-    }
-
-    /// Registers a series of the pages under a key, which it keeps, and gives it the next handle.
-    fn register_row(&mut self, alloc: Global, kind: MetricKind, key: Key) -> Result<(), Memory>
-        ensures settings { self.new.exporters.prometheus.settings ≡ self.old.exporters.prometheus.settings }
-        ensures rest { AllRest self.old.exporters.prometheus → AllRest self.new.exporters.prometheus }
-        ensures lines { self.new.exporters.dogstatsd ≡ self.old.exporters.dogstatsd }
-        ensures line_handles { self.new.line_handles ≡ self.old.line_handles }
-        ensures flushes { self.new.flushes ≡ self.old.flushes }
-        ensures stepped { OnOk result (state_of self.new ≡ setup_step (state_of self.old) (Register kind key)) }
-    {
-        let pages = &mut self.exporters.prometheus;
-        let id = match kind {
-            MetricKind::Counter => pages.register_owned_counter(alloc, key)?,
-            MetricKind::Gauge => pages.register_owned_gauge(alloc, key)?,
-            MetricKind::Histogram => pages.register_owned_histogram(alloc, key)?,
-        };
-        self.handles.push(id)?;
-        self.guesses.push(0)?;
         Ok(())
     }
 
@@ -475,64 +362,5 @@ impl Player {
         )?;
         drop(calls);
         run_lanes(rt, alloc, &GateHook { gate }, &mut self.exporters, &lanes)
-    }
-
-    /// Writes the page at a moment, ended by the line `# EOF`.
-    fn write_page<R: Wait, K: Sink>(
-        &mut self,
-        rt: &R,
-        alloc: Global,
-        moment: u64,
-        out: &mut K,
-    ) -> Result<(), DriveFault>
-        requires rest { AllRest self.old.exporters.prometheus }
-        requires timely { IsTimelyState moment (prometheus_of self.old.exporters.prometheus) }
-        ensures rest { AllRest self.new.exporters.prometheus }
-        ensures settings { self.new.exporters.prometheus.settings ≡ self.old.exporters.prometheus.settings }
-        ensures lines { self.new.exporters.dogstatsd ≡ self.old.exporters.dogstatsd }
-        ensures line_handles { self.new.line_handles ≡ self.old.line_handles }
-        ensures flushes { self.new.flushes ≡ self.old.flushes }
-        ensures stepped { OnOk result (state_of self.new ≡ record (state_of self.old) { prometheus = page_step self.old.exporters.prometheus.settings.idle moment (prometheus_of self.old.exporters.prometheus) }) }
-        ensures page { OnOk result (GrewBy (K.written out.old) (K.written out.new) (page_text (page_families moment self.old.exporters.prometheus))) }
-        ensures prefix { OnErr result (GrewByPrefix (K.written out.old) (K.written out.new) (page_text (page_families moment self.old.exporters.prometheus))) }
-        ensures cause { IfErr result (IsPlayFault (Rose (K.faults out.old) (K.faults out.new))) }
-        ensures never_falls { K.faults out.old ≤ K.faults out.new }
-    {
-        match self
-            .exporters
-            .prometheus
-            .render_to_write(rt, alloc, moment, out)
-        {
-            Ok(()) => (),
-            Err(BuildError::WriteFault) => return Err(DriveFault::WriteFault),
-            Err(_) => return Err(DriveFault::Memory),
-        }
-        match write_whole(out, b"# EOF\n") {
-            Ok(()) => Ok(()),
-            Err(_) => Err(DriveFault::WriteFault),
-        }
-    }
-}
-
-/// Whether a setup line registers a series.
-fn registers(line: &Setup) -> bool {
-    matches!(line, Setup::Register { .. })
-}
-
-/// Whether a setup line registers a series of this kind.
-fn registers_a(line: &Setup, kind: MetricKind) -> bool {
-    match line {
-        Setup::Register { kind: own, key: _ } => *own == kind,
-        Setup::Describe { .. } => false,
-    }
-}
-
-/// Gives the room of lines that were taken away back, where it is at least half of all.
-fn give_room_back(setup: &mut Vec<Setup>)
-    ensures same { setup.new.items ≡ setup.old.items }
-    ensures len { vec_len setup.new ≡ vec_len setup.old }
-{
-    if setup.len() <= setup.capacity() / 2 {
-        setup.shrink_to_fit();
     }
 }

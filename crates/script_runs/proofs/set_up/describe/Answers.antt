@@ -1,5 +1,5 @@
 use Rattle.script_runs.proofs.RestingSteps.{said_rests}
-use Rattle.script_runs.proofs.play.Player.describe.Goals as goal
+use Rattle.script_runs.proofs.set_up.describe.Goals as goal
 
 pub returns-in-Counter-clause-rest : goal.returns-in-Counter-clause-rest
 returns-in-Counter-clause-rest g c = said_rests _ _ c.describe_counter.ensures.others
