@@ -1,6 +1,6 @@
 //! Keys as lines want them, kept one behind the other: of each its name, and behind it the text of its tags.
 
-ghost use Rattle.std.specs.Prelude.{◌≡◌, ◌+◌, ◌≤◌, [], ◌∷◌, ◌++◌, codes, length, slice_get, IfSome, OnOk, OnErr, vec_len, vec_capacity};
+ghost use Rattle.std.specs.Prelude.{◌≡◌, ◌+◌, ◌≤◌, [], ◌∷◌, ◌++◌, codes, length, slice_get, OnOk, OnErr, vec_len, vec_capacity, MatchOption, ◌^◌};
 ghost use Rattle.dsd_writer.specs.Kept.{StandsFrom, kept_text};
 ghost use Rattle.dsd_writer.specs.Lines.{before_next, tags_text};
 
@@ -93,9 +93,9 @@ impl KeptKeys {
     }
 }
 
-/// How many bytes the name and the tags of a key take, where so many can be counted.
+/// How many bytes the name and the tags of a key take, unless they are more than can be counted.
 fn text_length(key: &Key) -> Option<usize>
-    ensures { IfSome result (λ n. n ≡ length (kept_text key.now)) }
+    ensures { MatchOption result (2 ^ 64 ≤ length (kept_text key.now)) (λ n. n ≡ length (kept_text key.now)) }
 {
     let tags = key.labels().as_slice();
     let behind_name = behind(u64::MAX, key.name())?;
