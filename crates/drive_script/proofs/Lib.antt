@@ -15,4 +15,5 @@ pub mod Growth
 pub mod Laws
 pub mod Pieces
 pub mod Steps
+pub mod Runs
 pub mod Scripts

@@ -1,11 +1,12 @@
 -- The lines of some bytes, one after the other.
-use Rattle.std.proofs.Common.{◌≡◌, ℕ, ◌+◌, ◌<◌, ◌==◌, Bool, false, not, List, [], ◌∷◌, ◌++◌, Option, Some, None, length, get_or, take, refl, sym, ap, subst, ◌∙◌, arith}
-use Rattle.std.specs.Prelude.{All, MatchOption}
-use Rattle.std.specs.List.{slice_split, position_or_len, before_first, after_first}
-use Rattle.std.proofs.lemmas.Bool.{not-true, false_from_ne_true}
-use Rattle.std.proofs.lemmas.List.{append_assoc, length-append, length_push, take_at, take-append-le}
-use Rattle.std.proofs.lemmas.List.Elements.{All-from_get_or}
-use Rattle.std.proofs.lemmas.List.Splits.{slice_split_first, slice_split_none, length-slice_split}
+use Rattle.std.proofs.Common.{◌≡◌, ℕ, ◌+◌, ◌<◌, ◌==◌, Bool, false, true, not, List, [], ◌∷◌, ◌++◌, Option, Some, None, length, get_or, take, drop, refl, sym, ap, subst, ◌∙◌, arith}
+use Rattle.std.specs.Prelude.{All, MatchOption, slice_get}
+use Rattle.std.specs.List.{onto_first, slice_split, position_or_len, before_first, after_first}
+use Rattle.std.proofs.lemmas.Bool.{eqb-true, not-true, false_from_ne_true}
+use Rattle.std.proofs.lemmas.List.{append-nil, get_or-drop, length-drop, append_assoc, take-append-drop, take_more, length-append, length_push, take_at, take-append-le}
+use Rattle.std.proofs.lemmas.Option.{get_or_from_slice_get, slice_get-get_or, slice_get_within}
+use Rattle.std.proofs.lemmas.List.Elements.{All-from_get_or, All-nil}
+use Rattle.std.proofs.lemmas.List.Splits.{slice_split-cons_no, slice_split-cons_yes, slice_split_first, slice_split_none, length-slice_split}
 use Rattle.std.proofs.lemmas.List.Sums.{prefix_len_passes, position_or_len_is}
 use Rattle.memchr.specs.Find.{IsFirstByte, is_byte}
 use Rattle.metrics_core.specs.Characters.{newline}
@@ -55,3 +56,44 @@ first_bad bytes done line more l split count valid bad =
           let front : take k (lines_of bytes) ≡ take k done = ap (take k) split ∙ take-append-le k done (line ∷ more) (omega arith) in
           subst AreValidLines (sym front) (fronts_valid k done (omega arith) valid);
     }
+
+-- ---- bytes that are cut behind a newline
+
+abbrev parts : List ℕ → List (List ℕ)
+parts bytes = slice_split ends_line bytes
+
+-- up to a newline the parts are the same, whatever stands behind it
+abbrev Begins : List ℕ → Type 0
+Begins front = (first : List ℕ) × (more : List (List ℕ)) × ((behind : List ℕ) → parts (front ++ newline ∷ behind) ≡ (first ∷ more) ++ parts behind)
+
+one_more : (c : ℕ) (front : List ℕ) (ends : Bool) → ends_line c ≡ ends → Begins front → Begins (c ∷ front)
+one_more c front true e (first, more, all) = ([], first ∷ more, λ behind. slice_split-cons_yes ends_line c (front ++ newline ∷ behind) e ∙ ap (λ ps. [] ∷ ps) (all behind))
+one_more c front false e (first, more, all) = (c ∷ first, more, λ behind. slice_split-cons_no ends_line c (front ++ newline ∷ behind) e ∙ ap (onto_first c) (all behind))
+
+begins : (front : List ℕ) → Begins front
+begins [] = ([], [], λ behind. slice_split-cons_yes ends_line newline behind refl)
+begins (c ∷ front) = one_more c front (ends_line c) refl (begins front)
+
+kept_before : (front behind : List (List ℕ)) → 0 < length behind → without_empty_last (front ++ behind) ≡ front ++ without_empty_last behind
+kept_before [] behind some = refl
+kept_before (piece ∷ front) behind some = more_pieces piece (front ++ behind) (omega (arith, length-append front behind, some)) ∙ ap (λ ps. piece ∷ ps) (kept_before front behind some)
+
+-- the lines up to a newline, and those behind it
+pub lines_cut : (front behind : List ℕ) → lines_of (front ++ newline ∷ behind) ≡ lines_of (front ++ newline ∷ []) ++ lines_of behind
+lines_cut front behind =
+    let (first, more, all) = begins front in
+    let none : parts [] ≡ [] ∷ [] = slice_split_none ends_line [] (All-nil (λ c. ends_line c ≡ false)) in
+    let before : lines_of (front ++ newline ∷ []) ≡ first ∷ more = ap without_empty_last (all []) ∙ ap (λ ps. without_empty_last ((first ∷ more) ++ ps)) none ∙ kept_before (first ∷ more) ([] ∷ []) (omega arith) ∙ append-nil (first ∷ more) in
+    ap without_empty_last (all behind) ∙ kept_before (first ∷ more) (parts behind) (omega (arith, length-slice_split ends_line behind)) ∙ ap (λ ls. ls ++ lines_of behind) (sym before)
+
+pub lines_cut_at : (bytes : List ℕ) (end : ℕ) → slice_get bytes end ≡ Some newline → lines_of bytes ≡ lines_of (take (end + 1) bytes) ++ lines_of (drop (end + 1) bytes)
+lines_cut_at bytes end at =
+    let front : take (end + 1) bytes ≡ take end bytes ++ newline ∷ [] = take_more bytes end 0 (slice_get_within bytes end newline at) ∙ ap (λ c. take end bytes ++ c ∷ []) (get_or_from_slice_get bytes end newline 0 at) in
+    let whole : bytes ≡ take end bytes ++ newline ∷ drop (end + 1) bytes = sym (take-append-drop (end + 1) bytes) ∙ ap (λ f. f ++ drop (end + 1) bytes) front ∙ append_assoc (take end bytes) (newline ∷ []) (drop (end + 1) bytes) in
+    ap lines_of whole ∙ lines_cut (take end bytes) (drop (end + 1) bytes) ∙ ap (λ f. lines_of f ++ lines_of (drop (end + 1) bytes)) (sym front)
+
+-- a newline that was found behind the first bytes
+pub newline_at : (bytes behind : List ℕ) (n end : ℕ) → behind ≡ drop n bytes → IsFirstByte (is_byte newline) behind (Some end) → slice_get bytes (n + end) ≡ Some newline
+newline_at bytes behind n end e (none, is) =
+    let within : n + end < length bytes = omega (arith, none.high, ap length e, length-drop n bytes) in
+    slice_get-get_or bytes (n + end) 0 within ∙ ap Some (sym (get_or-drop n bytes end 0) ∙ ap (λ b. get_or b end 0) (sym e) ∙ eqb-true (get_or behind end 0) newline is)

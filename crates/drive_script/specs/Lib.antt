@@ -9,3 +9,4 @@ pub mod Faults
 pub mod Texts
 pub mod Vectors
 pub mod Taking
+pub mod Runs

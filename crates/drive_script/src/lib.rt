@@ -5,6 +5,7 @@
 //!     let script = read_script(alloc, b"round 0\n")?;
 #![tactic(auto)]
 
+mod beside;
 mod cursor;
 mod examples;
 mod facts;
@@ -21,6 +22,6 @@ mod settings;
 pub use examples::{basic_example, empty_example, sampled_example, settings_example};
 pub use facts::{beginnings, lines_say_one_thing, one_first_bad_line, one_reading};
 pub use faults::{DriveFault, SettingFault};
-pub use reader::{read_script, read_script_from};
+pub use reader::{read_script, read_script_beside, read_script_from};
 pub use script::{Act, CallLine, Round, Script, Settings, Setup};
 pub use settings::check_settings;

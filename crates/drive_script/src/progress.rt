@@ -5,9 +5,11 @@ ghost use Rattle.drive_script.specs.Script as text;
 ghost use Rattle.metrics_core.specs.Keys.{KeyText};
 ghost use Rattle.metrics_core.specs.declared.kinds.MetricKind.{MetricKind};
 ghost use Rattle.drive_script.specs.Growth.{SetsUp};
+ghost use Rattle.drive_script.specs.Runs.{calls_said};
 ghost use Rattle.drive_script.specs.Taking.{Takes, MaySetUp, MayRegister};
-ghost use Rattle.drive_script.specs.Texts.{call_line_of, header_of, setup_of, script_of, script_so_far, IsKnown, StandsBehind};
+ghost use Rattle.drive_script.specs.Texts.{call_line_of, header_of, line_of, setup_of, script_of, script_so_far, IsKnown, StandsBehind};
 ghost use Rattle.drive_script.specs.Valid.{registered, HasHandle, AreValidLines};
+ghost use Rattle.std.specs.List.{AllZip};
 ghost use Rattle.std.specs.List.Sorted.{IsNonDecreasingBy};
 
 use crate::headers::HeaderLine;
@@ -66,11 +68,35 @@ impl ScriptSoFar {
     {
         match read_line(alloc, line, recent)? {
             None => Ok(false),
-            Some(Statement::Header(line)) => self.add_header(alloc, line),
-            Some(Statement::Round(moment)) => self.begin_round(alloc, moment),
-            Some(Statement::Setup(setup)) => self.set_up(alloc, setup),
-            Some(Statement::Call(call)) => self.call(call),
+            Some(says) => self.take(alloc, says),
         }
+    }
+
+    /// Takes what the next line says. Answers whether the lines with it are a valid script.
+    pub(crate) fn take(&mut self, alloc: Global, says: Statement) -> Result<bool, Memory>
+        ensures { (lines : List (List ℕ)) (line : List ℕ) → StandsBehind lines self.old → text.IsLine line (line_of says) → IfOk result (λ taken.
+            MatchBool taken (StandsBehind (lines ++ line ∷ []) self.new)
+            (¬ AreValidLines (lines ++ line ∷ []))) }
+    {
+        match says {
+            Statement::Header(line) => self.add_header(alloc, line),
+            Statement::Round(moment) => self.begin_round(alloc, moment),
+            Statement::Setup(setup) => self.set_up(alloc, setup),
+            Statement::Call(call) => self.call(call),
+        }
+    }
+
+    /// Takes the next call lines, in order. Answers whether the lines with them are a valid script.
+    pub(crate) fn take_calls(&mut self, calls: Vec<CallLine>) -> Result<bool, Memory>
+        ensures { (done lines : List (List ℕ)) → StandsBehind done self.old → AllZip text.IsLine lines (calls_said calls.items)
+            → IfOk result (λ taken. IsTrue taken → StandsBehind (done ++ lines) self.new) }
+    {
+        for call in calls {
+            if !self.call(call)? {
+                return Ok(false);
+            }
+        }
+        Ok(true)
     }
 
     /// The script that the lines are.

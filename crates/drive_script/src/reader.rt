@@ -6,12 +6,17 @@ ghost use Rattle.drive_script.specs.Script.{lines_of};
 ghost use Rattle.drive_script.specs.Texts.{script_of};
 ghost use Rattle.drive_script.specs.Valid.{IsScriptOf};
 
+use crate::beside::read_pieces;
 use crate::progress::ScriptSoFar;
 use crate::recent::Recent;
 use crate::{DriveFault, Script};
 use hash_starts::HashStart;
 use memchr::memchr;
 use std::alloc::Global;
+use std::thread::Threads;
+
+/// From how many bytes on the lines of a script are read in pieces. Fewer aren't worth a thread.
+const MANY_BYTES: usize = 262_144;
 
 /// Reads a script. Bytes that are no valid script are refused with their first bad line. Labels and keys are looked up by hashes
 /// from the fixed start.
@@ -43,8 +48,27 @@ pub fn read_script_from(alloc: Global, start: HashStart, bytes: &[u8]) -> Result
     Ok(progress.into_script())
 }
 
+/// Reads a script as `read_script_from` does. The lines of a long one are read side by side, in pieces; where it isn't valid, it is read
+/// once more for its first bad line.
+pub fn read_script_beside<R: Threads + Sync>(
+    rt: &R,
+    alloc: Global,
+    start: HashStart,
+    bytes: &[u8],
+) -> Result<Script, DriveFault>
+    ensures valid { IfOk result (λ script. IsScriptOf bytes.now (script_of script)) }
+    ensures refused { IfErr result (IsScriptFault bytes.now) }
+{
+    if bytes.len() >= MANY_BYTES
+        && let Some(script) = read_pieces(rt, alloc, start, bytes)?
+    {
+        return Ok(script);
+    }
+    read_script_from(alloc, start, bytes)
+}
+
 /// The first line, without its newline, and the bytes behind that.
-fn split_line(bytes: &[u8]) -> (&[u8], &[u8])
+pub(crate) fn split_line(bytes: &[u8]) -> (&[u8], &[u8])
     requires { 0 < length bytes.now }
     ensures lines { lines_of bytes.now ≡ result.0.now ∷ lines_of result.1.now }
     ensures shorter { length result.1.now < length bytes.now }

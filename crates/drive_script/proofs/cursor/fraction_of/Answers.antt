@@ -1,5 +1,4 @@
 use Rattle.std.proofs.Common.{◌≡◌, ◌*◌, ◌^◌, ◌-◌, ◌<◌, ◌≤◌, length, arith, rules}
-use Rattle.std.specs.Str.Parse.{digits_value}
 use Rattle.drive_script.proofs.Decimals.{fraction_small}
 use Rattle.drive_script.proofs.cursor.fraction_of.Goals as goal
 use Rattle.drive_script.proofs.cursor.fraction_of.Goals.{After-pow}
