@@ -11,7 +11,7 @@ ghost use Rattle.script_runs.specs.Reading.{IsReadAs, IsUnread};
 use crate::play::play;
 use crate::reading::read_all;
 use crate::{Gate, Report};
-use drive_script::{DriveFault, Script, check_settings, read_script_from};
+use drive_script::{DriveFault, Script, check_settings, read_script_beside};
 use dsd_addresses::RemoteAddr;
 use dsd_exporter::Link;
 use hash_starts::HashStart;
@@ -61,14 +61,15 @@ pub fn drive<R: RandomSource + Threads + Wait + Sync, S: Source, K: Sink, L: Lin
         (Rose (S.faults source.old) (S.faults source.new)) (Rose (K.faults out.old) (K.faults out.new)) (end_status result)) }
 {
     let start = HashStart::drawn(rt);
-    let script = read_whole_script(alloc, start, source)?;
+    let script = read_whole_script(rt, alloc, start, source)?;
     check_settings(&script.settings, to)?;
     link.aim(alloc, to)?;
     play(rt, alloc, start, gate, to, script, out, link)
 }
 
-/// Reads the whole script from the source. Its bytes are let go at the end.
-pub(crate) fn read_whole_script<S: Source>(
+/// Reads the whole script from the source, the lines of a long one side by side. Its bytes are let go at the end.
+pub(crate) fn read_whole_script<R: Threads + Sync, S: Source>(
+    rt: &R,
     alloc: Global,
     start: HashStart,
     source: &mut S,
@@ -77,5 +78,5 @@ pub(crate) fn read_whole_script<S: Source>(
     ensures refused { IfErr result (IsUnread (S.left source.old) (Rose (S.faults source.old) (S.faults source.new))) }
 {
     let bytes = read_all(alloc, source)?;
-    read_script_from(alloc, start, &bytes)
+    read_script_beside(rt, alloc, start, &bytes)
 }

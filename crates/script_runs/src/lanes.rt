@@ -36,7 +36,8 @@ const GUESSES: usize = 1024;
 /// The lanes of a round at a moment that have calls, each with its number. A call line is two lines of its lane: its call on the
 /// Prometheus series that the handle names, and the same on the DogStatsD series. Where an exporter has no such series, the line is
 /// on none. `handles` are the series that register lines were given by the Prometheus exporter, `line_handles` those by the
-/// DogStatsD exporter, and for each of them a guess says where to look first.
+/// DogStatsD exporter, and for each of them a guess says where to look first. The lines stand in the rooms of lanes before, as far
+/// as there are any.
 pub(crate) fn lanes_of(
     alloc: Global,
     exporters: &Exporters,
@@ -46,6 +47,7 @@ pub(crate) fn lanes_of(
     line_guesses: &mut [u32],
     moment: u64,
     calls: &[CallLine],
+    rooms: &mut Vec<LineRoom>,
 ) -> Result<Vec<Lane<ExporterCall>>, Memory>
     requires fit { All (λ line. FitsHandle handles.now (call_line_of line)) calls.now }
     requires line_fit { All (λ line. FitsHandle line_handles.now (call_line_of line)) calls.now }
@@ -81,6 +83,7 @@ pub(crate) fn lanes_of(
             alloc,
             &mut gathered,
             &counts,
+            rooms,
             lane,
             places,
             call_of(moment, line.act),
@@ -167,6 +170,7 @@ fn gather(
     alloc: Global,
     gathered: &mut Vec<LaneCalls>,
     counts: &[usize],
+    rooms: &mut Vec<LineRoom>,
     lane: usize,
     places: Places,
     call: SeriesCall,
@@ -184,7 +188,7 @@ fn gather(
         ≡ gathered_asked gathered.old.items l
         ++ (if lane == l then on_both call else [])) }
 {
-    make_room(alloc, gathered, counts, lane)?;
+    make_room(alloc, gathered, counts, rooms, lane)?;
     gathered[lane].push_both(places, call)
 }
 
@@ -193,6 +197,7 @@ fn make_room(
     alloc: Global,
     gathered: &mut Vec<LaneCalls>,
     counts: &[usize],
+    rooms: &mut Vec<LineRoom>,
     lane: usize,
 ) -> Result<(), Memory>
     requires { lane < 256 }
@@ -208,7 +213,7 @@ fn make_room(
 {
     for number in gathered.len()..lane + 1 {
         let count = counts.get(number).copied().unwrap_or(0);
-        let empty = LaneCalls::with_room(alloc, number, count)?;
+        let empty = LaneCalls::with_room(alloc, number, count, rooms.pop())?;
         gathered.push(empty)?;
     }
     Ok(())
@@ -231,6 +236,19 @@ fn into_lanes(alloc: Global, gathered: Vec<LaneCalls>) -> Result<Vec<Lane<Export
     Ok(lanes)
 }
 
+/// Room for the lines of a lane, which is kept from round to round. Lines that are left in it are over.
+pub type LineRoom = Vec<Line<ExporterCall>>;
+
+/// Keeps the rooms of lanes that have run for those of the next round, as far as there is memory for it.
+pub(crate) fn keep_rooms(rooms: &mut Vec<LineRoom>, lanes: Vec<Lane<ExporterCall>>) {
+    for lane in lanes {
+        let Lane { lines, .. } = lane;
+        if rooms.push(lines).is_err() {
+            return;
+        }
+    }
+}
+
 /// A lane while its calls are gathered.
 #[derive(Drop)]
 pub struct LaneCalls {
@@ -245,17 +263,25 @@ pub struct LaneCalls {
 
 impl LaneCalls {
     /// The lane with this number, without calls, and with room for the two lines of each of so many calls: so none of its lines
-    /// is moved while they are gathered.
-    fn with_room(alloc: Global, number: usize, count: usize) -> Result<LaneCalls, Memory>
+    /// is moved while they are gathered. The room is that of a lane before, where there is one.
+    fn with_room(
+        alloc: Global,
+        number: usize,
+        count: usize,
+        room: Option<LineRoom>,
+    ) -> Result<LaneCalls, Memory>
         ensures empty { IfOk result (λ lane. (lane_cells lane ≡ []) × (lane_lines lane ≡ [])) }
         ensures number { IfOk result (λ lane. lane.number ≡ number) }
     {
         let guesses = if count < GUESSES { 0 } else { GUESSES };
+        let mut lines = room.unwrap_or(Vec::new(alloc));
+        lines.clear();
+        lines.reserve(count.saturating_mul(2))?;
         Ok(LaneCalls {
             number,
             cells: IndexSet::new(alloc),
             guesses: vec![in alloc; 0; guesses]?,
-            lines: Vec::with_capacity(alloc, count.saturating_mul(2))?,
+            lines,
         })
     }
 

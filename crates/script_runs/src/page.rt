@@ -27,16 +27,16 @@ use std::alloc::Global;
 use std::sync::Wait;
 use std::thread::{Threads, join_mut};
 
-/// From how many series on the flush of a round is made beside its page. Fewer aren't worth a thread.
+/// From how many series and calls on the flush of a round is made beside its page. Fewer aren't worth a thread.
 const MANY: usize = 4096;
 
-/// Writes the page at a moment, and the flush into payloads, and answers how many of its points were left out, modulo 2^64. Of
-/// many series the flush is made beside the page.
+/// Writes the page at a moment, and the flush into payloads, and answers how many of its points were left out, modulo 2^64. For much
+/// work, counted in series and calls, the flush is made beside the page.
 pub(crate) fn write_both<R: Threads + Wait + Sync, K: Sink>(
     rt: &R,
     alloc: Global,
     moment: u64,
-    series: usize,
+    work: usize,
     exporters: &mut Exporters,
     flushes: &mut Flushes,
     out: &mut K,
@@ -58,7 +58,7 @@ pub(crate) fn write_both<R: Threads + Wait + Sync, K: Sink>(
     ensures cause { IfErr result (IsPlayFault (Rose (K.faults out.old) (K.faults out.new))) }
     ensures never_falls { K.faults out.old ≤ K.faults out.new }
 {
-    if series < MANY {
+    if work < MANY {
         let pages = &mut exporters.prometheus;
         write_page(rt, alloc, moment, pages, out)?;
         let lines = &mut exporters.dogstatsd;

@@ -14,9 +14,9 @@ ghost use Rattle.script_runs.specs.Timely.{RiseFrom};
 
 use crate::flushes::{Flushes, lines_exporter};
 use crate::gates::GateHook;
-use crate::lanes::lanes_of;
+use crate::lanes::{LineRoom, keep_rooms, lanes_of};
 use crate::page::write_both;
-use crate::set_up::{lines_for_flushes, registers, registers_a, set_up_both};
+use crate::set_up::{SetupCounts, lines_for_flushes, set_up_both};
 use crate::settings::builder_of;
 use crate::{Gate, Report};
 use cell_lanes::run_lanes;
@@ -87,6 +87,8 @@ pub struct Player {
     /// For each of these handles, where to look for its series first.
     pub line_guesses: Vec<u32>,
     pub flushes: Flushes,
+    /// What the lanes of the next round put their lines in.
+    pub rooms: Vec<LineRoom>,
 }
 
 impl Player {
@@ -146,6 +148,7 @@ impl Player {
                 line_handles: Vec::new(alloc),
                 line_guesses: Vec::new(alloc),
                 flushes,
+                rooms: Vec::new(alloc),
             }),
             Err(_) => Err(Memory),
         }
@@ -199,6 +202,7 @@ impl Player {
             line_handles: _,
             line_guesses: _,
             flushes: _,
+            rooms: _,
         } = self;
         let Exporters {
             prometheus,
@@ -254,13 +258,13 @@ impl Player {
             calls,
         } = round;
         self.set_up(rt, alloc, setup)?;
+        let work = self.handles.len().saturating_add(calls.len());
         self.make_calls(rt, alloc, gate, moment, calls)?;
-        let series = self.handles.len();
         let dropped = write_both(
             rt,
             alloc,
             moment,
-            series,
+            work,
             &mut self.exporters,
             &mut self.flushes,
             out,
@@ -306,18 +310,14 @@ impl Player {
         ensures line_handles { self.new.line_handles.items ≡ self.old.line_handles.items }
         ensures flushes { self.new.flushes ≡ self.old.flushes }
     {
-        let registrations = setup.iter().filter(|line| registers(line)).count();
+        let SetupCounts {
+            counters,
+            gauges,
+            registrations,
+        } = SetupCounts::of(setup);
         if registrations < self.handles.len() {
             return Ok(());
         }
-        let counters = setup
-            .iter()
-            .filter(|line| registers_a(line, MetricKind::Counter))
-            .count();
-        let gauges = setup
-            .iter()
-            .filter(|line| registers_a(line, MetricKind::Gauge))
-            .count();
         self.exporters.prometheus.reserve(counters, gauges)?;
         self.exporters.dogstatsd.reserve(counters, gauges)?;
         self.handles.reserve(registrations)?;
@@ -359,8 +359,11 @@ impl Player {
             &mut self.line_guesses,
             moment,
             &calls,
+            &mut self.rooms,
         )?;
         drop(calls);
-        run_lanes(rt, alloc, &GateHook { gate }, &mut self.exporters, &lanes)
+        let run = run_lanes(rt, alloc, &GateHook { gate }, &mut self.exporters, &lanes);
+        keep_rooms(&mut self.rooms, lanes);
+        run
     }
 }

@@ -117,7 +117,7 @@ pub fn serve_script<
         (Rose (S.faults source.old) (S.faults source.new)) (Rose (N.faults listener.old) (N.faults listener.new)) (serve_end_status result)) }
 {
     let start = HashStart::drawn(rt);
-    let script = read_whole_script(alloc, start, source)?;
+    let script = read_whole_script(rt, alloc, start, source)?;
     check_settings(&script.settings, &default_agent())?;
     let served = play_and_serve(rt, alloc, start, gate, script, networks, listener, count)?;
     Ok(served)

@@ -281,16 +281,38 @@ fn register_row(
     Ok(())
 }
 
-/// Whether a setup line registers a series.
-pub(crate) fn registers(line: &Setup) -> bool {
-    matches!(line, Setup::Register { .. })
+/// How many setup lines register a series, and how many of them a counter and a gauge.
+#[derive(Clone, Copy)]
+pub(crate) struct SetupCounts {
+    pub(crate) counters: usize,
+    pub(crate) gauges: usize,
+    pub(crate) registrations: usize,
 }
 
-/// Whether a setup line registers a series of this kind.
-pub(crate) fn registers_a(line: &Setup, kind: MetricKind) -> bool {
-    match line {
-        Setup::Register { kind: own, key: _ } => *own == kind,
-        Setup::Describe { .. } => false,
+impl SetupCounts {
+    /// The counts of setup lines.
+    pub(crate) fn of(setup: &[Setup]) -> SetupCounts {
+        let mut counts = SetupCounts {
+            counters: 0,
+            gauges: 0,
+            registrations: 0,
+        };
+        for line in setup {
+            if let Setup::Register { kind, .. } = line {
+                counts.count(*kind);
+            }
+        }
+        counts
+    }
+
+    /// Counts one more line that registers a series of a kind.
+    fn count(&mut self, kind: MetricKind) {
+        self.registrations = self.registrations.saturating_add(1);
+        match kind {
+            MetricKind::Counter => self.counters = self.counters.saturating_add(1),
+            MetricKind::Gauge => self.gauges = self.gauges.saturating_add(1),
+            MetricKind::Histogram => (),
+        }
     }
 }
 

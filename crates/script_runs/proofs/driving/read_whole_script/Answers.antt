@@ -17,10 +17,10 @@ pub returns-clause-read : goal.returns-clause-read
 returns-clause-read g c =
     let Whole : List ℕ → Type 0 = λ items. IfSome (g.S.Source.left c.args.source.now) (λ bytes. items ≡ bytes) in
     let Within : List ℕ → Type 0 = λ items. length items ≤ script_limit in
-    read_as c.read_script_from.result _ c.deref.result.now (subst Whole (sym c.deref.ensures.value) c.in_ok-bytes.ensures.whole) (subst Within (sym c.deref.ensures.value) c.in_ok-bytes.ensures.within) c.read_script_from.ensures.valid
+    read_as c.read_script_beside.result _ c.deref.result.now (subst Whole (sym c.deref.ensures.value) c.in_ok-bytes.ensures.whole) (subst Within (sym c.deref.ensures.value) c.in_ok-bytes.ensures.within) c.read_script_beside.ensures.valid
 
 pub returns-clause-refused : goal.returns-clause-refused
 returns-clause-refused g c =
     let Whole : List ℕ → Type 0 = λ items. IfSome (g.S.Source.left c.args.source.now) (λ bytes. items ≡ bytes) in
     let Within : List ℕ → Type 0 = λ items. length items ≤ script_limit in
-    unread_script c.read_script_from.result _ _ c.deref.result.now (subst Whole (sym c.deref.ensures.value) c.in_ok-bytes.ensures.whole) (subst Within (sym c.deref.ensures.value) c.in_ok-bytes.ensures.within) c.read_script_from.ensures.refused
+    unread_script c.read_script_beside.result _ _ c.deref.result.now (subst Whole (sym c.deref.ensures.value) c.in_ok-bytes.ensures.whole) (subst Within (sym c.deref.ensures.value) c.in_ok-bytes.ensures.within) c.read_script_beside.ensures.refused
