@@ -3,7 +3,7 @@
 ghost use Rattle.std.specs.Prelude.{◌≡◌, ◌<◌, ◌++◌, ◌∷◌, [], ℕ, List, Some, flat_map, length, slice_get, IfOk, IfSome, IsTrue, OnOk};
 ghost use Rattle.std.specs.List.{AllZip};
 ghost use Rattle.metrics_core.specs.Characters.{newline};
-ghost use Rattle.drive_script.specs.Runs.{AreSaid, IsReadAs, lines_said, said_so_far};
+ghost use Rattle.drive_script.specs.Runs.{AreSaid, AreTaken, IsReadAs, lines_said, said_so_far};
 ghost use Rattle.drive_script.specs.Script.{IsLine, lines_of};
 ghost use Rattle.drive_script.specs.Texts.{line_of, script_of, StandsBehind};
 ghost use Rattle.drive_script.specs.Valid.{IsScriptOf};
@@ -19,10 +19,10 @@ use metrics_core::Memory;
 use std::alloc::Global;
 use std::marker::Model;
 use std::mem;
-use std::thread::{Threads, for_each_mut};
+use std::thread::{Threads, for_each_mut, join_mut};
 
 /// How many bytes a piece has at least, but the last one. Fewer aren't worth a thread.
-const LEAST_BYTES: usize = 131_072;
+const LEAST_BYTES: usize = 524_288;
 
 /// How many pieces are read side by side.
 const PIECES: usize = 4;
@@ -95,15 +95,19 @@ pub(crate) fn read_pieces<R: Threads + Sync>(
     ensures { IfOk result (λ read. IfSome read (λ script. IsScriptOf bytes.now (script_of script))) }
 {
     let mut progress = ScriptSoFar::new(alloc, start);
-    let mut rooms = Vec::with_capacity(alloc, PIECES)?;
+    let mut rooms = Vec::new(alloc);
+    let mut read = Vec::new(alloc);
     let mut rest = bytes;
     while !rest.is_empty() {
-        let (mut pieces, behind) = first_pieces(alloc, &mut rooms, rest)?;
-        read_beside(rt, alloc, &mut pieces);
-        if !take_pieces(alloc, &mut progress, pieces, &mut rooms)? {
+        let (mut next, behind) = first_pieces(alloc, &mut rooms, rest)?;
+        if !take_beside(rt, alloc, &mut progress, &mut read, &mut rooms, &mut next)? {
             return Ok(None);
         }
+        read = next;
         rest = behind;
+    }
+    if !take_pieces(rt, alloc, &mut progress, &mut read, &mut rooms)? {
+        return Ok(None);
     }
     Ok(Some(progress.into_script()))
 }
@@ -227,18 +231,39 @@ fn end_calls(alloc: Global, said: &mut Vec<Run>, calls: &mut Vec<CallLine>) -> R
     Ok(())
 }
 
-/// Takes what the lines of pieces say behind the lines so far, in order, and gives their rooms back. Answers whether all of them
-/// are a valid script.
-fn take_pieces(
+/// Takes what the lines of pieces say behind the lines so far, as `take_pieces` does, and beside it reads the next pieces. Both
+/// calls borrow the runtime: the borrow checker doesn't cover two closures side by side of which only one does.
+fn take_beside<R: Threads + Sync>(
+    rt: &R,
     alloc: Global,
     progress: &mut ScriptSoFar,
-    pieces: Vec<Piece<'_>>,
+    read: &mut Vec<Piece<'_>>,
+    rooms: &mut Vec<Vec<Run>>,
+    next: &mut Vec<Piece<'_>>,
+) -> Result<bool, Memory>
+    ensures next { next.new.items ≡ next.old.items }
+    ensures taken { AreTaken (flat_map (λ lines. lines) read.old.items) progress.old progress.new result }
+{
+    let ((), taken) = join_mut(
+        rt,
+        &mut || read_beside(rt, alloc, next),
+        &mut || take_pieces(rt, alloc, progress, read, rooms),
+    );
+    taken
+}
+
+/// Takes what the lines of pieces say behind the lines so far, in order, and gives their rooms back. Answers whether all of them
+/// are a valid script.
+fn take_pieces<R>(
+    _rt: &R,
+    alloc: Global,
+    progress: &mut ScriptSoFar,
+    pieces: &mut Vec<Piece<'_>>,
     rooms: &mut Vec<Vec<Run>>,
 ) -> Result<bool, Memory>
-    ensures { (done : List (List ℕ)) → StandsBehind done progress.old
-        → IfOk result (λ taken. IsTrue taken → StandsBehind (done ++ flat_map (λ lines. lines) pieces.entry.items) progress.new) }
+    ensures { AreTaken (flat_map (λ lines. lines) pieces.old.items) progress.old progress.new result }
 {
-    for piece in pieces {
+    for piece in pieces.drain(..) {
         let (mut said, read) = piece.into_said();
         if !read? || !take_runs(alloc, progress, &mut said)? {
             return Ok(false);
