@@ -415,7 +415,7 @@ module _ {A : Type 0} (tells : LaneCalls → List A) where
   told_more (x ∷ gs) y zero none = refl
   told_more (x ∷ gs) y (suc k) none = told_more gs y k none
 
-  told_here : (gs : List LaneCalls) (lane : ℕ) (x : LaneCalls) → get_elem? gs lane ≡ some x → told_of tells gs lane ≡ tells x
+  pub told_here : (gs : List LaneCalls) (lane : ℕ) (x : LaneCalls) → get_elem? gs lane ≡ some x → told_of tells gs lane ≡ tells x
   told_here [] lane x at = absurd (some-ne-none x (sym at))
   told_here (g ∷ gs) zero x at = ap tells (some-injective g x at)
   told_here (g ∷ gs) (suc lane) x at = told_here gs lane x at

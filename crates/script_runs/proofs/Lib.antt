@@ -9,6 +9,7 @@ pub mod Sayings
 pub mod WordSteps
 pub mod Fits
 pub mod LaneSteps
+pub mod LaneTables
 pub mod LaneOrders
 pub mod Numbers
 pub mod TimelyRounds

@@ -20,4 +20,5 @@ pub mod Timely
 pub mod Recorded
 pub mod Fitting
 pub mod LaneCalls
+pub mod LaneTables
 pub mod Vectors

@@ -16,8 +16,10 @@ ghost use Rattle.exporter_lanes.specs.ExporterLanes.{first_prometheus, things_of
 ghost use Rattle.drive_script.specs.Script.{kind_of};
 ghost use Rattle.drive_script.specs.Texts.{act_of, call_line_of};
 ghost use Rattle.script_runs.specs.Fitting.{FitsHandle};
+ghost use Rattle.script_runs.specs.LaneTables.{AreGathered, IsLaneOf, IsPlaceOf, places_of};
 ghost use Rattle.script_runs.specs.LaneCalls.{AllAsked, AreInPlace, AreReady, AreWith, AsksKind, IsOfKind, PlacesAsk, SeriesIds, asked, both_at, call_asked, calls_at, gathered_asked, gathered_at, gathered_parts, has_lines, ids_of, is_at, is_place, lane_asks, lane_cells, lane_lines, lane_number, numbered_asked, numbered_at, on_both, parts_of};
 
+use crate::lane_tasks::gather_beside;
 use cell_lanes::{Lane, Line};
 use drive_script::{Act, CallLine};
 use dsd_exporter::State;
@@ -26,19 +28,24 @@ use indexmap::IndexSet;
 use metrics_core::{Memory, SeriesCall, SeriesId};
 use prom_exporter::PrometheusState;
 use std::alloc::Global;
+use std::thread::Threads;
 
 /// How many numbers a lane may have.
 const LANES: usize = 256;
+
+/// From how many calls on they are gathered side by side. Fewer aren't worth a thread.
+const MANY: usize = 16_384;
 
 /// How many series a lane of many calls has guesses for.
 const GUESSES: usize = 1024;
 
 /// The lanes of a round at a moment that have calls, each with its number. A call line is two lines of its lane: its call on the
 /// Prometheus series that the handle names, and the same on the DogStatsD series. Where an exporter has no such series, the line is
-/// on none. `handles` are the series that register lines were given by the Prometheus exporter, `line_handles` those by the
+/// on none. Many calls are gathered side by side. `handles` are the series that register lines were given by the Prometheus exporter, `line_handles` those by the
 /// DogStatsD exporter, and for each of them a guess says where to look first. The lines stand in the rooms of lanes before, as far
 /// as there are any.
-pub(crate) fn lanes_of(
+pub(crate) fn lanes_of<R: Threads + Sync>(
+    rt: &R,
     alloc: Global,
     exporters: &Exporters,
     handles: &[SeriesId],
@@ -69,8 +76,88 @@ pub(crate) fn lanes_of(
         → get_elem? lanes.items i ≡ some lane → 0 < length lane.lines.items) }
     ensures numbered { IsNumbered exporters.now.dogstatsd.series }
 {
-    let first = exporters.dogstatsd.series_count();
+    let gathered = gathered_of(
+        rt,
+        alloc,
+        exporters,
+        handles,
+        guesses,
+        line_handles,
+        line_guesses,
+        moment,
+        calls,
+        rooms,
+    )?;
+    into_lanes(alloc, gathered)
+}
+
+/// Gathers the calls of a round at a moment on their lanes, many of them side by side. The arguments are those of `lanes_of`.
+fn gathered_of<R: Threads + Sync>(
+    rt: &R,
+    alloc: Global,
+    exporters: &Exporters,
+    handles: &[SeriesId],
+    guesses: &mut [u32],
+    line_handles: &[SeriesId],
+    line_guesses: &mut [u32],
+    moment: u64,
+    calls: &[CallLine],
+    rooms: &mut Vec<LineRoom>,
+) -> Result<Vec<LaneCalls>, Memory>
+    requires fit { All (λ line. FitsHandle handles.now (call_line_of line)) calls.now }
+    requires line_fit { All (λ line. FitsHandle line_handles.now (call_line_of line)) calls.now }
+    ensures gathered { IfOk result (λ gathered. AreGathered exporters.now handles.now line_handles.now moment calls.now gathered.items) }
+    ensures numbered { IsNumbered exporters.now.dogstatsd.series }
+{
     let counts = count_calls(calls);
+    if calls.len() < MANY || calls.len() < handles.len() {
+        return gather_all(
+            alloc,
+            exporters,
+            handles,
+            guesses,
+            line_handles,
+            line_guesses,
+            moment,
+            calls,
+            &counts,
+            rooms,
+        );
+    }
+    gather_beside(
+        rt,
+        alloc,
+        exporters,
+        handles,
+        guesses,
+        line_handles,
+        line_guesses,
+        moment,
+        calls,
+        &counts,
+        rooms,
+    )
+}
+
+/// Gathers the calls of a round at a moment on their lanes, in order. The arguments are those of `lanes_of`.
+fn gather_all(
+    alloc: Global,
+    exporters: &Exporters,
+    handles: &[SeriesId],
+    guesses: &mut [u32],
+    line_handles: &[SeriesId],
+    line_guesses: &mut [u32],
+    moment: u64,
+    calls: &[CallLine],
+    counts: &LaneCounts,
+    rooms: &mut Vec<LineRoom>,
+) -> Result<Vec<LaneCalls>, Memory>
+    requires fit { All (λ line. FitsHandle handles.now (call_line_of line)) calls.now }
+    requires line_fit { All (λ line. FitsHandle line_handles.now (call_line_of line)) calls.now }
+    ensures gathered { IfOk result (λ gathered. AreGathered exporters.now handles.now line_handles.now moment calls.now gathered.items) }
+    ensures numbered { IsNumbered exporters.now.dogstatsd.series }
+{
+    let first = exporters.dogstatsd.series_count();
     let mut gathered = Vec::new(alloc);
     for line in calls {
         let prometheus = prometheus_index(&exporters.prometheus, handles, guesses, line);
@@ -82,14 +169,14 @@ pub(crate) fn lanes_of(
         gather(
             alloc,
             &mut gathered,
-            &counts,
+            counts,
             rooms,
             lane,
             places,
             call_of(moment, line.act),
         )?;
     }
-    into_lanes(alloc, gathered)
+    Ok(gathered)
 }
 
 /// Where the two series of a call line stand among those of both exporters.
@@ -101,8 +188,7 @@ pub struct Places {
     pub dogstatsd: Option<usize>,
 }
 
-/// The index in its exporter of the Prometheus series that a call line's handle names, if it is live. A guess for each handle says
-/// where to look first.
+/// The index in its exporter of the Prometheus series that a call line's handle names, if it is live.
 fn prometheus_index(
     exporter: &PrometheusState,
     handles: &[SeriesId],
@@ -115,8 +201,21 @@ fn prometheus_index(
     ensures kind { IfSome result (λ index.
         IsOfKind (P.ids_of exporter.now) index (kind_of (act_of line.now.act))) }
 {
-    let id = id_of(handles, line)?;
-    match guesses.get_mut(line.handle as usize) {
+    prometheus_place(exporter, handles, guesses, line.handle as usize)
+}
+
+/// The index in its exporter of the Prometheus series that a handle names, if it is live. A guess for each handle says where to look
+/// first.
+pub(crate) fn prometheus_place(
+    exporter: &PrometheusState,
+    handles: &[SeriesId],
+    guesses: &mut [u32],
+    handle: usize,
+) -> Option<usize>
+    ensures { IsPlaceOf (P.ids_of exporter.now) (slice_get handles.now handle) result }
+{
+    let id = id_of(handles, handle)?;
+    match guesses.get_mut(handle) {
         Some(guess) => exporter.index_near(id, guess),
         None => exporter.index_of(id),
     }
@@ -135,15 +234,27 @@ fn dogstatsd_index(
     ensures kind { IfSome result (λ index.
         IsOfKind (D.ids_of exporter.now) index (kind_of (act_of line.now.act))) }
 {
-    let id = id_of(handles, line)?;
-    match guesses.get_mut(line.handle as usize) {
+    dogstatsd_place(exporter, handles, guesses, line.handle as usize)
+}
+
+/// The same of the DogStatsD series.
+pub(crate) fn dogstatsd_place(
+    exporter: &State,
+    handles: &[SeriesId],
+    guesses: &mut [u32],
+    handle: usize,
+) -> Option<usize>
+    ensures { IsPlaceOf (D.ids_of exporter.now) (slice_get handles.now handle) result }
+{
+    let id = id_of(handles, handle)?;
+    match guesses.get_mut(handle) {
         Some(guess) => exporter.index_near(id, guess),
         None => exporter.index_of(id),
     }
 }
 
 /// An index behind so many others. Where no number is left for it, so many series have no room in memory.
-fn behind(first: usize, index: Option<usize>) -> Result<Option<usize>, Memory>
+pub(crate) fn behind(first: usize, index: Option<usize>) -> Result<Option<usize>, Memory>
     ensures { IfOk result (λ found. found ≡ option_map (λ k. first + k) index) }
 {
     match index {
@@ -155,21 +266,42 @@ fn behind(first: usize, index: Option<usize>) -> Result<Option<usize>, Memory>
     }
 }
 
-/// How many of these calls each lane has.
-fn count_calls(calls: &[CallLine]) -> [usize; LANES] {
-    let mut counts = [0_usize; LANES];
-    for line in calls {
-        let count = &mut counts[usize::from(line.lane)];
-        *count = count.saturating_add(1);
+/// How many calls of a round each lane has, and a number above those of all lanes that have any.
+#[derive(Drop)]
+pub(crate) struct LaneCounts {
+    counts: [usize; LANES],
+    pub(crate) lanes: usize,
+}
+
+impl LaneCounts {
+    /// How many calls a lane has, for its room alone.
+    pub(crate) fn of_lane(&self, number: usize) -> usize {
+        self.counts.get(number).copied().unwrap_or(0)
     }
-    counts
+}
+
+/// Counts the calls of each lane.
+fn count_calls(calls: &[CallLine]) -> LaneCounts
+    ensures { All (λ line. line.lane < result.lanes) calls.now }
+{
+    let mut counts = [0_usize; LANES];
+    let mut lanes = 0;
+    for line in calls {
+        let lane = usize::from(line.lane);
+        let count = &mut counts[lane];
+        *count = count.saturating_add(1);
+        if lane >= lanes {
+            lanes = lane + 1;
+        }
+    }
+    LaneCounts { counts, lanes }
 }
 
 /// Puts a call last on a lane, on the series at both places. Lanes that begin have room for as many calls as the counts say.
 fn gather(
     alloc: Global,
     gathered: &mut Vec<LaneCalls>,
-    counts: &[usize],
+    counts: &LaneCounts,
     rooms: &mut Vec<LineRoom>,
     lane: usize,
     places: Places,
@@ -196,7 +328,7 @@ fn gather(
 fn make_room(
     alloc: Global,
     gathered: &mut Vec<LaneCalls>,
-    counts: &[usize],
+    counts: &LaneCounts,
     rooms: &mut Vec<LineRoom>,
     lane: usize,
 ) -> Result<(), Memory>
@@ -212,8 +344,7 @@ fn make_room(
         → gathered_asked gathered.new.items l ≡ gathered_asked gathered.old.items l) }
 {
     for number in gathered.len()..lane + 1 {
-        let count = counts.get(number).copied().unwrap_or(0);
-        let empty = LaneCalls::with_room(alloc, number, count, rooms.pop())?;
+        let empty = LaneCalls::with_room(alloc, number, counts.of_lane(number), rooms.pop())?;
         gathered.push(empty)?;
     }
     Ok(())
@@ -283,6 +414,28 @@ impl LaneCalls {
             guesses: vec![in alloc; 0; guesses]?,
             lines,
         })
+    }
+
+    /// The lane with this number of those whose calls these are, in a round at a moment, with its calls, each on the series whose
+    /// places a table has for its handle. The count and the room are those of `with_room`.
+    pub(crate) fn of_calls(
+        alloc: Global,
+        number: usize,
+        count: usize,
+        room: Option<LineRoom>,
+        moment: u64,
+        table: &[Places],
+        calls: &[CallLine],
+    ) -> Result<LaneCalls, Memory>
+        ensures { IfOk result (IsLaneOf (record { number = number; moment = moment; table = table.now; calls = calls.now })) }
+    {
+        let mut lane = LaneCalls::with_room(alloc, number, count, room)?;
+        for line in calls {
+            if usize::from(line.lane) == number {
+                lane.push_both(places_of(table, line.handle), call_of(moment, line.act))?;
+            }
+        }
+        Ok(lane)
     }
 
     /// Puts a call last, first on the Prometheus series and then on the DogStatsD series, each at its place or on none.
@@ -391,11 +544,24 @@ fn is_cell(cells: &IndexSet<usize>, slot: usize, index: usize) -> bool
     }
 }
 
-/// The id that a call line's handle has.
-fn id_of(handles: &[SeriesId], line: &CallLine) -> Option<SeriesId>
-    ensures { result ≡ slice_get handles.now line.now.handle }
+/// The id that a handle names, if any.
+fn id_of(handles: &[SeriesId], handle: usize) -> Option<SeriesId>
+    ensures { result ≡ slice_get handles.now handle }
 {
-    handles.get(line.handle as usize).copied()
+    handles.get(handle).copied()
+}
+
+/// The places of a handle in a table. One that it doesn't have is on no series.
+fn places_of(table: &[Places], handle: u32) -> Places
+    ensures { result ≡ places_of table.now handle }
+{
+    match table.get(handle as usize) {
+        Some(places) => *places,
+        None => Places {
+            prometheus: None,
+            dogstatsd: None,
+        },
+    }
 }
 
 /// The call on a series that a call line makes in a round at a moment.

@@ -351,6 +351,7 @@ impl Player {
         ensures called { OnOk result ((round : RoundText) → round.moment ≡ moment → round.calls ≡ map call_line_of calls.items → IsCalled (state_of self.old) round (state_of self.new)) }
     {
         let lanes = lanes_of(
+            rt,
             alloc,
             &self.exporters,
             &self.handles,

@@ -1,127 +1,64 @@
-use Rattle.std.proofs.Common.{◌≡◌, ◌+◌, ◌<◌, ◌++◌, ℕ, List, [], length, map, take, refl, sym, ap, subst, ◌∙◌}
-use Rattle.std.specs.Prelude.{◌==◌, ◌&&◌, IfSome, flat_map, if◌then◌else◌, option_map, slice_index_or}
-use Rattle.std.proofs.lemmas.List.{map-append, take_more}
-use Rattle.std.proofs.lemmas.List.Concat.{flat_map-append}
+use Rattle.std.proofs.Common.{◌≡◌, ◌+◌, ◌<◌, ℕ, length, map, subst, ◌∙◌}
+use Rattle.std.specs.Prelude.{flat_map}
 use Rattle.std.proofs.lemmas.Result.{IfOk-weaker}
 use mathlib.Core.Option.{some}
 use lib.ListN.{get_elem?}
 use Rattle.cell_lanes.specs.declared.lane.Lane.{Lane}
 use Rattle.cell_lanes.specs.Lanes.{AllFit}
-use Rattle.cell_lanes.proofs.Lists.{take_whole}
-use Rattle.legal_history.specs.History.{Distinct, keep}
-use Rattle.metrics_core.specs.declared.calls.SeriesCall.{SeriesCall}
+use Rattle.legal_history.specs.History.{Distinct}
 use Rattle.prom_exporter.specs.LanePasses as P
 use Rattle.dsd_exporter.specs.LanePasses as D
 use Rattle.exporter_lanes.specs.declared.exporters.ExporterCall.{ExporterCall}
 use Rattle.exporter_lanes.specs.declared.exporters.ExporterCall.TheVariants as exporter
 use Rattle.exporter_lanes.specs.ExporterLanes.{first_prometheus, things_of}
-use Rattle.drive_script.specs.declared.script.CallLine.{CallLine}
-use Rattle.drive_script.specs.declared.script.Act.TheVariants as acts
-use Rattle.script_runs.specs.declared.lanes.Places.{Places}
-use Rattle.script_runs.specs.LaneCalls.{AllAsked, HasLane, IsOfKind, PlacesAsk, asked, both_at, calls_at, ids_of, is_at, kind_asked, lane_asks, lane_number, numbered_asked, numbered_at, on_both}
-use Rattle.script_runs.proofs.LaneSteps.{built_asked, built_at, built_busy, built_numbers, built_ready, both_many, calls_at-last, dogstatsd_many, dogstatsd_step, kind_of_asked, kinds_below, lane_asks-last, lines_step, if_ok_both, places_ask, prometheus_step}
+use Rattle.script_runs.specs.LaneCalls.{AllAsked, calls_at, ids_of, lane_asks, lane_number, numbered_asked, numbered_at, on_both}
+use Rattle.script_runs.proofs.LaneSteps.{built_asked, built_at, built_busy, built_numbers, built_ready, both_many, if_ok_both}
 use Rattle.script_runs.proofs.lanes.lanes_of.Goals as goal
 
-default : CallLine
-default = record { lane = 0; handle = 0; act = acts.Inc 0 }
-
-pub gather-requires-clause-ready : goal.gather-requires-clause-ready
-gather-requires-clause-ready c = (ids_of c.args.exporters.now, c.loop-line.invariant.ready)
-
-pub loop-line-preserved : goal.loop-line-preserved
-unfolding default
-loop-line-preserved c =
-    let i = c.loop-line.line-index in
-    let inv = c.loop-line.invariant in
-    let e = c.in_ok-gather.ensures in
-    let exporters = c.args.exporters.now in
-    let first = first_prometheus exporters in
-    let ids = ids_of exporters in
-    let moment = c.args.moment in
-    let handles = c.args.handles.now in
-    let line_handles = c.args.line_handles.now in
-    let line : CallLine = slice_index_or c.args.calls.now i default in
-    let call = asked moment line.act in
-    let more = take_more c.args.calls.now i default c.loop-line-test.true in
-    let found = c.prometheus_index-prometheus.result in
-    let other = c.dogstatsd_index.result in
-    let places : Places = record { prometheus = c.in_ok-behind.field-0; dogstatsd = other } in
-    let at : places.prometheus ≡ option_map (λ k. first + k) found = c.in_ok-behind.ensures ∙ ap (λ n. option_map (λ k. n + k) found) c.series_count-first.ensures.count in
-    let is : IfSome found (λ k. IsOfKind ids.prometheus k (kind_asked call)) = subst (λ kind. IfSome found (λ k. IsOfKind ids.prometheus k kind)) (kind_of_asked moment line.act) c.prometheus_index-prometheus.ensures.kind in
-    let is_other : IfSome other (λ k. IsOfKind ids.dogstatsd k (kind_asked call)) = subst (λ kind. IfSome other (λ k. IsOfKind ids.dogstatsd k kind)) (kind_of_asked moment line.act) c.dogstatsd_index.ensures.kind in
-    let within : IfSome other (λ k. k < first) = subst (λ n. IfSome other (λ k. k < n)) (dogstatsd_many exporters.dogstatsd) (kinds_below ids.dogstatsd (kind_asked call) other is_other) in
-    let asks = subst (PlacesAsk ids places) (sym c.call_of.ensures) (places_ask ids first found other places call (dogstatsd_many exporters.dogstatsd) at refl is is_other) in
-    let own : (n : ℕ) → (xs : SeriesCall → List ExporterCall) → (if c.from-lane.result == n then xs c.call_of.result else []) ≡ (if HasLane n line then xs call else [])
-    = λ n xs k. if c.from-lane.ensures k == n then xs (c.call_of.ensures k) else [] in
-    record {
-      ready = e.ready ids asks inv.ready;
-      places = e.places;
-      prometheus = λ j n. e.calls (first + j) n
-          ∙ (λ k. inv.prometheus j n k ++ (own n (both_at (first + j) places) ∙ prometheus_step first found other within places at refl (HasLane n line) call j (is_at ids.prometheus handles j line) (c.prometheus_index-prometheus.ensures.index j)) k)
-          ∙ sym (ap (λ ls. map exporter.Prometheus (calls_at moment ids.prometheus handles n j ls)) more
-          ∙ ap (map exporter.Prometheus) (calls_at-last moment ids.prometheus handles n j (take i c.args.calls.now) line)
-          ∙ map-append exporter.Prometheus (calls_at moment ids.prometheus handles n j (take i c.args.calls.now)) (keep (HasLane n line && is_at ids.prometheus handles j line) call []));
-      dogstatsd = λ j n below. e.calls j n
-          ∙ (λ k. inv.dogstatsd j n below k ++ (own n (both_at j places) ∙ dogstatsd_step first found other within places at refl (HasLane n line) call j (is_at ids.dogstatsd line_handles j line) below (c.dogstatsd_index.ensures.index j)) k)
-          ∙ sym (ap (λ ls. map exporter.DogStatsD (calls_at moment ids.dogstatsd line_handles n j ls)) more
-          ∙ ap (map exporter.DogStatsD) (calls_at-last moment ids.dogstatsd line_handles n j (take i c.args.calls.now) line)
-          ∙ map-append exporter.DogStatsD (calls_at moment ids.dogstatsd line_handles n j (take i c.args.calls.now)) (keep (HasLane n line && is_at ids.dogstatsd line_handles j line) call []));
-      lines = λ n. e.lines n
-          ∙ (λ k. inv.lines n k ++ (own n on_both ∙ lines_step (HasLane n line) call) k)
-          ∙ sym (ap (λ ls. flat_map on_both (lane_asks moment n ls)) more
-          ∙ ap (flat_map on_both) (lane_asks-last moment n (take i c.args.calls.now) line)
-          ∙ flat_map-append on_both (lane_asks moment n (take i c.args.calls.now)) (keep (HasLane n line) call []));
-    }
-
 pub returns-clause-fit : goal.returns-clause-fit
-returns-clause-fit c =
+returns-clause-fit g c =
     let exporters = c.args.exporters.now in
     let ids = ids_of exporters in
     let e = c.into_lanes.ensures in
     IfOk-weaker c.into_lanes.result _ (λ lanes. AllFit (length (things_of exporters)) lanes.items)
     (λ lanes is l lane at.
-    let ready = built_ready lanes.items c.loop-line.gathered.items is.0 ids c.loop-line.invariant.ready l lane at in
+    let ready = built_ready lanes.items c.in_ok-gathered.gathered.items is.0 ids c.in_ok-gathered.ensures.gathered.ready l lane at in
     record { cells = λ s j cell. subst (λ n. j < n) (both_many exporters) (ready.1.0 s j cell); once = is.1 l lane at; lines = ready.0 })
     (if_ok_both c.into_lanes.result _ _ e.parts e.once)
 
 pub returns-clause-asked : goal.returns-clause-asked
-returns-clause-asked c =
+returns-clause-asked g c =
     let ids = ids_of c.args.exporters.now in
     IfOk-weaker c.into_lanes.result _ (λ lanes. (l : ℕ) (lane : Lane ExporterCall) → get_elem? lanes.items l ≡ some lane → AllAsked ids lane.cells.items lane.lines.items)
-    (λ lanes is l lane at. (built_ready lanes.items c.loop-line.gathered.items is ids c.loop-line.invariant.ready l lane at).1) c.into_lanes.ensures.parts
+    (λ lanes is l lane at. (built_ready lanes.items c.in_ok-gathered.gathered.items is ids c.in_ok-gathered.ensures.gathered.ready l lane at).1) c.into_lanes.ensures.parts
 
 pub returns-clause-prometheus : goal.returns-clause-prometheus
-returns-clause-prometheus c =
+returns-clause-prometheus g c =
     let exporters = c.args.exporters.now in
     let ids = P.ids_of exporters.prometheus in
     let handles = c.args.handles.now in
-    let all : take c.loop-line.line-index c.args.calls.now ≡ c.args.calls.now = take_whole c.args.calls.now c.loop-line.line-index c.loop-line-test.false in
     IfOk-weaker c.into_lanes.result _ (λ lanes. (j l : ℕ) → numbered_at (first_prometheus exporters + j) lanes.items l ≡ map exporter.Prometheus (calls_at c.args.moment ids handles l j c.args.calls.now))
-    (λ lanes is j l. built_at lanes.items c.loop-line.gathered.items is c.loop-line.invariant.places (first_prometheus exporters + j) l ∙ c.loop-line.invariant.prometheus j l
-    ∙ ap (λ ls. map exporter.Prometheus (calls_at c.args.moment ids handles l j ls)) all) c.into_lanes.ensures.parts
+    (λ lanes is j l. built_at lanes.items c.in_ok-gathered.gathered.items is c.in_ok-gathered.ensures.gathered.places (first_prometheus exporters + j) l ∙ c.in_ok-gathered.ensures.gathered.prometheus j l) c.into_lanes.ensures.parts
 
 pub returns-clause-dogstatsd : goal.returns-clause-dogstatsd
-returns-clause-dogstatsd c =
+returns-clause-dogstatsd g c =
     let exporters = c.args.exporters.now in
     let ids = D.ids_of exporters.dogstatsd in
     let handles = c.args.line_handles.now in
-    let all : take c.loop-line.line-index c.args.calls.now ≡ c.args.calls.now = take_whole c.args.calls.now c.loop-line.line-index c.loop-line-test.false in
     IfOk-weaker c.into_lanes.result _ (λ lanes. (j l : ℕ) → j < first_prometheus exporters → numbered_at j lanes.items l ≡ map exporter.DogStatsD (calls_at c.args.moment ids handles l j c.args.calls.now))
-    (λ lanes is j l below. built_at lanes.items c.loop-line.gathered.items is c.loop-line.invariant.places j l ∙ c.loop-line.invariant.dogstatsd j l below
-    ∙ ap (λ ls. map exporter.DogStatsD (calls_at c.args.moment ids handles l j ls)) all) c.into_lanes.ensures.parts
+    (λ lanes is j l below. built_at lanes.items c.in_ok-gathered.gathered.items is c.in_ok-gathered.ensures.gathered.places j l ∙ c.in_ok-gathered.ensures.gathered.dogstatsd j l below) c.into_lanes.ensures.parts
 
 pub returns-clause-lines : goal.returns-clause-lines
-returns-clause-lines c =
-    let all : take c.loop-line.line-index c.args.calls.now ≡ c.args.calls.now = take_whole c.args.calls.now c.loop-line.line-index c.loop-line-test.false in
+returns-clause-lines g c =
     IfOk-weaker c.into_lanes.result _ (λ lanes. (l : ℕ) → numbered_asked lanes.items l ≡ flat_map on_both (lane_asks c.args.moment l c.args.calls.now))
-    (λ lanes is l. built_asked lanes.items c.loop-line.gathered.items is c.loop-line.invariant.places l ∙ c.loop-line.invariant.lines l ∙ ap (λ ls. flat_map on_both (lane_asks c.args.moment l ls)) all) c.into_lanes.ensures.parts
+    (λ lanes is l. built_asked lanes.items c.in_ok-gathered.gathered.items is c.in_ok-gathered.ensures.gathered.places l ∙ c.in_ok-gathered.ensures.gathered.lines l) c.into_lanes.ensures.parts
 
 pub returns-clause-numbers : goal.returns-clause-numbers
-returns-clause-numbers c =
+returns-clause-numbers g c =
     IfOk-weaker c.into_lanes.result _ (λ lanes. Distinct (map lane_number lanes.items))
-    (λ lanes is. built_numbers lanes.items c.loop-line.gathered.items is c.loop-line.invariant.places) c.into_lanes.ensures.parts
+    (λ lanes is. built_numbers lanes.items c.in_ok-gathered.gathered.items is c.in_ok-gathered.ensures.gathered.places) c.into_lanes.ensures.parts
 
 pub returns-clause-busy : goal.returns-clause-busy
-returns-clause-busy c =
+returns-clause-busy g c =
     IfOk-weaker c.into_lanes.result _ (λ lanes. (i : ℕ) (lane : Lane ExporterCall) → get_elem? lanes.items i ≡ some lane → 0 < length lane.lines.items)
-    (λ lanes is. built_busy lanes.items c.loop-line.gathered.items is) c.into_lanes.ensures.parts
+    (λ lanes is. built_busy lanes.items c.in_ok-gathered.gathered.items is) c.into_lanes.ensures.parts

@@ -1,16 +1,10 @@
-use Rattle.std.proofs.Common.{sym, ap, ◌∙◌, false}
-use Rattle.std.specs.Prelude.{option_map, unwrap_or}
+use Rattle.std.specs.Prelude.{slice_get}
 use Rattle.prom_exporter.specs.LanePasses.{ids_of}
-use Rattle.script_runs.specs.LaneCalls.{id_at}
-use Rattle.script_runs.proofs.LaneSteps.{prometheus_place}
+use Rattle.drive_script.specs.Script.{kind_of}
+use Rattle.drive_script.specs.Texts.{act_of}
+use Rattle.script_runs.proofs.LaneTables.{placed_kind}
 use Rattle.script_runs.proofs.lanes.prometheus_index.Goals as goal
 
-pub returns-in-Some-clause-index : goal.returns-in-Some-clause-index
-returns-in-Some-clause-index c j =
-    ap (λ o. unwrap_or (option_map (id_at (ids_of c.args.exporter.now) j) o) false) (sym c.in_ok-id.ensures)
-    ∙ prometheus_place c.args.exporter.now c.in_ok-id.id c.index_near.result c.index_near.ensures.numbered c.index_near.ensures.index j
-
-pub returns-in-None-clause-index : goal.returns-in-None-clause-index
-returns-in-None-clause-index c j =
-    ap (λ o. unwrap_or (option_map (id_at (ids_of c.args.exporter.now) j) o) false) (sym c.in_ok-id.ensures)
-    ∙ prometheus_place c.args.exporter.now c.in_ok-id.id c.index_of.result c.index_of.ensures.numbered c.index_of.ensures.index j
+pub returns-clause-kind : goal.returns-clause-kind
+returns-clause-kind c =
+    placed_kind (ids_of c.args.exporter.now) (slice_get c.args.handles.now c.args.line.now.handle) c.prometheus_place.result (kind_of (act_of c.args.line.now.act)) c.prometheus_place.ensures c.requires.fit
