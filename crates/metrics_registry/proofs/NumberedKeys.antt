@@ -1,6 +1,6 @@
 -- Keys that stand under numbers: which of them is found under the number of a key.
 use Rattle.std.proofs.Common.{◌≡◌, ℕ, zero, suc, ◌+◌, ◌<◌, Bool, true, false, cond, not, List, [], ◌∷◌, ◌++◌, length, map, Option, None, Some, refl, sym, ap, subst, ◌∙◌, true≢false, arith}
-use Rattle.std.specs.Prelude.{slice_get, nat_eq, nat_lt, position, is_some, unwrap_or, swap, remove, ◌||◌}
+use Rattle.std.specs.Prelude.{slice_get, nat_eq, nat_lt, position, is_some, unwrap_or, swap, remove, ◌||◌, if◌then◌else◌}
 use Rattle.std.specs.List.{position_or_len, list_any, IsDistinct, AllByRecursion}
 use Rattle.std.specs.Cmp.{Equal-is}
 use Rattle.std.specs.Hash as fed
@@ -14,9 +14,11 @@ use Rattle.std.proofs.lemmas.Bool.Decides.{nat_tests}
 use Rattle.std.proofs.lemmas.List.{map-append}
 use Rattle.std.proofs.lemmas.Map.Keys.{IsDistinct-head, IsDistinct-tail}
 use Rattle.std.proofs.lemmas.Map.Made.{is_some-lookup}
+use Rattle.std.proofs.lemmas.Option.{same_Some}
 use Rattle.std.proofs.lemmas.Nat.{from_le_bytes-to_le_bytes_8}
 use Rattle.hash_starts.specs.Starts.{begun_hash}
 use Rattle.hash_starts.specs.declared.start.HashStart.{HashStart}
+use Rattle.indexmap.specs.IndexMap.{insert_entry}
 use Rattle.indexmap.proofs.ReorderLemmas.{map-swap}
 use Rattle.indexmap.proofs.SetLemmas.{map-remove}
 use Rattle.metrics_core.specs.Hashes.{key_hash}
@@ -228,3 +230,19 @@ pub numbered_popped : (start : HashStart) (numbers changed : BTreeMap KeyText �
 numbered_popped start numbers changed key n es es' numbered is free rest =
     let front = numbered_front (number_of start numbers) es' (n, key) (subst (Numbered (number_of start numbers)) is numbered) in
     front.0 ∙ sym (other_numbers start numbers changed key rest (values_of es') (none_under start numbers key es' front.0 n front.1 (ap is_some free)))
+
+-- a key that took another's place gives it back
+pub put_back_again : (es : List (ℕ × KeyText)) (n : ℕ) (key held : KeyText) → lookup (nat_eq n) es ≡ Some held → insert_entry nat_eq (insert_entry nat_eq es n key) n held ≡ es
+put_back_again [] n key held found = cc
+put_back_again (e ∷ es) n key held found = by (put_back_again es n key held) (nat_eq n e.0) refl
+  where
+    by : (lookup (nat_eq n) es ≡ Some held → insert_entry nat_eq (insert_entry nat_eq es n key) n held ≡ es) → (b : Bool) → nat_eq n e.0 ≡ b
+        → insert_entry nat_eq (if nat_eq n e.0 then (e.0, key) ∷ es else e ∷ insert_entry nat_eq es n key) n held ≡ e ∷ es
+    by rest true own =
+        ap (λ b. insert_entry nat_eq (if b then (e.0, key) ∷ es else e ∷ insert_entry nat_eq es n key) n held) own
+        ∙ ap (λ b. if b then (e.0, held) ∷ es else (e.0, key) ∷ insert_entry nat_eq es n held) own
+        ∙ ap (λ v. (e.0, v) ∷ es) (sym (same_Some e.1 held (sym (ap (λ b. cond b (Some e.1) (lookup (nat_eq n) es)) own) ∙ found)))
+    by rest false differs =
+        ap (λ b. insert_entry nat_eq (if b then (e.0, key) ∷ es else e ∷ insert_entry nat_eq es n key) n held) differs
+        ∙ ap (λ b. if b then (e.0, held) ∷ insert_entry nat_eq es n key else e ∷ insert_entry nat_eq (insert_entry nat_eq es n key) n held) differs
+        ∙ ap (λ l. e ∷ l) (rest (sym (ap (λ b. cond b (Some e.1) (lookup (nat_eq n) es)) differs) ∙ found))

@@ -1,8 +1,8 @@
 //! The keys of the series of one kind, in order, and where each of them stands.
 
-ghost use Rattle.std.specs.Prelude.{◌≡◌, ℕ, ◌-◌, ◌^◌, ◌<◌, [], ◌∷◌, ◌++◌, length, is_some, position, swap, remove, take, false, nat_eq, None, IfErr, IfNone, IfOk, IfSome, OnOk, OnErr};
+ghost use Rattle.std.specs.Prelude.{◌≡◌, ℕ, ◌-◌, ◌^◌, ◌<◌, [], ◌∷◌, ◌++◌, length, is_some, position, swap, remove, take, false, nat_eq, true, None, Some, IfErr, IfNone, IfOk, IfSome, OnOk, OnErr};
 ghost use Rattle.std.specs.List.{list_any};
-ghost use Rattle.indexmap.specs.IndexMap.{get, values};
+ghost use Rattle.indexmap.specs.IndexMap.{get, insert_entry, values};
 ghost use Rattle.std.specs.BTreeMap.{get as number_in, is_at};
 ghost use Rattle.metrics_core.specs.Keys.{KeyText, key_eq, key_cmp};
 ghost use Rattle.hash_starts.specs.Starts.{begun_hash};
@@ -85,16 +85,13 @@ impl KeyList {
         ensures returned { IfErr result (λ returned. returned ≡ key) }
     {
         let number = number_of(self.start, &self.numbers, &key);
+        let Some(key) = put_under(&mut self.keys, number, key)? else {
+            return Ok(None);
+        };
         if let Some(place) = place_under(&self.keys, number, &key) {
             return Ok(Some(place));
         }
-        push_numbered(
-            &mut self.keys,
-            &mut self.numbers,
-            &mut self.next,
-            number,
-            key,
-        )?;
+        push_apart(&mut self.keys, &mut self.numbers, &mut self.next, key)?;
         Ok(None)
     }
 
@@ -226,6 +223,36 @@ fn push_numbered(
         return push_under(keys, number, key);
     }
     push_apart(keys, numbers, next, key)
+}
+
+/// Adds a key behind the others, under a number, unless one stands under that; then the key comes back, as it does where memory is
+/// refused.
+fn put_under(keys: &mut IndexMap<u64, Key>, number: u64, key: Key) -> Result<Option<Key>, Key>
+    ensures free { IfOk result (λ held. IfNone held (get nat_eq keys.old number ≡ None)) }
+    ensures put { IfOk result (λ held. IfNone held (keys.new.entries ≡ keys.old.entries ++ (number, key) ∷ [])) }
+    ensures held { IfOk result (λ held. IfSome held (λ held. held ≡ key)) }
+    ensures same { IfOk result (λ held. IfSome held (λ _. keys.new.entries ≡ keys.old.entries)) }
+    ensures refused { OnErr result (keys.new.entries ≡ keys.old.entries) }
+    ensures absent { OnErr result (get nat_eq keys.old number ≡ None) }
+    ensures returned { IfErr result (λ returned. returned ≡ key) }
+{
+    match keys.insert(number, key) {
+        Ok(None) => Ok(None),
+        Ok(Some(held)) => Ok(Some(put_back(keys, number, held))),
+        Err(refused) => Err(refused.value.1),
+    }
+}
+
+/// Puts a key under a number, under which one stands, and answers that.
+fn put_back(keys: &mut IndexMap<u64, Key>, number: u64, key: Key) -> Key
+    requires { is_some (get nat_eq keys.old number) ≡ true }
+    ensures entries { keys.new.entries ≡ insert_entry nat_eq keys.old.entries number key }
+    ensures held { Some result ≡ get nat_eq keys.old number }
+{
+    let Ok(Some(held)) = keys.insert(number, key) else {
+        unreachable!()
+    };
+    held
 }
 
 /// Adds a key behind the others, under a number that is kept for it. Where memory is refused it comes back.

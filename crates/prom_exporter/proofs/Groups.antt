@@ -1,13 +1,14 @@
 -- A list in groups by name, and what one more member changes.
-use Rattle.std.proofs.Common.{◌≡◌, ℕ, Bool, true, false, cond, not, ◌||◌, List, [], ◌∷◌, ◌++◌, map, filter, refl, sym, ap, ◌∙◌, append-nil}
+use Rattle.std.proofs.Common.{◌≡◌, ℕ, zero, suc, Bool, true, false, cond, not, ◌||◌, List, [], ◌∷◌, ◌++◌, map, filter, refl, sym, ap, ◌∙◌, append-nil}
 use Rattle.std.proofs.lemmas.Option.{same_Some}
-use Rattle.std.specs.Prelude.{Option, Some, None, String, string_bytes, unwrap_or, bytes_eq, if◌then◌else◌}
+use Rattle.std.specs.Prelude.{Option, Some, None, String, string_bytes, unwrap_or, bytes_eq, if◌then◌else◌, slice_get}
 use Rattle.std.specs.String.{string_eq}
-use Rattle.std.specs.Map.{lookup, set_value}
-use Rattle.indexmap.specs.IndexMap.{insert_entry}
-use Rattle.std.specs.List.{list_any}
+use Rattle.std.specs.Map.{keys_of, values_of, lookup, set_value}
+use Rattle.indexmap.specs.IndexMap.{insert_entry, set_value_at}
+use Rattle.std.specs.List.{list_any, AllByRecursion, IsDistinct}
 use Rattle.std.specs.Cmp.Lexicographic.{nat_list_eq_equiv}
 use Rattle.std.proofs.lemmas.Bool.{true≢false, or_parts}
+use Rattle.std.proofs.lemmas.Map.Keys.{IsDistinct-head, IsDistinct-tail}
 use Rattle.std.proofs.lemmas.List.{map-append}
 use Rattle.std.proofs.lemmas.List.Elements.{filter-append}
 use Rattle.prom_exporter.specs.Families.{distinct}
@@ -220,6 +221,39 @@ module _ {Y V X : Type 0} (view : V → List X) (name : List ℕ) where
   pub members-stay : (es : List (String Y × V)) (v w : V) → lookup is_named es ≡ Some v → view w ≡ view v → map named_group (set_value is_named es w) ≡ map named_group es
   members-stay [] v w found same = cc
   members-stay (e ∷ es) v w found same = stays_step e es v w (bytes_eq name (string_bytes e.0)) refl found same (λ f. members-stay es v w f same)
+
+  -- the same where the group is given by its place
+  at_place : (e d : String Y × V) (es : List (String Y × V)) (i : ℕ) → AllByRecursion (λ k. string_eq d.0 k ≡ false) (keys_of es) → slice_get es i ≡ Some e → string_eq d.0 e.0 ≡ false
+  at_place e d [] i apart at = cc
+  at_place e d (f ∷ es) zero apart at = ap (λ (g : String Y × V). string_eq d.0 g.0) (sym (same_Some f e at)) ∙ apart.0
+  at_place e d (f ∷ es) (suc i) apart at = at_place e d es i apart.1 at
+
+  pub member-written_at : (es : List (String Y × V)) (i : ℕ) (e : String Y × V) (w : V) (x : X) → IsDistinct string_eq (keys_of es) → slice_get es i ≡ Some e → is_named e.0 ≡ true → view w ≡ view e.1 ++ x ∷ []
+      → map named_group (set_value_at es i w) ≡ with_member (map named_group es) name x
+  member-written_at [] i e w x distinct at is more = cc
+  member-written_at (d ∷ es) zero e w x distinct at is more =
+      let same : d ≡ e = same_Some d e at in
+      let own : is_named d.0 ≡ true = ap (λ (g : String Y × V). is_named g.0) same ∙ is in
+      rw own (ap (λ l. (string_bytes d.0, l) ∷ map named_group es) (more ∙ ap (λ (g : String Y × V). view g.1 ++ x ∷ []) (sym same)))
+  member-written_at (d ∷ es) (suc i) e w x distinct at is more =
+      let other : is_named d.0 ≡ false = by (is_named d.0) refl in
+      rw other (ap (λ l. named_group d ∷ l) (member-written_at es i e w x (IsDistinct-tail _ _ _ distinct) at is more))
+    where
+      by : (b : Bool) → is_named d.0 ≡ b → is_named d.0 ≡ false
+      by true p = absurd (true≢false (sym is ∙ nat_list_eq_equiv.congr name (string_bytes d.0) (string_bytes e.0) p ∙ at_place e d es i (IsDistinct-head _ _ _ distinct) at))
+      by false p = p
+
+  -- with the same members
+  pub members-stay_at : (es : List (String Y × V)) (i : ℕ) (v w : V) → slice_get (values_of es) i ≡ Some v → view w ≡ view v → map named_group (set_value_at es i w) ≡ map named_group es
+  members-stay_at [] i v w at same = cc
+  members-stay_at (e ∷ es) zero v w at same = ap (λ l. (string_bytes e.0, l) ∷ map named_group es) (same ∙ ap view (sym (same_Some e.1 v at)))
+  members-stay_at (e ∷ es) (suc i) v w at same = ap (λ l. named_group e ∷ l) (members-stay_at es i v w at same)
+
+-- the value of an entry
+pub value_at : {K V : Type 0} (es : List (K × V)) (i : ℕ) (e : K × V) → slice_get es i ≡ Some e → slice_get (values_of es) i ≡ Some e.1
+value_at [] i e at = cc
+value_at {K} {V} (d ∷ es) zero e at = ap (λ (f : K × V). Some f.1) (same_Some d e at)
+value_at (d ∷ es) (suc i) e at = value_at es i e at
 
 -- the same of entries that are given by an equation
 pub shown_entries : {K V X : Type 0} (view : K × V → X) (es fs : List (K × V)) (xs : List X) → es ≡ fs → map view fs ≡ xs → map view es ≡ xs

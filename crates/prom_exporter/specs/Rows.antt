@@ -1,5 +1,5 @@
 -- What is kept of series for the rows of pages: of each its printed label set, and the places of the series of each family.
-use Rattle.std.specs.Prelude.{ℕ, List, [], ◌++◌, map, flat_map, slice_get, ℤ, Option, Some, None, codes, string_bytes}
+use Rattle.std.specs.Prelude.{◌≡◌, ℕ, List, [], ◌++◌, map, flat_map, slice_get, ℤ, Option, Some, None, true, bytes_eq, codes, string_bytes}
 use Rattle.std.specs.List.{enumerate_from}
 use Rattle.std.specs.declared.string.String.{String}
 use Rattle.std.specs.declared.vec.Vec.{Vec}
@@ -45,6 +45,10 @@ keys_of live = map (λ series. series.key) live
 -- a family as the program keeps it
 abbrev pub family_kept : String Global × Vec ℕ Global → List ℕ × List ℕ
 family_kept entry = (string_bytes entry.0, entry.1.items)
+
+-- the family at a place has a name
+abbrev pub HasNameAt : List ℕ → List (String Global × Vec ℕ Global) → ℕ → Type 0
+HasNameAt name entries place = (entry : String Global × Vec ℕ Global) × (slice_get entries place ≡ Some entry) × (bytes_eq name (string_bytes entry.0) ≡ true)
 
 -- ---- the lines that are written of what is kept
 

@@ -1,11 +1,11 @@
 //! What is kept of the series of one kind for the rows of pages. It is made once, by the first page after a series was registered,
 //! and anew where a page removed series.
 
-ghost use Rattle.std.specs.Prelude.{◌≡◌, ◌++◌, [], ◌∷◌, ℕ, List, length, map, OnOk, OnErr, IfOk, string_bytes};
+ghost use Rattle.std.specs.Prelude.{◌≡◌, ◌<◌, ◌++◌, [], ◌∷◌, ℕ, List, length, map, OnOk, OnErr, IfOk, IfSome, string_bytes};
 ghost use Rattle.metrics_core.specs.Keys.{KeyText};
 ghost use Rattle.prom_format.specs.LabelSets.{labels_of};
 ghost use Rattle.prom_exporter.specs.Kept.{KeepsFirst};
-ghost use Rattle.prom_exporter.specs.Rows.{family_kept, keys_of, rows_of};
+ghost use Rattle.prom_exporter.specs.Rows.{HasNameAt, family_kept, keys_of, rows_of};
 ghost use Rattle.prom_format.specs.Names.{sanitized_metric_name};
 ghost use Rattle.prom_exporter.specs.Values.{with_member};
 
@@ -134,11 +134,60 @@ fn put_place(
         ≡ with_member (map family_kept families.old.entries) name.now place) }
     ensures refused { OnErr result (map family_kept families.new.entries ≡ map family_kept families.old.entries) }
 {
+    match last_named(families, name) {
+        Some(last) => put_at(families, last, place),
+        None => put_named(alloc, families, name, place),
+    }
+}
+
+/// The same by a look-up of the name.
+fn put_named(
+    alloc: Global,
+    families: &mut IndexMap<String, Vec<usize>, HashStart>,
+    name: &str,
+    place: usize,
+) -> Result<(), Memory>
+    ensures added { OnOk result (map family_kept families.new.entries
+        ≡ with_member (map family_kept families.old.entries) name.now place) }
+    ensures refused { OnErr result (map family_kept families.new.entries ≡ map family_kept families.old.entries) }
+{
     if let Some(places) = families.get_mut(name) {
         places.push(place)?;
         return Ok(());
     }
     add_family(families, String::from_str(alloc, name)?, place)
+}
+
+/// Puts a place last in the family at an index.
+fn put_at(
+    families: &mut IndexMap<String, Vec<usize>, HashStart>,
+    index: usize,
+    place: usize,
+) -> Result<(), Memory>
+    requires { index < length families.old.entries }
+    ensures added { OnOk result ((name : List ℕ) → HasNameAt name families.old.entries index
+        → map family_kept families.new.entries ≡ with_member (map family_kept families.old.entries) name place) }
+    ensures refused { OnErr result (map family_kept families.new.entries ≡ map family_kept families.old.entries) }
+{
+    let Some(places) = families.get_index_mut(index) else {
+        unreachable!()
+    };
+    places.push(place)?;
+    Ok(())
+}
+
+/// The place of the last family, if it has a name: most series stand behind one of their own family.
+fn last_named(families: &IndexMap<String, Vec<usize>, HashStart>, name: &str) -> Option<usize>
+    ensures named { IfSome result (λ last. HasNameAt name.now families.now.entries last) }
+    ensures within { IfSome result (λ last. last < length families.now.entries) }
+{
+    let last = families.len().checked_sub(1)?;
+    let (own, _) = families.get_index(last)?;
+    if name == own.as_str() {
+        Some(last)
+    } else {
+        None
+    }
 }
 
 /// Puts a place last in the family of a metric name, which goes last where it is new.

@@ -19,6 +19,7 @@ use Rattle.metrics_core.specs.declared.kinds.MetricKind.{MetricKind}
 use Rattle.metrics_registry.specs.Live.{IsNumbered}
 use Rattle.prom_exporter.specs.Exporter.{Exporter as PrometheusExporter}
 use Rattle.prom_exporter.specs.LanePasses as P
+use Rattle.prom_exporter.proofs.LaneThings.{got_behind, got_front}
 use Rattle.dsd_exporter.specs.Exporter.{Exporter as DogStatsDExporter}
 use Rattle.dsd_exporter.specs.LanePasses as D
 use Rattle.exporter_lanes.specs.declared.exporters.Exporters.{Exporters}
@@ -62,14 +63,8 @@ placed_kind ids (Some id) (Some k) kind is fits = subst (λ t. IsOfKind ids k t)
 
 -- ---- a table
 
-get_front : {X : Type 0} (xs ys : List X) (h : ℕ) → h < length xs → slice_get (xs ++ ys) h ≡ slice_get xs h
-get_front [] ys h below = absurd (omega (arith, below))
-get_front (x ∷ xs) ys zero below = refl
-get_front (x ∷ xs) ys (suc h) below = get_front xs ys h (omega (arith, below))
-
-get_last : {X : Type 0} (xs : List X) (x : X) → slice_get (xs ++ x ∷ []) (length xs) ≡ Some x
-get_last [] x = refl
-get_last (y ∷ xs) x = get_last xs x
+last_got : {X : Type 0} (xs : List X) (x : X) → slice_get (xs ++ x ∷ []) (length xs) ≡ Some x
+last_got xs x = let at : length xs ≡ length xs + 0 = omega arith in ap (slice_get (xs ++ x ∷ [])) at ∙ got_behind xs (x ∷ []) 0
 
 get_past : {X : Type 0} (xs : List X) (h : ℕ) → length xs ≤ h → slice_get xs h ≡ None
 get_past [] h past = refl
@@ -84,10 +79,10 @@ pub places_more : (ids : SeriesIds) (handles line_handles : List SeriesId) (tabl
     → ArePlacesOf ids (slice_get handles (length table)) (slice_get line_handles (length table)) places → HasPlaces ids handles line_handles (table ++ places ∷ []) (length table + 1)
 places_more ids handles line_handles table places so_far last h below = dite (ℕ_discrete h (length table))
     (λ (same : h ≡ length table). subst (λ n. ArePlacesOf ids (slice_get handles n) (slice_get line_handles n) (places_of (table ++ places ∷ []) n)) (sym same)
-    (subst (ArePlacesOf ids (slice_get handles (length table)) (slice_get line_handles (length table))) (sym (ap (λ o. unwrap_or o nowhere) (get_last table places))) last))
+    (subst (ArePlacesOf ids (slice_get handles (length table)) (slice_get line_handles (length table))) (sym (ap (λ o. unwrap_or o nowhere) (last_got table places))) last))
     (λ (ne : ¬ (h ≡ length table)).
     let within : h < length table = omega (arith, below, ne) in
-    subst (ArePlacesOf ids (slice_get handles h) (slice_get line_handles h)) (sym (ap (λ o. unwrap_or o nowhere) (get_front table (places ∷ []) h within))) (so_far h within))
+    subst (ArePlacesOf ids (slice_get handles h) (slice_get line_handles h)) (sym (ap (λ o. unwrap_or o nowhere) (got_front table (places ∷ []) h within))) (so_far h within))
 
 below_or_past : (h n : ℕ) → (h < n) ⊎ (n ≤ h)
 below_or_past h zero = inr (omega arith)
@@ -213,12 +208,6 @@ told_all tells gs n all own none = ⊎_elim
     (below_or_past n (length gs))
 
 -- ---- tasks, and the lanes that they become
-
-pub zip_more : {X Y : Type 0} (R : X → Y → Type 0) (xs : List X) (ys : List Y) (x : X) (y : Y) → AllZip R xs ys → R x y → AllZip R (xs ++ x ∷ []) (ys ++ y ∷ [])
-zip_more R [] [] x y zip own = (own, tt)
-zip_more R [] (b ∷ ys) x y zip own = absurd zip
-zip_more R (a ∷ xs) [] x y zip own = absurd zip
-zip_more R (a ∷ xs) (b ∷ ys) x y zip own = (zip.0, zip_more R xs ys x y zip.1 own)
 
 module _ (moment : ℕ) (table : List Places) (calls : List CallLine) where
   abbrev pub text : ℕ → TaskText

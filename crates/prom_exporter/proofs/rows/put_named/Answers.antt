@@ -5,7 +5,7 @@ use Rattle.std.specs.declared.alloc.Global.{Global}
 use Rattle.std.proofs.lemmas.Result.{err_from_is_err_and}
 use Rattle.prom_exporter.specs.Rows.{family_kept}
 use Rattle.prom_exporter.proofs.Groups.{member-written, members-stay}
-use Rattle.prom_exporter.proofs.rows.put_place.Goals as goal
+use Rattle.prom_exporter.proofs.rows.put_named.Goals as goal
 
 pub returns-in_err-push-clause-refused : goal.returns-in_err-push-clause-refused
 returns-in_err-push-clause-refused c =
