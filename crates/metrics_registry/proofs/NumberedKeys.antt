@@ -25,7 +25,7 @@ use Rattle.metrics_core.specs.Hashes.{key_hash}
 use Rattle.metrics_core.specs.Keys.{KeyText, key_eq, key_cmp}
 use Rattle.metrics_core.specs.KeyLaws.{key_eq_is, key_hash_respects}
 use Rattle.metrics_core.specs.KeyOrderLaws.{key_cmp_total, key_cmp_ties}
-use Rattle.metrics_registry.specs.KeyLists.{key_fed, number_of}
+use Rattle.metrics_registry.specs.NumberedKeys.{key_fed, number_of}
 
 -- the place from the test of a place
 pub place_is : (n m i : ℕ) → cond (nat_lt n m) (Some n) None ≡ Some i → n ≡ i

@@ -1,5 +1,8 @@
 pub mod Live
 pub mod KeyLists
+pub mod KeptKeys
+pub mod KeyRuns
+pub mod NumberedKeys
 pub mod Places
 pub mod Retained
 pub mod Stored

@@ -1,44 +1,43 @@
 //! The keys of the series of one kind, in order, and where each of them stands.
 
-ghost use Rattle.std.specs.Prelude.{◌≡◌, ℕ, ◌-◌, ◌^◌, ◌<◌, [], ◌∷◌, ◌++◌, length, is_some, position, swap, remove, take, false, nat_eq, true, None, Some, IfErr, IfNone, IfOk, IfSome, OnOk, OnErr};
+ghost use Rattle.std.specs.Prelude.{◌≡◌, ◌-◌, ◌^◌, ◌<◌, [], ◌∷◌, ◌++◌, length, is_some, position, swap, remove, take, false, IfErr, IfNone, IfOk, IfSome, OnOk, OnErr};
 ghost use Rattle.std.specs.List.{list_any};
-ghost use Rattle.indexmap.specs.IndexMap.{get, insert_entry, values};
-ghost use Rattle.std.specs.BTreeMap.{get as number_in, is_at};
-ghost use Rattle.metrics_core.specs.Keys.{KeyText, key_eq, key_cmp};
-ghost use Rattle.hash_starts.specs.Starts.{begun_hash};
-ghost use Rattle.hash_starts.specs.declared.start.HashStart.{HashStart};
-ghost use Rattle.metrics_registry.specs.KeyLists.{AreNumbered, NumbersText, key_fed, number_of};
+ghost use Rattle.metrics_core.specs.Keys.{key_eq};
+ghost use Rattle.metrics_registry.specs.KeyRuns.{RanksRise};
 
+use crate::key_runs::KeyRun;
+use crate::numbered_keys::NumberedKeys;
 use hash_starts::HashStart;
-use indexmap::IndexMap;
 use metrics_core::{Key, Memory};
 use std::alloc::Global;
-use std::collections::BTreeMap;
-use std::hash::BuildHasher;
 use std::marker::Model;
 
-/// Keys in order, no two of which are equal. Each stands under a number of its own: its hash from the list's start, or, where
-/// another key stands under that, the next free number, which an ordered map then keeps for it. So keys whose hashes meet
-/// are found in logarithmic time, and all others in constant time. From a start that was drawn nobody can make names whose
-/// hashes meet, however many of them have one `get_hash`; labels of one name they can.
+/// How keys are stored.
+#[derive(Drop)]
+enum Kept {
+    /// As a run: no key came that has an equal or a lesser rank than one before it.
+    Run(KeyRun),
+    /// Each under a number.
+    Numbered(NumberedKeys),
+}
+
+/// Keys in order, no two of which are equal. While they come with rising ranks, as those do whose names or labels are
+/// counted up, they are a run, and no hash is made; the first that doesn't has all of them put under numbers.
 #[derive(Drop)]
 pub(crate) struct KeyList {
+    alloc: Global,
+    /// Where hashes begin.
     start: HashStart,
-    keys: IndexMap<u64, Key>,
-    /// The numbers of the keys that don't stand under their hash.
-    numbers: BTreeMap<Key, u64>,
-    /// Each lesser number was once taken.
-    next: u64,
+    kept: Kept,
 }
 
 impl Model for KeyList {
-    ghost use Rattle.metrics_registry.specs.KeyLists.{KeysText, keys_of_list, StandUnderNumbers};
+    ghost use Rattle.metrics_registry.specs.KeyLists.{KeysText};
+    ghost use Rattle.metrics_registry.specs.KeptKeys.{keys_kept};
 
     ghost Value = { KeysText };
 
-    ghost view = { keys_of_list };
-
-    ghost invariant = { StandUnderNumbers };
+    ghost view = { λ list. keys_kept list.kept };
 }
 
 impl KeyList {
@@ -47,10 +46,9 @@ impl KeyList {
         ensures { result.keys ≡ [] }
     {
         KeyList {
+            alloc,
             start,
-            keys: IndexMap::new(alloc),
-            numbers: BTreeMap::new(alloc),
-            next: 0,
+            kept: Kept::Run(KeyRun::new(alloc)),
         }
     }
 
@@ -58,8 +56,10 @@ impl KeyList {
     pub(crate) fn reserve(&mut self, count: usize) -> Result<(), Memory>
         ensures { self.new.keys ≡ self.old.keys }
     {
-        self.keys.reserve(count)?;
-        Ok(())
+        match &mut self.kept {
+            Kept::Run(run) => run.reserve(count),
+            Kept::Numbered(list) => list.reserve(count),
+        }
     }
 
     /// The place of the key that is equal to a key.
@@ -68,8 +68,10 @@ impl KeyList {
         ensures found { is_some result ≡ list_any (key_eq key.now) self.now.keys }
         ensures within { IfSome result (λ place. place < length self.now.keys) }
     {
-        let number = number_of(self.start, &self.numbers, key);
-        place_under(&self.keys, number, key)
+        match &self.kept {
+            Kept::Run(run) => run.place_of(key),
+            Kept::Numbered(list) => list.place_of(key),
+        }
     }
 
     /// The place of the key that is equal to a key. Where none is, the key goes behind the others, and there is no place.
@@ -84,15 +86,19 @@ impl KeyList {
         ensures refused { OnErr result (self.new.keys ≡ self.old.keys) }
         ensures returned { IfErr result (λ returned. returned ≡ key) }
     {
-        let number = number_of(self.start, &self.numbers, &key);
-        let Some(key) = put_under(&mut self.keys, number, key)? else {
-            return Ok(None);
-        };
-        if let Some(place) = place_under(&self.keys, number, &key) {
-            return Ok(Some(place));
+        match &mut self.kept {
+            Kept::Run(run) => {
+                let Some(key) = run.push_greater(key)? else {
+                    return Ok(None);
+                };
+                if let Some(place) = run.place_of(&key) {
+                    return Ok(Some(place));
+                }
+                self.push_unranked(key)?;
+                Ok(None)
+            }
+            Kept::Numbered(list) => list.enter(key),
         }
-        push_apart(&mut self.keys, &mut self.numbers, &mut self.next, key)?;
-        Ok(None)
     }
 
     /// Adds a key behind the others. Where memory is refused it comes back.
@@ -102,22 +108,45 @@ impl KeyList {
         ensures refused { OnErr result (self.new.keys ≡ self.old.keys) }
         ensures returned { IfErr result (λ returned. returned ≡ key) }
     {
-        let number = number_of(self.start, &self.numbers, &key);
-        push_numbered(
-            &mut self.keys,
-            &mut self.numbers,
-            &mut self.next,
-            number,
-            key,
-        )
+        match &mut self.kept {
+            Kept::Run(run) => {
+                let Some(key) = run.push_greater(key)? else {
+                    return Ok(());
+                };
+                self.push_unranked(key)
+            }
+            Kept::Numbered(list) => list.push(key),
+        }
+    }
+
+    /// Adds a key behind the others, whatever its rank: all keys of a rising run are put under numbers. Where memory is refused
+    /// it comes back.
+    fn push_unranked(&mut self, key: Key) -> Result<(), Key>
+        requires new { list_any (key_eq key) self.old.keys ≡ false }
+        ensures added { OnOk result (self.new.keys ≡ self.old.keys ++ key ∷ []) }
+        ensures refused { OnErr result (self.new.keys ≡ self.old.keys) }
+        ensures returned { IfErr result (λ returned. returned ≡ key) }
+    {
+        let list = match &mut self.kept {
+            Kept::Run(run) => {
+                if !run.rises() {
+                    return run.push(key);
+                }
+                numbered_behind(self.alloc, self.start, run.as_slice(), key)?
+            }
+            Kept::Numbered(list) => return list.push(key),
+        };
+        self.kept = Kept::Numbered(list);
+        Ok(())
     }
 
     /// Removes the key at a place. The others keep their order.
     pub(crate) fn remove(&mut self, place: usize)
         ensures { self.new.keys ≡ remove self.old.keys place }
     {
-        if let Some((_, key)) = self.keys.shift_remove_index(place) {
-            forget(&mut self.numbers, key);
+        match &mut self.kept {
+            Kept::Run(run) => run.remove(place),
+            Kept::Numbered(list) => list.remove(place),
         }
     }
 
@@ -127,15 +156,19 @@ impl KeyList {
         requires second { second < length self.old.keys }
         ensures { self.new.keys ≡ swap self.old.keys first second }
     {
-        self.keys.swap_indices(first, second);
+        match &mut self.kept {
+            Kept::Run(run) => run.swap(first, second),
+            Kept::Numbered(list) => list.swap(first, second),
+        }
     }
 
     /// Keeps the first keys, so many of them.
     pub(crate) fn truncate(&mut self, count: usize)
         ensures keys { self.new.keys ≡ take count self.old.keys }
     {
-        for _ in count..self.len() {
-            self.pop();
+        match &mut self.kept {
+            Kept::Run(run) => run.truncate(count),
+            Kept::Numbered(list) => list.truncate(count),
         }
     }
 
@@ -143,8 +176,9 @@ impl KeyList {
     pub(crate) fn pop(&mut self)
         ensures { self.new.keys ≡ take (length self.old.keys - 1) self.old.keys }
     {
-        if let Some((_, key)) = self.keys.pop() {
-            forget(&mut self.numbers, key);
+        match &mut self.kept {
+            Kept::Run(run) => run.pop(),
+            Kept::Numbered(list) => list.pop(),
         }
     }
 
@@ -153,163 +187,62 @@ impl KeyList {
         ensures len { result ≡ length self.now.keys }
         ensures small { result < 2 ^ 63 }
     {
-        self.keys.len()
+        match &self.kept {
+            Kept::Run(run) => run.len(),
+            Kept::Numbered(list) => list.len(),
+        }
     }
 
     /// The keys in order.
     pub(crate) fn as_slice(&self) -> &[Key]
         ensures keys { result.now ≡ self.now.keys }
     {
-        in_order(&self.keys)
-    }
-}
-
-/// The number of a key: the one that is kept for it, or else its hash from the start.
-fn number_of(start: HashStart, numbers: &BTreeMap<Key, u64>, key: &Key) -> u64
-    ensures { result ≡ number_of start numbers.now key.now }
-{
-    match numbers.get(key) {
-        Some(number) => *number,
-        None => begun_hash(start, key),
-    }
-}
-
-/// The hash of a key from a start: that of its `get_hash` with its name behind it.
-#[tactic(auto, unfolding(hash_starts::specs::Starts::begun_hash))]
-fn begun_hash(start: HashStart, key: &Key) -> u64
-    ensures { result ≡ begun_hash start (key_fed key.now) }
-{
-    start.hash_one((key.get_hash(), key.name()))
-}
-
-/// The keys of a list, in order.
-fn in_order(keys: &IndexMap<u64, Key>) -> &[Key]
-    ensures { result.now ≡ values keys.now }
-{
-    keys.as_slice().values().as_slice()
-}
-
-/// The place of the key that stands under a number, if it is equal to a key.
-fn place_under(keys: &IndexMap<u64, Key>, number: u64, key: &Key) -> Option<usize>
-    ensures index { (start : HashStart) (numbers : NumbersText) → number ≡ number_of start numbers key.now → AreNumbered start numbers keys.now.entries
-        → result ≡ position (key_eq key.now) (values keys.now) }
-    ensures found { (start : HashStart) (numbers : NumbersText) → number ≡ number_of start numbers key.now → AreNumbered start numbers keys.now.entries
-        → is_some result ≡ list_any (key_eq key.now) (values keys.now) }
-    ensures within { IfSome result (λ place. place < length (values keys.now)) }
-{
-    let place = keys.get_index_of(&number)?;
-    if in_order(keys)[place] == *key {
-        Some(place)
-    } else {
-        None
-    }
-}
-
-/// Adds a key behind the others, whose number this is. Where memory is refused it comes back.
-fn push_numbered(
-    keys: &mut IndexMap<u64, Key>,
-    numbers: &mut BTreeMap<Key, u64>,
-    next: &mut u64,
-    number: u64,
-    key: Key,
-) -> Result<(), Key>
-    requires new { list_any (key_eq key) (values keys.old) ≡ false }
-    ensures numbered { (start : HashStart) → number ≡ number_of start numbers.old key → AreNumbered start numbers.old keys.old.entries → AreNumbered start numbers.new keys.new.entries }
-    ensures added { OnOk result (values keys.new ≡ values keys.old ++ key ∷ []) }
-    ensures refused { OnErr result (values keys.new ≡ values keys.old) }
-    ensures returned { IfErr result (λ returned. returned ≡ key) }
-{
-    if !keys.contains_key(&number) {
-        return push_under(keys, number, key);
-    }
-    push_apart(keys, numbers, next, key)
-}
-
-/// Adds a key behind the others, under a number, unless one stands under that; then the key comes back, as it does where memory is
-/// refused.
-fn put_under(keys: &mut IndexMap<u64, Key>, number: u64, key: Key) -> Result<Option<Key>, Key>
-    ensures free { IfOk result (λ held. IfNone held (get nat_eq keys.old number ≡ None)) }
-    ensures put { IfOk result (λ held. IfNone held (keys.new.entries ≡ keys.old.entries ++ (number, key) ∷ [])) }
-    ensures held { IfOk result (λ held. IfSome held (λ held. held ≡ key)) }
-    ensures same { IfOk result (λ held. IfSome held (λ _. keys.new.entries ≡ keys.old.entries)) }
-    ensures refused { OnErr result (keys.new.entries ≡ keys.old.entries) }
-    ensures absent { OnErr result (get nat_eq keys.old number ≡ None) }
-    ensures returned { IfErr result (λ returned. returned ≡ key) }
-{
-    match keys.insert(number, key) {
-        Ok(None) => Ok(None),
-        Ok(Some(held)) => Ok(Some(put_back(keys, number, held))),
-        Err(refused) => Err(refused.value.1),
-    }
-}
-
-/// Puts a key under a number, under which one stands, and answers that.
-fn put_back(keys: &mut IndexMap<u64, Key>, number: u64, key: Key) -> Key
-    requires { is_some (get nat_eq keys.old number) ≡ true }
-    ensures entries { keys.new.entries ≡ insert_entry nat_eq keys.old.entries number key }
-    ensures held { Some result ≡ get nat_eq keys.old number }
-{
-    let Ok(Some(held)) = keys.insert(number, key) else {
-        unreachable!()
-    };
-    held
-}
-
-/// Adds a key behind the others, under a number that is kept for it. Where memory is refused it comes back.
-fn push_apart(
-    keys: &mut IndexMap<u64, Key>,
-    numbers: &mut BTreeMap<Key, u64>,
-    next: &mut u64,
-    key: Key,
-) -> Result<(), Key>
-    requires new { list_any (key_eq key) (values keys.old) ≡ false }
-    ensures numbered { (start : HashStart) → AreNumbered start numbers.old keys.old.entries → AreNumbered start numbers.new keys.new.entries }
-    ensures added { OnOk result (values keys.new ≡ values keys.old ++ key ∷ []) }
-    ensures refused { OnErr result (values keys.new ≡ values keys.old) }
-    ensures returned { IfErr result (λ returned. returned ≡ key) }
-{
-    let Some(number) = free_number(keys, next) else {
-        return Err(key);
-    };
-    let Ok(copy) = key.clone(*keys.allocator()) else {
-        return Err(key);
-    };
-    let Ok(_) = numbers.insert(copy, number) else {
-        return Err(key);
-    };
-    push_under(keys, number, key)
-}
-
-/// Lets the number go that is kept for a key.
-fn forget(numbers: &mut BTreeMap<Key, u64>, key: Key)
-    ensures { (k : KeyText) → is_at (key_cmp key) k ≡ false
-        → number_in key_cmp numbers.new k ≡ number_in key_cmp numbers.old k }
-{
-    numbers.remove(&key);
-}
-
-/// The next number under which no key stands.
-fn free_number(keys: &IndexMap<u64, Key>, next: &mut u64) -> Option<u64>
-    ensures { IfSome result (λ number. get nat_eq keys.now number ≡ None) }
-{
-    for number in *next..u64::MAX {
-        if !keys.contains_key(&number) {
-            *next = number;
-            return Some(number);
+        match &self.kept {
+            Kept::Run(run) => run.as_slice(),
+            Kept::Numbered(list) => list.as_slice(),
         }
     }
-    None
 }
 
-/// Adds a key behind the others, under a number that none has. Where memory is refused it comes back.
-fn push_under(keys: &mut IndexMap<u64, Key>, number: u64, key: Key) -> Result<(), Key>
-    requires free { get nat_eq keys.old number ≡ None }
-    ensures added { OnOk result (keys.new.entries ≡ keys.old.entries ++ (number, key) ∷ []) }
-    ensures refused { OnErr result (keys.new.entries ≡ keys.old.entries) }
+/// Keys whose ranks rise, each under a number, and one more behind them. Where memory is refused that comes back.
+fn numbered_behind(
+    alloc: Global,
+    start: HashStart,
+    keys: &[Key],
+    key: Key,
+) -> Result<NumberedKeys, Key>
+    requires rise { RanksRise keys.now }
+    requires new { list_any (key_eq key) keys.now ≡ false }
+    ensures all { IfOk result (λ list. list.keys ≡ keys.now ++ key ∷ []) }
     ensures returned { IfErr result (λ returned. returned ≡ key) }
 {
-    match keys.insert(number, key) {
-        Ok(_) => Ok(()),
-        Err(refused) => Err(refused.value.1),
+    let Ok(mut list) = numbered(alloc, start, keys) else {
+        return Err(key);
+    };
+    list.push(key)?;
+    Ok(list)
+}
+
+/// Keys whose ranks rise, each under a number.
+fn numbered(alloc: Global, start: HashStart, keys: &[Key]) -> Result<NumberedKeys, Memory>
+    requires { RanksRise keys.now }
+    ensures { IfOk result (λ list. list.keys ≡ keys.now) }
+{
+    let mut list = NumberedKeys::new(alloc, start);
+    list.reserve(keys.len())?;
+    for key in keys {
+        add_copy(alloc, &mut list, key)?;
+    }
+    Ok(list)
+}
+
+/// Adds a copy of a key behind others.
+fn add_copy(alloc: Global, list: &mut NumberedKeys, key: &Key) -> Result<(), Memory>
+    requires new { list_any (key_eq key.now) list.old.keys ≡ false }
+    ensures added { OnOk result (list.new.keys ≡ list.old.keys ++ key.now ∷ []) }
+{
+    match list.push(key.clone(alloc)?) {
+        Ok(()) => Ok(()),
+        Err(_) => Err(Memory),
     }
 }

@@ -1,9 +1,9 @@
 use Rattle.std.proofs.Common.{ap, ◌∙◌}
 use Rattle.std.specs.Map.{values_of}
 use Rattle.indexmap.proofs.ReorderLemmas.{map-swap}
-use Rattle.metrics_registry.specs.KeyLists.{number_of}
+use Rattle.metrics_registry.specs.NumberedKeys.{number_of}
 use Rattle.metrics_registry.proofs.NumberedKeys.{numbered_swap}
-use Rattle.metrics_registry.proofs.key_list.KeyList.swap.Goals as goal
+use Rattle.metrics_registry.proofs.numbered_keys.NumberedKeys.swap.Goals as goal
 
 pub invariant_of-self : goal.invariant_of-self
 invariant_of-self c =

@@ -2,7 +2,7 @@ use Rattle.std.proofs.Common.{◌∙◌, nat_eq, sym, ap}
 use Rattle.indexmap.specs.IndexMap.{insert_entry}
 use Rattle.indexmap.proofs.CallerLemmas.{insert_entry-new}
 use Rattle.metrics_registry.proofs.NumberedKeys.{put_back_again}
-use Rattle.metrics_registry.proofs.key_list.put_under.Goals as goal
+use Rattle.metrics_registry.proofs.numbered_keys.put_under.Goals as goal
 
 pub returns-in-Ok-None-clause-put : goal.returns-in-Ok-None-clause-put
 returns-in-Ok-None-clause-put c =

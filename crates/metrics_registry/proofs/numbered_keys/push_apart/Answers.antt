@@ -5,9 +5,9 @@ use Rattle.std.specs.BTreeMap.{Updates}
 use Rattle.hash_starts.specs.Starts.{begun_hash}
 use Rattle.std.specs.declared.result.Result.{Result}
 use Rattle.metrics_core.specs.Keys.{KeyText, key_cmp}
-use Rattle.metrics_registry.specs.KeyLists.{key_fed, number_of}
+use Rattle.metrics_registry.specs.NumberedKeys.{key_fed, number_of}
 use Rattle.metrics_registry.proofs.NumberedKeys.{Numbered, numbered_more, numbered_still, other_numbers}
-use Rattle.metrics_registry.proofs.key_list.push_apart.Goals as goal
+use Rattle.metrics_registry.proofs.numbered_keys.push_apart.Goals as goal
 
 pub returns-clause-numbered : goal.returns-clause-numbered
 returns-clause-numbered c start numbered = by c.push_under.result c.push_under.ensures.added c.push_under.ensures.refused

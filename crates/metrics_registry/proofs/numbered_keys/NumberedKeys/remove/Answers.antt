@@ -2,7 +2,7 @@ use Rattle.std.proofs.Common.{ap, ◌∙◌}
 use Rattle.std.specs.Map.{values_of}
 use Rattle.indexmap.proofs.SetLemmas.{map-remove}
 use Rattle.metrics_registry.proofs.NumberedKeys.{numbered_removed}
-use Rattle.metrics_registry.proofs.key_list.KeyList.remove.Goals as goal
+use Rattle.metrics_registry.proofs.numbered_keys.NumberedKeys.remove.Goals as goal
 
 pub invariant_of-self : goal.invariant_of-self
 invariant_of-self c = record {

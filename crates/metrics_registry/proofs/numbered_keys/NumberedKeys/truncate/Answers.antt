@@ -2,7 +2,7 @@ use Rattle.std.proofs.Common.{◌≡◌, ◌-◌, ◌+◌, ◌<◌, ◌≤◌, �
 use Rattle.std.proofs.lemmas.List.{length-take-le, take-take, take_all}
 use Rattle.std.proofs.lemmas.Bool.{cases_lt}
 use Rattle.metrics_core.specs.Keys.{KeyText}
-use Rattle.metrics_registry.proofs.key_list.KeyList.truncate.Goals as goal
+use Rattle.metrics_registry.proofs.numbered_keys.NumberedKeys.truncate.Goals as goal
 
 pub loop-init : goal.loop-init
 loop-init c = (sym (take_all _ c.args.self.now.keys (omega arith)), λ few. refl)

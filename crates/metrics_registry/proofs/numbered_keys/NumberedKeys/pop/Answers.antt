@@ -1,5 +1,5 @@
 use Rattle.metrics_registry.proofs.NumberedKeys.{numbered_popped}
-use Rattle.metrics_registry.proofs.key_list.KeyList.pop.Goals as goal
+use Rattle.metrics_registry.proofs.numbered_keys.NumberedKeys.pop.Goals as goal
 
 pub invariant_of-self : goal.invariant_of-self
 invariant_of-self c = record {

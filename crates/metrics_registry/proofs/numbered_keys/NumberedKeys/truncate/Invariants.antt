@@ -1,5 +1,5 @@
 use Rattle.std.proofs.Common.{◌≡◌, ◌-◌, ◌<◌, length, take}
-use Rattle.metrics_registry.proofs.key_list.KeyList.truncate.Given as goal
+use Rattle.metrics_registry.proofs.numbered_keys.NumberedKeys.truncate.Given as goal
 
 -- as many keys as turns so far are gone from the end; there is no turn where there are fewer keys
 abbrev pub invariant-loop : goal.invariant-loop

@@ -7,10 +7,10 @@ use Rattle.std.proofs.lemmas.Option.{slice_get_read}
 use Rattle.hash_starts.specs.declared.start.HashStart.{HashStart}
 use Rattle.metrics_core.specs.Keys.{KeyText, key_eq}
 use Rattle.metrics_core.specs.KeyLaws.{key_eq_laws}
-use Rattle.metrics_registry.specs.KeyLists.{AreNumbered, NumbersText, number_of}
+use Rattle.metrics_registry.specs.NumberedKeys.{AreNumbered, NumbersText, number_of}
 use Rattle.metrics_registry.proofs.NumberedKeys.{none_under, none_but, found_under, no_place, is_some-position}
-use Rattle.metrics_registry.proofs.key_list.place_under.Goals as goal
-use Rattle.metrics_registry.proofs.key_list.place_under.Goals.{After-from_residual, Then-eq, Else-eq}
+use Rattle.metrics_registry.proofs.numbered_keys.place_under.Goals as goal
+use Rattle.metrics_registry.proofs.numbered_keys.place_under.Goals.{After-from_residual, Then-eq, Else-eq}
 
 module _ (start : HashStart) (numbers : NumbersText) where
   -- no key stands under the number
