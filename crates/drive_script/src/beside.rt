@@ -21,11 +21,11 @@ use std::marker::Model;
 use std::mem;
 use std::thread::{Threads, for_each_mut, join_mut};
 
-/// How many bytes a piece has at least, but the last one. Fewer aren't worth a thread.
-const LEAST_BYTES: usize = 524_288;
-
 /// How many pieces are read side by side.
 const PIECES: usize = 4;
+
+/// The greatest size that pieces are cut to: what four of them say is kept until it is taken.
+const MOST_BYTES: usize = 524_288;
 
 /// What a run of lines says.
 #[derive(Drop)]
@@ -97,9 +97,10 @@ pub(crate) fn read_pieces<R: Threads + Sync>(
     let mut progress = ScriptSoFar::new(alloc, start);
     let mut rooms = Vec::new(alloc);
     let mut read = Vec::new(alloc);
+    let least = piece_bytes(bytes.len());
     let mut rest = bytes;
     while !rest.is_empty() {
-        let (mut next, behind) = first_pieces(alloc, &mut rooms, rest)?;
+        let (mut next, behind) = first_pieces(alloc, &mut rooms, rest, least)?;
         if !take_beside(rt, alloc, &mut progress, &mut read, &mut rooms, &mut next)? {
             return Ok(None);
         }
@@ -112,17 +113,25 @@ pub(crate) fn read_pieces<R: Threads + Sync>(
     Ok(Some(progress.into_script()))
 }
 
+/// How many bytes the pieces of a script of so many have at least, but the last one: those of a short script are all read at
+/// once.
+fn piece_bytes(count: usize) -> usize {
+    let part = count / PIECES;
+    if part < MOST_BYTES { part } else { MOST_BYTES }
+}
+
 /// The first pieces, which are not read yet, and the bytes behind them. Their rooms are those of pieces before, where there are any.
 fn first_pieces<'a>(
     alloc: Global,
     rooms: &mut Vec<Vec<Run>>,
     bytes: &'a [u8],
+    least: usize,
 ) -> Result<(Vec<Piece<'a>>, &'a [u8]), Memory>
     requires { 0 < length bytes.now }
     ensures lines { IfOk result (λ cut. lines_of bytes.now ≡ flat_map (λ lines. lines) cut.0.items ++ lines_of cut.1.now) }
     ensures shorter { IfOk result (λ cut. length cut.1.now < length bytes.now) }
 {
-    let (first, behind) = first_piece(bytes);
+    let (first, behind) = first_piece(bytes, least);
     let mut pieces = Vec::with_capacity(alloc, PIECES)?;
     pieces.push(Piece::unread(first, room(alloc, rooms)))?;
     let mut rest = behind;
@@ -130,7 +139,7 @@ fn first_pieces<'a>(
         if rest.is_empty() {
             break;
         }
-        let (next, behind) = first_piece(rest);
+        let (next, behind) = first_piece(rest, least);
         pieces.push(Piece::unread(next, room(alloc, rooms)))?;
         rest = behind;
     }
@@ -143,24 +152,24 @@ fn room(alloc: Global, rooms: &mut Vec<Vec<Run>>) -> Vec<Run> {
 }
 
 /// The bytes of the first piece, and those behind it.
-fn first_piece(bytes: &[u8]) -> (&[u8], &[u8])
+fn first_piece(bytes: &[u8], least: usize) -> (&[u8], &[u8])
     requires { 0 < length bytes.now }
     ensures lines { lines_of bytes.now ≡ lines_of result.0.now ++ lines_of result.1.now }
     ensures shorter { length result.1.now < length bytes.now }
 {
-    match end_of_piece(bytes) {
+    match end_of_piece(bytes, least) {
         Some(end) => (&bytes[..end + 1], &bytes[end + 1..]),
         None => (bytes, &[]),
     }
 }
 
 /// Where the newline stands that ends the first piece, unless that is all bytes.
-fn end_of_piece(bytes: &[u8]) -> Option<usize>
+fn end_of_piece(bytes: &[u8], least: usize) -> Option<usize>
     ensures { IfSome result (λ end. slice_get bytes.now end ≡ Some newline) }
 {
-    let behind = bytes.get(LEAST_BYTES..)?;
+    let behind = bytes.get(least..)?;
     let end = memchr(b'\n', behind)?;
-    Some(LEAST_BYTES + end)
+    Some(least + end)
 }
 
 /// Reads what the lines of pieces say, side by side.
