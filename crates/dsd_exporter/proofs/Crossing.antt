@@ -13,7 +13,10 @@ use Rattle.dsd_writer.specs.contracts.kept_keys.KeptKeys as KeptKeys
 use Rattle.dsd_writer.specs.contracts.kept_keys.KeptKeys.TheInside as kept
 use Rattle.dsd_writer.specs.contracts.kept_keys.KeptPlace as KeptPlace
 use Rattle.dsd_exporter.proofs.configuration.StateConfiguration.TheSendSync as configuration
+use Rattle.dsd_exporter.proofs.gauge_texts.GaugeLine.TheSendSync as line
 use Rattle.dsd_exporter.proofs.queued.QueuedSamples.TheSendSync as queued
+use Rattle.dsd_exporter.specs.contracts.gauge_texts.GaugeTexts as GaugeTexts
+use Rattle.dsd_exporter.specs.contracts.gauge_texts.GaugeTexts.TheInside as texts
 use Rattle.dsd_exporter.specs.contracts.state.State as State
 use Rattle.dsd_exporter.specs.contracts.state.State.TheInside as stored
 
@@ -24,12 +27,22 @@ place-send = declared_send KeptPlace.the_type (search sendable, (search sendable
 keys-send : IsSend KeptKeys.the_row
 keys-send = view_send _ _ _ _ _ (declared_send kept.the_type (search (sendable, crosses) depth 20, (search (sendable, crosses, place-send) depth 20 fits 4000, tt)))
 
+texts-send : IsSend GaugeTexts.the_row
+texts-send =
+    view_send _ _ _ _ _ (declared_send texts.the_type (
+      as_row_send KeptKeys.the_field keys-send,
+      (
+        search (sendable, crosses) depth 20,
+        (search (sendable, crosses) depth 20, (search (sendable, crosses, line.the_send) depth 20, tt)),
+      ),
+    ))
+
 pub state-send : IsSend State.the_row
 state-send =
     view_send _ _ _ _ _ (declared_send stored.the_type (
       search (sendable, crosses, configuration.the_send) depth 30 fits 4000,
       (
         search (sendable, crosses, registry.the_send, owned.the_send, counters.the_send, counters.the_sync, gauges.the_send, gauges.the_sync, passes.the_send, queued.the_send) depth 30 fits 4000,
-        (as_row_send KeptKeys.the_field keys-send, tt),
+        (as_row_send GaugeTexts.the_field texts-send, tt),
       ),
     ))

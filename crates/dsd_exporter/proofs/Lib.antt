@@ -23,3 +23,4 @@ pub mod Sent
 pub mod SentSamples
 pub mod Taken
 pub mod Unmapped
+pub mod GaugeTexts

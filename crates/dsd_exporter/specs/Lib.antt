@@ -12,3 +12,4 @@ pub mod Samples
 pub mod Sending
 pub mod State
 pub mod Updates
+pub mod GaugeTexts

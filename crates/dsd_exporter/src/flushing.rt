@@ -1,12 +1,12 @@
 //! A flush: what waits in each series is taken, written and counted, series by series.
 
-ghost use Rattle.std.specs.Prelude.{◌≡◌, ◌&&◌, ◌<◌, ℕ, ℤ, ◌^◌, List, ◌∷◌, [], length, decimal, option_map, slice_get, vec_len, vec_capacity, OnOk, OnErr, FitsSigned, true};
+ghost use Rattle.std.specs.Prelude.{◌≡◌, ◌&&◌, ◌<◌, ℕ, ℤ, ◌^◌, List, ◌∷◌, [], codes, length, decimal, option_map, slice_get, vec_len, vec_capacity, IfSome, OnOk, OnErr, FitsSigned, true};
 ghost use Rattle.std.specs.Bool.{OnTrue, OnFalse};
 ghost use Rattle.std.specs.Int.{w64};
 ghost use Rattle.metrics_core.specs.Keys.{KeyText};
 ghost use Rattle.metrics_core.specs.Numbers.{dogstatsd_number};
-ghost use Rattle.dsd_writer.specs.Lines.{lines_of};
-ghost use Rattle.dsd_writer.specs.Writers.{HasRoomFor, SameSettings};
+ghost use Rattle.dsd_writer.specs.Lines.{ItemText, line_of, lines_of};
+ghost use Rattle.dsd_writer.specs.Writers.{HasRoomFor, IsGaugeLine, SameSettings};
 ghost use Rattle.flushed_cells.specs.declared.counter_state.CounterState.{CounterState};
 ghost use Rattle.flushed_cells.specs.declared.gauge_state.GaugeState.{GaugeState};
 ghost use Rattle.dsd_exporter.specs.State.{idle_at};
@@ -26,6 +26,20 @@ fn is_skipped(is_quiet: bool, was_idle: bool) -> bool
     ensures { result ≡ (is_quiet && was_idle) }
 {
     is_quiet && was_idle
+}
+
+/// Writes the line of a gauge that is kept, for which there is room.
+fn write_line(writer: &mut PayloadWriter, line: &[u8]) -> WriteResult
+    requires line { IsGaugeLine line.now }
+    requires room { (item : ItemText) × (value : ℤ) × (item.type ≡ codes "g") × (line.now ≡ line_of item (dogstatsd_number value ∷ []))
+        × HasRoomFor writer.old (lines_of writer.old.limit item (dogstatsd_number value ∷ [])) }
+    ensures { (item : ItemText) (value : ℤ) → item.type ≡ codes "g" → line.now ≡ line_of item (dogstatsd_number value ∷ [])
+        → WritesOne item (dogstatsd_number value) result writer.old writer.new }
+{
+    let Ok(written) = writer.write_gauge_line(line) else {
+        unreachable!()
+    };
+    written
 }
 
 impl State {
@@ -217,6 +231,35 @@ impl State {
         self.series.gauge_at(place).read(rt)
     }
 
+    /// Keeps the line of the gauge at a place with this value, for flushes that find the value again.
+    fn keep_line(&mut self, place: usize, value: Fixed, moment: u64, writer: &PayloadWriter)
+        ensures { self.new ≡ self.old }
+    {
+        if self.configuration.timestamp_at(moment).is_none() {
+            self.gauge_keys
+                .keep(place, value, &self.configuration, writer);
+        }
+    }
+
+    /// The line of the gauge at a place with this value at a moment, where it is kept.
+    fn kept_line(
+        &self,
+        place: usize,
+        value: Fixed,
+        moment: u64,
+        writer: &PayloadWriter,
+    ) -> Option<&[u8]>
+        ensures is { IfSome result (λ line. (key : KeyText) → HasKeyAt place key self.now.series.gauges
+            → line.now ≡ line_of (gauge_line self.now.settings writer.now.global_tags moment key) (dogstatsd_number value.0 ∷ [])) }
+        ensures some { IfSome result (λ line. IsGaugeLine line.now) }
+    {
+        if self.configuration.timestamp_at(moment).is_some() {
+            return None;
+        }
+        self.gauge_keys
+            .line(place, value, &self.configuration, writer)
+    }
+
     /// Writes the line of the gauge at a place, for which there is room.
     fn write_gauge(
         &self,
@@ -231,6 +274,9 @@ impl State {
         ensures { (key : KeyText) × HasKeyAt place key self.now.series.gauges
             × WritesOne (gauge_line self.now.settings writer.old.global_tags moment key) (dogstatsd_number value.0) result writer.old writer.new }
     {
+        if let Some(line) = self.kept_line(place, value, moment, writer) {
+            return write_line(writer, line);
+        }
         let Some(key) = self.gauge_key(place) else {
             unreachable!()
         };
@@ -259,6 +305,7 @@ impl State {
     {
         self.reserve_gauge(place, moment, writer)?;
         let (value, updates) = self.take_gauge(rt, place);
+        self.keep_line(place, value, moment, writer);
         let written = self.write_gauge(place, value, moment, writer);
         telemetry.count_number(MetricKind::Gauge, updates, &written);
         Ok(())

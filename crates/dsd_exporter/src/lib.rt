@@ -13,6 +13,7 @@ mod builder;
 mod configuration;
 mod flush_state;
 mod flushing;
+mod gauge_texts;
 mod histogram_flushing;
 mod indices;
 mod lane_cells;

@@ -10,10 +10,10 @@ ghost use Rattle.dsd_exporter.specs.Exporter.{Exporter, AllHome, AddsCounter, Ad
 ghost use Rattle.dsd_exporter.specs.Lending.{LendsCounter, LendsGauge, LendsHistogram, LentCounter, LentGauge, LentHistogram, HasNoCounter, HasNoGauge, HasNoHistogram, ChangesCounter, ChangesGauge, ChangesHistogram, with_one_back, queue_back};
 
 use crate::configuration::StateConfiguration;
+use crate::gauge_texts::GaugeTexts;
 use crate::lent::Lent;
 use crate::queued::QueuedSamples;
 use cell_lanes::OwnedCell;
-use dsd_writer::KeptKeys;
 use flushed_cells::{CounterPass, DsdCounter, DsdGauge, GaugePass};
 use hash_starts::HashStart;
 use metrics_core::{Fixed, Key, Memory, MetricKind, SeriesId};
@@ -29,8 +29,8 @@ use std::sync::Arc;
 pub struct State {
     pub(crate) configuration: StateConfiguration,
     pub(crate) series: Registry<OwnedCell<DsdCounter>, OwnedCell<DsdGauge>, QueuedSamples>,
-    /// The keys of the gauges, in order, as their lines want them.
-    pub(crate) gauge_keys: KeptKeys,
+    /// What lines want of the gauges, in order.
+    pub(crate) gauge_keys: GaugeTexts,
 }
 
 impl Model for State {
@@ -64,7 +64,7 @@ impl State {
         Ok(State {
             configuration: config,
             series: Registry::starting_from(alloc, start)?,
-            gauge_keys: KeptKeys::new(alloc),
+            gauge_keys: GaugeTexts::new(alloc),
         })
     }
 

@@ -25,7 +25,7 @@ type_some Gauge = omega arith
 type_some Histogram = omega arith
 type_some Distribution = omega arith
 
-number_some : (value : ℤ) → 0 < length (dogstatsd_number value)
+pub number_some : (value : ℤ) → 0 < length (dogstatsd_number value)
 number_some value =
     let sign = if is_negative value then minus_sign ∷ [] else [] in
     let whole = decimal (unsigned_abs value / one) in

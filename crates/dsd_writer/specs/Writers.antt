@@ -1,10 +1,11 @@
 -- What contracts see of a writer of payloads, and how its lines stand in its buffer.
-use Rattle.std.specs.Prelude.{◌≡◌, ℕ, ◌+◌, ◌-◌, ◌*◌, ◌≤◌, min, Bool, false, List, [], ◌∷◌, ◌++◌, length, map, take, drop, Option, None, option_map, Vec, Result, IsOk, IfOk, OnOk, OnErr, vec_len, vec_capacity, if◌then◌else◌}
+use Rattle.std.specs.Prelude.{◌≡◌, ℕ, ◌+◌, ◌-◌, ◌*◌, ◌≤◌, min, Bool, false, ℤ, codes, List, [], ◌∷◌, ◌++◌, length, map, take, drop, Option, None, option_map, Vec, Result, IsOk, IfOk, OnOk, OnErr, vec_len, vec_capacity, if◌then◌else◌}
 use Rattle.std.specs.declared.snapshot.Snapshot.{Snapshot}
 use Rattle.metrics_core.specs.Keys.{LabelText, KeyText}
+use Rattle.metrics_core.specs.Numbers.{dogstatsd_number}
 use Rattle.metrics_core.specs.declared.numbers.Fixed.{Fixed as FixedOf}
 use Rattle.dsd_writer.specs.Cuts.{AreWithin, joined}
-use Rattle.dsd_writer.specs.Lines.{ItemText, prefixed, lines_of, payloads_of}
+use Rattle.dsd_writer.specs.Lines.{ItemText, prefixed, line_of, lines_of, payloads_of}
 use Rattle.dsd_writer.specs.Packing.{IsPacked, framed_payloads, payloads_at}
 use Rattle.dsd_writer.specs.Results.{Written, written_of}
 
@@ -51,6 +52,13 @@ timed timestamp item = record item { timestamp = timestamp }
 -- the same with a sample rate, where there is one
 abbrev pub sampled : Option FixedOf → ItemText → ItemText
 sampled rate item = record item { rate = option_map (λ rate. rate.0) rate }
+
+-- the line of a gauge
+pub record IsGaugeLine (line : List ℕ) : Type 0 where
+  pub item : ItemText
+  pub value : ℤ
+  pub type : item.type ≡ codes "g"
+  pub is : line ≡ line_of item (dogstatsd_number value ∷ [])
 
 -- lists of these lengths, one after another at the front of the bytes
 abbrev pub lines_in : List ℕ → List ℕ → List (List ℕ)

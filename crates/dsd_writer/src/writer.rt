@@ -4,8 +4,8 @@ ghost use Rattle.std.specs.Prelude.{◌≡◌, ℕ, ℤ, ◌^◌, ◌<◌, ◌�
 ghost use Rattle.std.specs.Int.{w64};
 ghost use Rattle.metrics_core.specs.Numbers.{dogstatsd_number};
 ghost use Rattle.dsd_writer.specs.Items.{key_text, type_text};
-ghost use Rattle.dsd_writer.specs.Lines.{IsBestLines, lines_of, spelled_values};
-ghost use Rattle.dsd_writer.specs.Writers.{HasRoomFor, SameSettings, Writes, item_in, sampled, timed};
+ghost use Rattle.dsd_writer.specs.Lines.{IsBestLines, ItemText, line_of, lines_of, spelled_values};
+ghost use Rattle.dsd_writer.specs.Writers.{HasRoomFor, IsGaugeLine, SameSettings, Writes, item_in, sampled, timed};
 
 use crate::WriteResult;
 use crate::items::{Item, LineType, SeriesKey};
@@ -13,7 +13,7 @@ use crate::kept_keys::KeptKey;
 use crate::many::write_points;
 use crate::numbers::NumberText;
 use crate::packing::{PayloadBuffer, begin_anew};
-use crate::points::write_point;
+use crate::points::{make_line, write_made, write_point};
 use crate::room_ahead::most_of_a_line;
 use itoa::Buffer;
 use metrics_core::{Fixed, Key, Label, Memory};
@@ -85,6 +85,13 @@ impl PayloadWriter {
             global_tags: labels,
             ..self
         }
+    }
+
+    /// The labels that every line has as tags, behind those of its series.
+    pub fn global_tags(&self) -> &[Label]
+        ensures { result.now ≡ self.now.global_tags }
+    {
+        self.global_tags.as_slice()
     }
 
     /// Makes room, so that the next writes that add no more than so many bytes, those before payloads included, take no memory.
@@ -243,6 +250,51 @@ impl PayloadWriter {
             timestamp,
             prefix,
             &text,
+        )
+    }
+
+    /// Makes the line of a gauge whose key is kept, as this writer would write it without a timestamp, in place of what stood in `line`.
+    pub fn make_gauge_line(
+        &self,
+        line: &mut Vec<u8>,
+        key: &KeptKey<'_>,
+        value: Fixed,
+        prefix: Option<&str>,
+    ) -> Result<(), Memory>
+        ensures { OnOk result (line.new.items ≡ line_of (item_in self.now (codes "g") (option_copied prefix.entry) key.now) (dogstatsd_number value.0 ∷ [])) }
+    {
+        let mut whole = Buffer::new();
+        let mut fraction = Buffer::new();
+        let text = NumberText::of_value(&mut whole, &mut fraction, value);
+        let item = Item::new(
+            LineType::Gauge,
+            prefix,
+            SeriesKey::Kept(key),
+            self.global_tags.as_slice(),
+        );
+        make_line(line, &item, &text)
+    }
+
+    /// Writes the line of a gauge that was made before. It is left out where it passes the limit. A refused call leaves the lines as
+    /// they were.
+    pub fn write_gauge_line(&mut self, line: &[u8]) -> Result<WriteResult, Memory>
+        requires { IsGaugeLine line.now }
+        ensures { (item : ItemText) (value : ℤ) → item.type ≡ codes "g" → line.now ≡ line_of item (dogstatsd_number value ∷ [])
+            → Writes result self.old self.new item (dogstatsd_number value ∷ []) }
+    {
+        begin_anew(
+            &mut self.buffer.bytes,
+            &mut self.buffer.starts,
+            &mut self.lengths,
+            &mut self.handed_out,
+        );
+        write_made(
+            &mut self.buffer.bytes,
+            &mut self.buffer.starts,
+            &mut self.lengths,
+            self.limit,
+            self.on_stream,
+            line,
         )
     }
 
