@@ -3,11 +3,9 @@ use Rattle.std.proofs.Common.{◌≡◌, ℕ, zero, suc, ◌+◌, ◌<◌, ◌�
 use Rattle.std.specs.Prelude.{slice_get, position, remove, take, length, sum_by, Ok, Err, if◌then◌else◌}
 use Rattle.std.specs.List.{position_or_len, list_any}
 use Rattle.std.specs.List.Sorted.{IsBinarySearchResult}
-use Rattle.std.specs.Ordering.{is_lt, nat_cmp, ordering_index}
+use Rattle.std.specs.Ordering.{is_lt, nat_cmp}
 use Rattle.std.specs.declared.cmp.Ordering.{Ordering}
-use Rattle.std.specs.declared.cmp.Ordering.TheVariants.{Less, Equal, Greater}
 use Rattle.std.proofs.lemmas.Bool.{cases_lt}
-use Rattle.std.proofs.lemmas.Bool.Decides.{nat_tests}
 use Rattle.std.proofs.lemmas.List.Sums.{sum_by-cons}
 use Rattle.std.proofs.lemmas.Option.{slice_get-get_or, slice_get_within}
 use Rattle.metrics_core.specs.Numbers.{in_64_bits}
@@ -16,6 +14,7 @@ use Rattle.metrics_core.specs.SortingLaws.{same_sorted}
 use Rattle.metrics_core.specs.Keys.{KeyText, label_cmp, key_eq, SameKey}
 use Rattle.metrics_core.specs.KeyLaws.{label_cmp_total, label_cmp_ties, label_eq_is, key_eq_is}
 use Rattle.metrics_registry.specs.KeyRuns.{IsBelowRanks, RanksRise, AreUpTo, key_rank, text_rank, value_rank}
+use Rattle.metrics_registry.proofs.Searched.{compared, equal_number, greater_number, less_number}
 use Rattle.metrics_registry.proofs.NumberedKeys.{some_place}
 
 -- ---- equal keys have one rank
@@ -156,18 +155,6 @@ none_beside key (x ∷ ks) (suc i) k rise at same differs =
     rw (other_rank key x (λ e. omega (arith, above, same, e))) (none_beside key ks i k rise.1 at same differs)
 
 -- ---- a search for a rank
-
-compared : (n a b : ℕ) → a ≤ b → ordering_index (nat_cmp a n) ≤ ordering_index (nat_cmp b n)
-compared n a b le = grind (arith, nat_tests)
-
-equal_number : (a n : ℕ) → nat_cmp a n ≡ Equal → a ≡ n
-equal_number a n e = grind (arith, nat_tests)
-
-less_number : (a n : ℕ) → nat_cmp a n ≡ Less → a ≡ n → ⊥
-less_number a n e same = grind (arith, nat_tests)
-
-greater_number : (a n : ℕ) → nat_cmp a n ≡ Greater → a ≡ n → ⊥
-greater_number a n e same = grind (arith, nat_tests)
 
 rises_to : (ks : List KeyText) (i j : ℕ) (d : KeyText) → RanksRise ks → i ≤ j → j < length ks → key_rank (get_or ks i d) ≤ key_rank (get_or ks j d)
 rises_to [] i j d rise le within = absurd (omega (arith, within))

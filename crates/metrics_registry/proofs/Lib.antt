@@ -1,4 +1,5 @@
 pub mod Found
+pub mod Searched
 pub mod KeyRuns
 pub mod NumberedKeys
 pub mod StoredSeries

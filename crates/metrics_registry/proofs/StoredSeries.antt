@@ -7,8 +7,7 @@ use Rattle.std.specs.Prelude.{min}
 use Rattle.std.proofs.Math.Seq.{take-append_seam}
 use Rattle.std.proofs.Math.ListN.{length-set}
 use Rattle.std.specs.List.Sorted.{IsBinarySearchResult}
-use Rattle.std.specs.Ordering.{nat_cmp, ordering_index}
-use Rattle.std.specs.declared.cmp.Ordering.TheVariants.{Less, Equal, Greater}
+use Rattle.std.specs.Ordering.{nat_cmp}
 use Rattle.std.specs.Prelude.{◌||◌}
 use Rattle.std.proofs.Common.{inl, inr}
 use Rattle.std.proofs.lemmas.Bool.{cases_lt}
@@ -26,6 +25,7 @@ use Rattle.metrics_registry.specs.Live.{LiveSeries, has_id, has_key, id_eq, id_o
 use Rattle.metrics_registry.specs.Places.{with_cell_at, IsPlace}
 use Rattle.metrics_registry.specs.Stored.{live_of, AreStored}
 use Rattle.metrics_registry.specs.declared.columns.Series.{Series}
+use Rattle.metrics_registry.proofs.Searched.{compared, equal_number, greater_number, less_number}
 use Rattle.metrics_registry.proofs.Found.{above_at, none-anywhere, none-beside, has_id_at, rises-with_cell_at, rises-without, rises-push, without-place}
 
 -- the derived comparison of kinds
@@ -43,18 +43,6 @@ same_kind Histogram Histogram = refl
 none_of : {A : Type 0} (o : Option A) → is_some o ≡ false → o ≡ None
 none_of None e = refl
 none_of (Some x) e = cc
-
-compared : (n a b : ℕ) → a ≤ b → ordering_index (nat_cmp a n) ≤ ordering_index (nat_cmp b n)
-compared n a b le = grind (arith, nat_tests)
-
-equal_number : (a n : ℕ) → nat_cmp a n ≡ Equal → a ≡ n
-equal_number a n e = grind (arith, nat_tests)
-
-less_number : (a n : ℕ) → nat_cmp a n ≡ Less → a ≡ n → ⊥
-less_number a n e same = grind (arith, nat_tests)
-
-greater_number : (a n : ℕ) → nat_cmp a n ≡ Greater → a ≡ n → ⊥
-greater_number a n e same = grind (arith, nat_tests)
 
 module _ {X : Type 0} where
   pub length-live_of : (ks : List KeyText) (ss : List (Series X)) → length ks ≡ length ss → length (live_of ks ss) ≡ length ss

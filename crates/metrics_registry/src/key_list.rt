@@ -22,7 +22,7 @@ enum Kept {
 }
 
 /// Keys in order, no two of which are equal. While they come with rising ranks, as those do whose names or labels are
-/// counted up, they are a run, and no hash is made; the first that doesn't has all of them put under numbers.
+/// counted up, they are a run, and no hash is made; the first that doesn't, also one that is there, has all of them put under numbers.
 #[derive(Drop)]
 pub(crate) struct KeyList {
     alloc: Global,
@@ -92,6 +92,7 @@ impl KeyList {
                     return Ok(None);
                 };
                 if let Some(place) = run.place_of(&key) {
+                    self.number();
                     return Ok(Some(place));
                 }
                 self.push_unranked(key)?;
@@ -138,6 +139,21 @@ impl KeyList {
         };
         self.kept = Kept::Numbered(list);
         Ok(())
+    }
+
+    /// Puts the keys of a rising run under numbers, where there is memory for it: whoever enters keys again is to find them by
+    /// their hashes.
+    fn number(&mut self)
+        ensures { self.new.keys ≡ self.old.keys }
+    {
+        let Kept::Run(run) = &self.kept else {
+            return;
+        };
+        if run.rises()
+            && let Ok(list) = numbered(self.alloc, self.start, run.as_slice())
+        {
+            self.kept = Kept::Numbered(list);
+        }
     }
 
     /// Removes the key at a place. The others keep their order.
