@@ -88,7 +88,7 @@ impl DsdCounter {
         ensures { IfOk result (λ made. (made.root ≡ first) × Settled made.root) }
     {
         let (counter, root) = DsdCounter::new(alloc)?;
-        OwnedCell::new(alloc, counter, root)
+        OwnedCell::unlent(alloc, counter, root)
     }
 }
 
@@ -157,6 +157,6 @@ impl DsdGauge {
         ensures { IfOk result (λ made. (made.root ≡ first) × Settled made.root) }
     {
         let (gauge, root) = DsdGauge::new(alloc)?;
-        OwnedCell::new(alloc, gauge, root)
+        OwnedCell::unlent(alloc, gauge, root)
     }
 }
