@@ -1,9 +1,9 @@
 -- A list in groups by name, and what one more member changes.
-use Rattle.std.proofs.Common.{◌≡◌, ℕ, zero, suc, Bool, true, false, cond, not, ◌||◌, List, [], ◌∷◌, ◌++◌, map, filter, refl, sym, ap, ◌∙◌, append-nil}
+use Rattle.std.proofs.Common.{◌≡◌, ℕ, zero, suc, Bool, true, false, cond, ◌||◌, List, [], ◌∷◌, ◌++◌, map, refl, sym, ap, ◌∙◌, append-nil}
 use Rattle.std.proofs.lemmas.Option.{same_Some}
 use Rattle.std.specs.Prelude.{Option, Some, None, String, string_bytes, unwrap_or, bytes_eq, if◌then◌else◌, slice_get}
 use Rattle.std.specs.String.{string_eq}
-use Rattle.std.specs.Map.{keys_of, values_of, lookup, set_value}
+use Rattle.std.specs.Map.{keys_of, values_of, lookup}
 use Rattle.indexmap.specs.IndexMap.{insert_entry, set_value_at}
 use Rattle.std.specs.List.{list_any, AllByRecursion, IsDistinct}
 use Rattle.std.specs.Cmp.Lexicographic.{nat_list_eq_equiv}
@@ -193,7 +193,7 @@ module _ {Y V X : Type 0} (view : V → List X) (name : String Y) (group empty :
   entries-refused es None is same new = absurd (new refl)
   entries-refused es (Some v) is same new = entries-same es v is same
 
--- entries by name, where the group of a name that is there is written anew
+-- entries by name, where a group that is there is written anew
 module _ {Y V X : Type 0} (view : V → List X) (name : List ℕ) where
   abbrev named_group : String Y × V → List ℕ × List X
   named_group e = (string_bytes e.0, view e.1)
@@ -201,28 +201,7 @@ module _ {Y V X : Type 0} (view : V → List X) (name : List ℕ) where
   abbrev is_named : String Y → Bool
   is_named key = bytes_eq name (string_bytes key)
 
-  -- with one more member
-  member_step : (e : String Y × V) (es : List (String Y × V)) (v w : V) (x : X) (b : Bool) → bytes_eq name (string_bytes e.0) ≡ b → lookup is_named (e ∷ es) ≡ Some v → view w ≡ view v ++ x ∷ []
-      → (lookup is_named es ≡ Some v → map named_group (set_value is_named es w) ≡ with_member (map named_group es) name x)
-      → map named_group (set_value is_named (e ∷ es) w) ≡ with_member (map named_group (e ∷ es)) name x
-  member_step e es v w x true is found more rest = rw is (ap (λ l. (string_bytes e.0, l) ∷ map named_group es) (more ∙ ap (λ l. view l ++ x ∷ []) (sym (same_Some e.1 v (rw is at found)))))
-  member_step e es v w x false is found more rest = rw is (ap (λ l. named_group e ∷ l) (rest (rw is at found)))
-
-  pub member-written : (es : List (String Y × V)) (v w : V) (x : X) → lookup is_named es ≡ Some v → view w ≡ view v ++ x ∷ [] → map named_group (set_value is_named es w) ≡ with_member (map named_group es) name x
-  member-written [] v w x found more = cc
-  member-written (e ∷ es) v w x found more = member_step e es v w x (bytes_eq name (string_bytes e.0)) refl found more (λ f. member-written es v w x f more)
-
-  -- with the same members
-  stays_step : (e : String Y × V) (es : List (String Y × V)) (v w : V) (b : Bool) → bytes_eq name (string_bytes e.0) ≡ b → lookup is_named (e ∷ es) ≡ Some v → view w ≡ view v
-      → (lookup is_named es ≡ Some v → map named_group (set_value is_named es w) ≡ map named_group es) → map named_group (set_value is_named (e ∷ es) w) ≡ map named_group (e ∷ es)
-  stays_step e es v w true is found same rest = rw is (ap (λ l. (string_bytes e.0, l) ∷ map named_group es) (same ∙ ap view (sym (same_Some e.1 v (rw is at found)))))
-  stays_step e es v w false is found same rest = rw is (ap (λ l. named_group e ∷ l) (rest (rw is at found)))
-
-  pub members-stay : (es : List (String Y × V)) (v w : V) → lookup is_named es ≡ Some v → view w ≡ view v → map named_group (set_value is_named es w) ≡ map named_group es
-  members-stay [] v w found same = cc
-  members-stay (e ∷ es) v w found same = stays_step e es v w (bytes_eq name (string_bytes e.0)) refl found same (λ f. members-stay es v w f same)
-
-  -- the same where the group is given by its place
+  -- with one more member, where the group is given by its place
   at_place : (e d : String Y × V) (es : List (String Y × V)) (i : ℕ) → AllByRecursion (λ k. string_eq d.0 k ≡ false) (keys_of es) → slice_get es i ≡ Some e → string_eq d.0 e.0 ≡ false
   at_place e d [] i apart at = cc
   at_place e d (f ∷ es) zero apart at = ap (λ (g : String Y × V). string_eq d.0 g.0) (sym (same_Some f e at)) ∙ apart.0

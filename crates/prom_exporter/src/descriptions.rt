@@ -16,6 +16,7 @@ use metric_descriptions::DescriptionReader;
 use metrics_core::{KeyName, Memory, SharedString, Unit};
 use prom_format::sanitize_metric_name;
 use std::alloc::Global;
+use std::mem;
 use std::sync::Wait;
 
 impl PrometheusState {
@@ -126,6 +127,26 @@ impl PrometheusState {
             histogram_rows: _,
             descriptions,
         } = self;
+        descriptions.end(rt);
+    }
+
+    /// Ends the exporter as `end` does, where the program ends behind it: the memory of its series isn't given back block by block,
+    /// since the system takes all of it at once.
+    pub fn end_with_program<R: Wait>(self, rt: &R) {
+        let Self {
+            globals: _,
+            settings: _,
+            distributions: _,
+            series,
+            counter_rows,
+            gauge_rows,
+            histogram_rows,
+            descriptions,
+        } = self;
+        mem::forget(series);
+        mem::forget(counter_rows);
+        mem::forget(gauge_rows);
+        mem::forget(histogram_rows);
         descriptions.end(rt);
     }
 }

@@ -136,26 +136,8 @@ fn put_place(
 {
     match last_named(families, name) {
         Some(last) => put_at(families, last, place),
-        None => put_named(alloc, families, name, place),
+        None => add_family(families, String::from_str(alloc, name)?, place),
     }
-}
-
-/// The same by a look-up of the name.
-fn put_named(
-    alloc: Global,
-    families: &mut IndexMap<String, Vec<usize>, HashStart>,
-    name: &str,
-    place: usize,
-) -> Result<(), Memory>
-    ensures added { OnOk result (map family_kept families.new.entries
-        ≡ with_member (map family_kept families.old.entries) name.now place) }
-    ensures refused { OnErr result (map family_kept families.new.entries ≡ map family_kept families.old.entries) }
-{
-    if let Some(places) = families.get_mut(name) {
-        places.push(place)?;
-        return Ok(());
-    }
-    add_family(families, String::from_str(alloc, name)?, place)
 }
 
 /// Puts a place last in the family at an index.
