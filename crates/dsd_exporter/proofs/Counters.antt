@@ -1,5 +1,5 @@
 -- Counters that are flushed, one after the other.
-use Rattle.std.proofs.Common.{◌≡◌, ℕ, ◌<◌, ◌^◌, Bool, true, false, true≢false, ◌&&◌, cond, List, [], ◌∷◌, ◌++◌, length, refl, sym, ap, subst, ◌∙◌, Option, Some, None, is_some, IfSome, IfNone}
+use Rattle.std.proofs.Common.{◌≡◌, ℕ, ◌<◌, ◌^◌, Bool, true, false, true≢false, ◌&&◌, cond, List, [], ◌∷◌, ◌++◌, length, refl, sym, ap, subst, ◌∙◌, Option, Some, None, is_some, IfSome, inl}
 use Rattle.std.specs.Prelude.{◌==◌, nat_lt, decimal, option_map, slice_get}
 use Rattle.metrics_core.specs.Keys.{KeyText, LabelText}
 use Rattle.metrics_core.specs.declared.kinds.MetricKind.TheVariants as kinds
@@ -17,6 +17,8 @@ use Rattle.dsd_exporter.specs.State.{DogStatsDSettings, is_quiet, idle_at, count
 use Rattle.dsd_exporter.specs.Updates.{UpdateText}
 use Rattle.dsd_exporter.specs.Exporter.{Exporter, CounterThing}
 use Rattle.dsd_exporter.specs.Flushing.{TakesCounter, ChangesAt, HasKeyAt, with_found, with_mark, with_series, WritesOne, Sends, counter_line, FlushesCounter, CountersFlushed}
+use Rattle.dsd_exporter.specs.Waiting.{NothingWaits}
+use Rattle.dsd_exporter.proofs.Waiting.{flushed_counter}
 use Rattle.dsd_exporter.proofs.Marks.{idle-behind, mark-next, mark-stays}
 use Rattle.dsd_exporter.proofs.Sent.{sends_nothing, sends_then, sends_behind, counter_sent}
 use Rattle.dsd_exporter.proofs.Taken.{key-there, key-same, next-taken, key-next, counters-next}
@@ -28,7 +30,7 @@ counter_taken s t answer m same =
     let x = m.1 in
     let is : answer ≡ (x.delta, x.updates) = λ j. (m.5.0 j, m.5.1 j) in
     let root = m.6 ∙ ap (λ (a : ℕ × ℕ). after s.root m.0 (counter.Flush a.0 a.1 ∷ [])) is in
-    (x, is, (m.0, m.3, m.4, λ j. record { root = root j; fixed = same j }))
+    (x, is, inl (m.0, m.3, m.4, λ j. record { root = root j; fixed = same j }))
 
 module _ (settings : DogStatsDSettings) (moment place : ℕ) (old new : List (LiveSeries CounterThing)) (marks noted : List Bool) (w v : WriterText) (u : UpdateText)
     (found : CounterState) (answer : ℕ × ℕ) (is : answer ≡ (found.delta, found.updates)) (takes : ChangesAt place (λ c d. TakesCounter c found d) old new)
@@ -72,22 +74,10 @@ module _ (settings : DogStatsDSettings) (moment place : ℕ) (old new : List (Li
         subst (λ items. Sends items w x u n) (sym one) (subst (λ tags. Sends (counter_item settings tags moment writes.0 found ∷ []) w x u n) same.same_tags sent));
   }
 
--- a counter from which nothing was taken held nothing that waits
-pub nothing_taken : (s t : CounterThing) (answer : ℕ × ℕ) → Flushes CounterStep counter_start counter_flush s.root answer t.root → t.fixed ≡ s.fixed → answer.0 ≡ 0 → answer.1 ≡ 0
-    → (x : CounterState) × (x.delta ≡ 0) × (x.updates ≡ 0) × TakesCounter s x t
-nothing_taken s t answer m same delta updates =
-    let taken = counter_taken s t answer m same in
-    (taken.0, ap (λ (a : ℕ × ℕ). a.0) (sym taken.1) ∙ delta, ap (λ (a : ℕ × ℕ). a.1) (sym taken.1) ∙ updates, taken.2)
-
--- what was read of a still counter, if anything was
-pub nothing_read : (s t : CounterThing) (read : Option (ℕ × ℕ)) → is_some read ≡ true → IfSome read (λ answer. Flushes CounterStep counter_start counter_flush s.root answer t.root) → IfSome read (λ answer. answer ≡ (0, 0))
-    → t.fixed ≡ s.fixed → (x : CounterState) × (x.delta ≡ 0) × (x.updates ≡ 0) × TakesCounter s x t
-nothing_read s t None is reads still same = absurd (true≢false (sym is))
-nothing_read s t (Some answer) is reads still same = nothing_taken s t answer reads same (ap (λ (a : ℕ × ℕ). a.0) still) (ap (λ (a : ℕ × ℕ). a.1) still)
-
-pub unread_counter : (s t : CounterThing) (read : Option (ℕ × ℕ)) → is_some read ≡ false → IfNone read (t ≡ s) → t ≡ s
-unread_counter s t None is same = same
-unread_counter s t (Some answer) is same = absurd (true≢false is)
+-- nothing waits behind what was read of a still counter
+pub nothing_waits : (s t : CounterThing) (read : Option (ℕ × ℕ)) → is_some read ≡ true → IfSome read (λ answer. Flushes CounterStep counter_start counter_flush s.root answer t.root) → NothingWaits t.root
+nothing_waits s t None is reads = absurd (true≢false (sym is))
+nothing_waits s t (Some answer) is reads = flushed_counter s.root t.root answer reads
 
 -- one that is idle and in which nothing waits is passed over
 pub passed_over : (settings : DogStatsDSettings) (moment place : ℕ) (old new : List (LiveSeries CounterThing)) (marks : List Bool) (w : WriterText) (u : UpdateText) (found : CounterState) → found.delta ≡ 0 → found.updates ≡ 0

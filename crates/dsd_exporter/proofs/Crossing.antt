@@ -8,12 +8,12 @@ use Rattle.metrics_registry.proofs.registry.Registry.TheSendSync as registry
 use Rattle.flushed_cells.proofs.counter.DsdCounter.TheSendSync as counters
 use Rattle.flushed_cells.proofs.gauge.DsdGauge.TheSendSync as gauges
 use Rattle.flushed_cells.proofs.pass.DsdPass.TheSendSync as passes
-use Rattle.cell_lanes.proofs.owned.OwnedCell.TheSendSync as owned
 use Rattle.dsd_writer.specs.contracts.kept_keys.KeptKeys as KeptKeys
 use Rattle.dsd_writer.specs.contracts.kept_keys.KeptKeys.TheInside as kept
 use Rattle.dsd_writer.specs.contracts.kept_keys.KeptPlace as KeptPlace
 use Rattle.dsd_exporter.proofs.configuration.StateConfiguration.TheSendSync as configuration
 use Rattle.dsd_exporter.proofs.gauge_texts.GaugeLine.TheSendSync as line
+use Rattle.dsd_exporter.proofs.kept_cells.KeptCell.TheSendSync as cells
 use Rattle.dsd_exporter.proofs.queued.QueuedSamples.TheSendSync as queued
 use Rattle.dsd_exporter.specs.contracts.gauge_texts.GaugeTexts as GaugeTexts
 use Rattle.dsd_exporter.specs.contracts.gauge_texts.GaugeTexts.TheInside as texts
@@ -42,7 +42,7 @@ state-send =
     view_send _ _ _ _ _ (declared_send stored.the_type (
       search (sendable, crosses, configuration.the_send) depth 30 fits 4000,
       (
-        search (sendable, crosses, registry.the_send, owned.the_send, counters.the_send, counters.the_sync, gauges.the_send, gauges.the_sync, passes.the_send, queued.the_send) depth 30 fits 4000,
+        search (sendable, crosses, registry.the_send, cells.the_send, counters.the_send, counters.the_sync, gauges.the_send, gauges.the_sync, passes.the_send, queued.the_send) depth 40 fits 20000,
         (as_row_send GaugeTexts.the_field texts-send, tt),
       ),
     ))

@@ -1,5 +1,5 @@
 -- What a flush finds of cells of which no pass is out: all that the exporter had seen.
-use Rattle.std.proofs.Common.{◌≡◌, List, [], ◌∷◌, ◌++◌, length, map, refl, sym, ap, subst, ◌∙◌, append_assoc, arith}
+use Rattle.std.proofs.Common.{◌≡◌, List, [], ◌∷◌, ◌++◌, length, map, refl, sym, ap, subst, ◌∙◌, append_assoc, arith, ⊎_elim}
 use Rattle.std.specs.Prelude.{All}
 use Rattle.std.proofs.lemmas.List.Elements.{All-head, All-tail}
 use Rattle.std.proofs.lemmas.List.{append-nil}
@@ -26,7 +26,7 @@ use Rattle.metrics_registry.specs.Live.{LiveSeries}
 use Rattle.dsd_exporter.specs.Samples.{counter_asked, counter_behind, counter_after, gauge_asked, gauge_behind, gauge_after, but_first, waiting_behind, waiting_after, samples_in}
 use Rattle.dsd_exporter.specs.State.{with_cell_of}
 use Rattle.dsd_exporter.specs.Exporter.{CounterThing, GaugeThing, Queued, IsHome, counter_seen, gauge_seen, samples_seen}
-use Rattle.dsd_exporter.specs.Flushing.{TakesCounter, TakesGauge, TakesOne, TakesOut, FoundEmpty, Drains, TakesSamples, AreTaken, with_found}
+use Rattle.dsd_exporter.specs.Flushing.{TakesCounter, CallsCounter, PassesCounter, TakesGauge, CallsGauge, PassesGauge, TakesOne, TakesOut, FoundEmpty, Drains, TakesSamples, AreTaken, with_found}
 
 -- ---- counters
 
@@ -40,15 +40,25 @@ counter-last : (s : CounterState) (cs : List CounterCall) (c : CounterCall) → 
 counter-last s [] c = refl
 counter-last s (x ∷ cs) c = counter-last (counters.changed (counter_asked x) s) cs c
 
+-- a counter without delta and updates is left as it is
+counter-kept : (x : CounterState) → x.delta ≡ 0 → x.updates ≡ 0 → x ≡ flushed x
+counter-kept x delta updates = λ j. record { mode = x.mode; total = x.total; delta = delta j; updates = updates j }
+
 pub counter-left : (s t : CounterThing) (x : CounterState) → TakesCounter s x t → counter_seen t ≡ flushed x
-counter-left s t x takes =
-    let log = takes.0 in
-    ap counter_seen takes.3 ∙ ap counter_after (calls-append log (said s.root.number (counter.Flush x.delta x.updates ∷ []))) ∙ counter-last counter_start (calls log) (counter.Flush x.delta x.updates)
-    ∙ ap flushed (counter-runs counter_start x (calls log) takes.2)
+counter-left s t x takes = ⊎_elim
+    (λ (called : CallsCounter s x t).
+    let log = called.0 in
+    ap counter_seen called.3 ∙ ap counter_after (calls-append log (said s.root.number (counter.Flush x.delta x.updates ∷ []))) ∙ counter-last counter_start (calls log) (counter.Flush x.delta x.updates)
+    ∙ ap flushed (counter-runs counter_start x (calls log) called.2))
+    (λ (passed : PassesCounter s x t).
+    ap counter_seen passed.2 ∙ counter-runs counter_start x (calls s.root.seen) passed.1.holds ∙ counter-kept x passed.1.delta passed.1.updates)
+    takes
 
 pub counter-home : (s t : CounterThing) (x : CounterState) → IsHome s.root → TakesCounter s x t → x ≡ counter_seen s
-counter-home s t x home takes =
-    sym (counter-runs counter_start x (calls takes.0) takes.2) ∙ ap (λ log. counter_after (calls log)) (takes.1.whole home.0 home.1).0
+counter-home s t x home takes = ⊎_elim
+    (λ (called : CallsCounter s x t). sym (counter-runs counter_start x (calls called.0) called.2) ∙ ap (λ log. counter_after (calls log)) (called.1.whole home.0 home.1).0)
+    (λ (passed : PassesCounter s x t). sym (counter-runs counter_start x (calls s.root.seen) passed.1.holds))
+    takes
 
 -- ---- gauges
 
@@ -64,15 +74,25 @@ gauge-last s (x ∷ cs) c = gauge-last (gauges.changed (gauge_asked x) s) cs c
 abbrev pub gauge_kept : GaugeState → GaugeState
 gauge_kept x = gauge_of x.value 0
 
+-- a gauge without updates is left as it is
+gauge-stays : (x : GaugeState) → x.updates ≡ 0 → x ≡ gauge_kept x
+gauge-stays x updates = λ j. record { value = x.value; updates = updates j }
+
 pub gauge-left : (s t : GaugeThing) (x : GaugeState) → TakesGauge s x t → gauge_seen t ≡ gauge_kept x
-gauge-left s t x takes =
-    let log = takes.0 in
-    ap gauge_seen takes.3 ∙ ap gauge_after (calls-append log (said s.root.number (gauge.Flush x.value x.updates ∷ []))) ∙ gauge-last gauge_start (calls log) (gauge.Flush x.value x.updates)
-    ∙ ap gauge_kept (gauge-runs gauge_start x (calls log) takes.2)
+gauge-left s t x takes = ⊎_elim
+    (λ (called : CallsGauge s x t).
+    let log = called.0 in
+    ap gauge_seen called.3 ∙ ap gauge_after (calls-append log (said s.root.number (gauge.Flush x.value x.updates ∷ []))) ∙ gauge-last gauge_start (calls log) (gauge.Flush x.value x.updates)
+    ∙ ap gauge_kept (gauge-runs gauge_start x (calls log) called.2))
+    (λ (passed : PassesGauge s x t).
+    ap gauge_seen passed.2 ∙ gauge-runs gauge_start x (calls s.root.seen) passed.1.holds ∙ gauge-stays x passed.1.updates)
+    takes
 
 pub gauge-home : (s t : GaugeThing) (x : GaugeState) → IsHome s.root → TakesGauge s x t → x ≡ gauge_seen s
-gauge-home s t x home takes =
-    sym (gauge-runs gauge_start x (calls takes.0) takes.2) ∙ ap (λ log. gauge_after (calls log)) (takes.1.whole home.0 home.1).0
+gauge-home s t x home takes = ⊎_elim
+    (λ (called : CallsGauge s x t). sym (gauge-runs gauge_start x (calls called.0) called.2) ∙ ap (λ log. gauge_after (calls log)) (called.1.whole home.0 home.1).0)
+    (λ (passed : PassesGauge s x t). sym (gauge-runs gauge_start x (calls s.root.seen) passed.1.holds))
+    takes
 
 -- ---- histograms
 

@@ -1,5 +1,5 @@
 -- Gauges that are flushed, one after the other.
-use Rattle.std.proofs.Common.{◌≡◌, ℕ, ℤ, cond, List, [], ◌∷◌, ◌++◌, length, refl, sym, ap, subst, ◌∙◌}
+use Rattle.std.proofs.Common.{◌≡◌, ℕ, ℤ, cond, List, [], ◌∷◌, ◌++◌, length, refl, sym, ap, subst, ◌∙◌, inl}
 use Rattle.std.specs.Prelude.{nat_lt, option_map, slice_get, FitsSigned}
 use Rattle.std.specs.Int.{w64}
 use Rattle.metrics_core.specs.Numbers.{dogstatsd_number}
@@ -30,7 +30,7 @@ gauge_taken s t answer m same =
     let x = m.1 in
     let is : answer ≡ (x.value, x.updates) = λ j. (m.5.0 j, m.5.1 j) in
     let root = m.6 ∙ ap (λ (a : FixedOf × ℕ). after s.root m.0 (gauge.Flush a.0 a.1 ∷ [])) is in
-    (x, is, (m.0, m.3, m.4, λ j. record { root = root j; fixed = same j }))
+    (x, is, inl (m.0, m.3, m.4, λ j. record { root = root j; fixed = same j }))
 
 module _ (settings : DogStatsDSettings) (moment place : ℕ) (old new : List (LiveSeries GaugeThing)) (w v : WriterText) (u : UpdateText)
     (found : GaugeState) (answer : FixedOf × ℕ) (is : answer ≡ (found.value, found.updates)) (takes : ChangesAt place (λ c d. TakesGauge c found d) old new)

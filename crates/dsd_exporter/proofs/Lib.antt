@@ -24,3 +24,4 @@ pub mod SentSamples
 pub mod Taken
 pub mod Unmapped
 pub mod GaugeTexts
+pub mod Waiting

@@ -25,7 +25,7 @@ use Rattle.sample_queue.specs.declared.calls.QueueCall.TheVariants.{Pop}
 use Rattle.sample_queue.specs.declared.calls.SampleEntry.{SampleEntry}
 use Rattle.dsd_exporter.specs.declared.lanes.SeriesEntry.TheVariants as entry
 use Rattle.dsd_exporter.specs.Exporter.{Exporter, CounterThing, GaugeThing, Queued, IsHome}
-use Rattle.dsd_exporter.specs.Flushing.{AreTaken, Drains, MaybeDrained, TakesCounter, TakesGauge, TakesOne, TakesOut, TakesSamples, Unchanged}
+use Rattle.dsd_exporter.specs.Flushing.{AreTaken, Drains, MaybeDrained, TakesCounter, CallsCounter, PassesCounter, TakesGauge, CallsGauge, PassesGauge, TakesOne, TakesOut, TakesSamples, Unchanged}
 use Rattle.dsd_exporter.specs.LanePasses.{counter_thing, gauge_thing, histogram_thing, things_of}
 use Rattle.dsd_exporter.specs.LaneIndices.{CounterHas, GaugeHas, HistogramHas}
 use Rattle.dsd_exporter.specs.Resting.{AllRest, BeginsAtRest, FlushRests, NewSeriesRest, Rests, RestsForLanes}
@@ -77,12 +77,16 @@ module _ {C : Type 0} where
 -- ---- a flush
 
 counter_rests : (s t : CounterThing) (x : CounterState) → Rests s.root → TakesCounter s x t → Rests t.root
-counter_rests s t x rests takes =
-    subst (λ (c : CounterThing). Rests c.root) (sym takes.3) (rests_after s.root takes.0 (counter.Flush x.delta x.updates ∷ []) rests.0 takes.1)
+counter_rests s t x rests takes = ⊎_elim
+    (λ (called : CallsCounter s x t). subst (λ (c : CounterThing). Rests c.root) (sym called.3) (rests_after s.root called.0 (counter.Flush x.delta x.updates ∷ []) rests.0 called.1))
+    (λ (passed : PassesCounter s x t). subst (λ (c : CounterThing). Rests c.root) (sym passed.2) rests)
+    takes
 
 gauge_rests : (s t : GaugeThing) (x : GaugeState) → Rests s.root → TakesGauge s x t → Rests t.root
-gauge_rests s t x rests takes =
-    subst (λ (c : GaugeThing). Rests c.root) (sym takes.3) (rests_after s.root takes.0 (gauge.Flush x.value x.updates ∷ []) rests.0 takes.1)
+gauge_rests s t x rests takes = ⊎_elim
+    (λ (called : CallsGauge s x t). subst (λ (c : GaugeThing). Rests c.root) (sym called.3) (rests_after s.root called.0 (gauge.Flush x.value x.updates ∷ []) rests.0 called.1))
+    (λ (passed : PassesGauge s x t). subst (λ (c : GaugeThing). Rests c.root) (sym passed.2) rests)
+    takes
 
 one_rests : (v w : View (QueueCall FixedOf)) (e : SampleEntry FixedOf) → Rests v → TakesOne v e w → Rests w
 one_rests v w e rests m = subst Rests (sym m.6) (rests_after v m.0 (Pop e ∷ []) rests.0 m.3)

@@ -1,5 +1,5 @@
 -- What a flush takes of each cell, and what it sends and notes of it.
-use Rattle.std.specs.Prelude.{◌≡◌, ℕ, zero, suc, ◌+◌, ◌<◌, ◌≤◌, codes, Bool, nat_lt, ℤ, List, [], ◌∷◌, ◌++◌, length, option_map, slice_get, Some, Option, if◌then◌else◌}
+use Rattle.std.specs.Prelude.{◌≡◌, ◌⊎◌, ℕ, zero, suc, ◌+◌, ◌<◌, ◌≤◌, codes, Bool, nat_lt, ℤ, List, [], ◌∷◌, ◌++◌, length, option_map, slice_get, Some, Option, if◌then◌else◌}
 use Rattle.std.specs.List.{FoldsTo}
 use Rattle.legal_history.specs.declared.history.Entry.{Entry}
 use Rattle.legal_history.specs.declared.history.View.{View}
@@ -32,20 +32,34 @@ use Rattle.dsd_exporter.specs.Samples.{samples_in}
 use Rattle.dsd_exporter.specs.State.{DogStatsDSettings, FlushItem, flush_items, flush_step, with_cell_of, is_quiet, line_letter, timestamp, item_for, idle_at, marks_after, counter_items, gauge_item, histogram_items, words_for, items_of_counters, items_of_gauges, items_of_histograms, lines_of_items}
 use Rattle.dsd_exporter.specs.Updates.{UpdateText, with_contexts, with_points, with_failed, with_left_out, with_items}
 use Rattle.dsd_exporter.specs.Exporter.{Exporter, state_seen, CounterThing, GaugeThing, Queued}
+use Rattle.dsd_exporter.specs.Waiting.{CounterRests, GaugeRests}
 
 -- ---- what is taken of a cell
 
 -- A flush of a counter is one call of its history, behind a beginning that has all that the exporter had seen: there the counter was so.
-abbrev pub TakesCounter : CounterThing → CounterState → CounterThing → Type 0
-TakesCounter s x t =
+abbrev pub CallsCounter : CounterThing → CounterState → CounterThing → Type 0
+CallsCounter s x t =
     (log : List (Entry CounterCall)) × Sees s.root log × Runs CounterStep counter_start (calls log) x
     × (t ≡ record s { root = after s.root log (counter.Flush x.delta x.updates ∷ []) })
 
+-- Where no pass is out and nothing waits it may be no call: the history stays as the exporter has seen it.
+abbrev pub PassesCounter : CounterThing → CounterState → CounterThing → Type 0
+PassesCounter s x t = (s.root.out ≡ 0) × CounterRests s.root x × (t ≡ s)
+
+abbrev pub TakesCounter : CounterThing → CounterState → CounterThing → Type 0
+TakesCounter s x t = CallsCounter s x t ⊎ PassesCounter s x t
+
 -- the same of a gauge
-abbrev pub TakesGauge : GaugeThing → GaugeState → GaugeThing → Type 0
-TakesGauge s x t =
+abbrev pub CallsGauge : GaugeThing → GaugeState → GaugeThing → Type 0
+CallsGauge s x t =
     (log : List (Entry GaugeCall)) × Sees s.root log × Runs GaugeStep gauge_start (calls log) x
     × (t ≡ record s { root = after s.root log (gauge.Flush x.value x.updates ∷ []) })
+
+abbrev pub PassesGauge : GaugeThing → GaugeState → GaugeThing → Type 0
+PassesGauge s x t = (s.root.out ≡ 0) × GaugeRests s.root x × (t ≡ s)
+
+abbrev pub TakesGauge : GaugeThing → GaugeState → GaugeThing → Type 0
+TakesGauge s x t = CallsGauge s x t ⊎ PassesGauge s x t
 
 -- a pass took an entry out of a queue; and entries, one after the other
 abbrev pub TakesOne : View (QueueCall FixedOf) → SampleEntry FixedOf → View (QueueCall FixedOf) → Type 0

@@ -13,3 +13,4 @@ pub mod Sending
 pub mod State
 pub mod Updates
 pub mod GaugeTexts
+pub mod Waiting

@@ -1,6 +1,6 @@
 //! A flush: what waits in each series is taken, written and counted, series by series.
 
-ghost use Rattle.std.specs.Prelude.{◌≡◌, ◌&&◌, ◌<◌, ℕ, ℤ, ◌^◌, List, ◌∷◌, [], codes, length, decimal, option_map, slice_get, vec_len, vec_capacity, IfSome, OnOk, OnErr, FitsSigned, true};
+ghost use Rattle.std.specs.Prelude.{◌≡◌, ◌&&◌, ◌<◌, ℕ, ℤ, ◌^◌, List, ◌∷◌, [], codes, length, decimal, option_map, slice_get, vec_len, vec_capacity, IfNone, IfOk, IfSome, OnOk, OnErr, FitsSigned, true};
 ghost use Rattle.std.specs.Bool.{OnTrue, OnFalse};
 ghost use Rattle.std.specs.Int.{w64};
 ghost use Rattle.metrics_core.specs.Keys.{KeyText};
@@ -11,7 +11,7 @@ ghost use Rattle.flushed_cells.specs.declared.counter_state.CounterState.{Counte
 ghost use Rattle.flushed_cells.specs.declared.gauge_state.GaugeState.{GaugeState};
 ghost use Rattle.dsd_exporter.specs.State.{idle_at};
 ghost use Rattle.dsd_exporter.specs.Exporter.{AllHome};
-ghost use Rattle.dsd_exporter.specs.Flushing.{Found, Flushes, FlushesAll, IsWhole, HasKeyAt, ChangesAt, TakesCounter, TakesGauge, WritesOne, Sends, FlushesCounter, FlushesGauge, CountersFlushed, GaugesFlushed, counter_line, gauge_line};
+ghost use Rattle.dsd_exporter.specs.Flushing.{Found, Flushes, FlushesAll, IsWhole, HasKeyAt, ChangesAt, PassesGauge, TakesCounter, TakesGauge, WritesOne, Sends, FlushesCounter, FlushesGauge, CountersFlushed, GaugesFlushed, counter_line, gauge_line};
 
 use crate::flush_state::{FlushState, has_mark, replace_mark, reserve_mark};
 use crate::state::State;
@@ -69,7 +69,7 @@ impl State {
             × ChangesAt place (λ c d. TakesCounter c found d) self.old.series.counters self.new.series.counters }
         ensures others { self.new ≡ record self.old { series = record self.old.series { counters = self.new.series.counters } } }
     {
-        self.series.counter_at(place).read(rt)
+        self.series.counter_at(place).take_delta(rt)
     }
 
     /// Takes what waits in the counter at a place where that is nothing: no delta, and no updates. Elsewhere nothing changes.
@@ -80,8 +80,7 @@ impl State {
         ensures none { OnFalse result (self.new ≡ self.old) }
         ensures others { self.new ≡ record self.old { series = record self.old.series { counters = self.new.series.counters } } }
     {
-        let read = self.series.counter_at(place).read_still(rt);
-        read.is_some()
+        self.series.counter_at(place).take_nothing(rt)
     }
 
     /// Flushes the counter at a place where it is idle and nothing waits in it: it is not sent, and stays idle. Elsewhere
@@ -228,7 +227,7 @@ impl State {
             × ChangesAt place (λ c d. TakesGauge c found d) self.old.series.gauges self.new.series.gauges }
         ensures others { self.new ≡ record self.old { series = record self.old.series { gauges = self.new.series.gauges } } }
     {
-        self.series.gauge_at(place).read(rt)
+        self.series.gauge_at(place).take_value(rt)
     }
 
     /// Keeps the line of the gauge at a place with this value, for flushes that find the value again.
@@ -288,8 +287,42 @@ impl State {
         written
     }
 
-    /// Flushes the gauge at a place. Where memory is refused nothing changes.
-    fn flush_gauge<R: Wait>(
+    /// The value of the gauge at a place, where no pass of it is out and nothing waits in it for sure.
+    fn resting_gauge(&self, place: usize) -> Option<Fixed>
+        ensures { IfSome result (λ value. (found : GaugeState) × (value ≡ found.value)
+            × ChangesAt place (λ c d. PassesGauge c found d) self.now.series.gauges self.now.series.gauges) }
+    {
+        let gauges = self.series.gauges();
+        gauges.cell(place)?.resting_value()
+    }
+
+    /// Writes the line of the gauge at a place again, where nothing waits in the gauge for sure and the line is kept. Elsewhere nothing
+    /// is written. A refused call leaves the lines as they were.
+    fn write_again(
+        &self,
+        place: usize,
+        moment: u64,
+        writer: &mut PayloadWriter,
+    ) -> Result<Option<WriteResult>, Memory>
+        ensures written { IfOk result (λ written. IfSome written (λ written. (found : GaugeState) × (key : KeyText) × HasKeyAt place key self.now.series.gauges
+            × ChangesAt place (λ c d. PassesGauge c found d) self.now.series.gauges self.now.series.gauges
+            × WritesOne (gauge_line self.now.settings writer.old.global_tags moment key) (dogstatsd_number found.value.0) written writer.old writer.new)) }
+        ensures unwritten { IfOk result (λ written. IfNone written (writer.new ≡ writer.old)) }
+        ensures refused { OnErr result (SameSettings writer.old writer.new × (writer.new.lines ≡ writer.old.lines)) }
+    {
+        let Some(value) = self.resting_gauge(place) else {
+            return Ok(None);
+        };
+        let Some(line) = self.kept_line(place, value, moment, writer) else {
+            return Ok(None);
+        };
+        let written = writer.write_gauge_line(line)?;
+        Ok(Some(written))
+    }
+
+    /// Flushes the gauge at a place, whatever waits in it: the room of its line is made first. Where memory is refused nothing
+    /// changes.
+    fn take_and_write_gauge<R: Wait>(
         &mut self,
         rt: &R,
         place: usize,
@@ -309,6 +342,28 @@ impl State {
         let written = self.write_gauge(place, value, moment, writer);
         telemetry.count_number(MetricKind::Gauge, updates, &written);
         Ok(())
+    }
+
+    /// Flushes the gauge at a place. Where memory is refused nothing changes.
+    fn flush_gauge<R: Wait>(
+        &mut self,
+        rt: &R,
+        place: usize,
+        writer: &mut PayloadWriter,
+        telemetry: &mut TelemetryUpdate,
+        moment: u64,
+    ) -> Result<(), Memory>
+        requires { place < length self.old.series.gauges }
+        ensures flushed { OnOk result (FlushesGauge self.old.settings moment place self.old.series.gauges self.new.series.gauges
+            writer.old writer.new telemetry.old telemetry.new) }
+        ensures others { self.new ≡ record self.old { series = record self.old.series { gauges = self.new.series.gauges } } }
+        ensures refused { OnErr result ((self.new.series.gauges ≡ self.old.series.gauges) × Sends [] writer.old writer.new telemetry.old telemetry.new) }
+    {
+        if let Some(written) = self.write_again(place, moment, writer)? {
+            telemetry.count_number(MetricKind::Gauge, 0, &written);
+            return Ok(());
+        }
+        self.take_and_write_gauge(rt, place, writer, telemetry, moment)
     }
 
     /// Flushes all gauges, in order. Where memory is refused those before the refused one were flushed.

@@ -11,7 +11,6 @@ ghost use Rattle.dsd_exporter.specs.declared.lanes.SeriesEntry.{SeriesEntry};
 ghost use Rattle.dsd_exporter.specs.declared.lanes.SeriesCell.{SeriesCell};
 ghost use Rattle.dsd_exporter.specs.LanePasses.{things_of, frame_of, ids_of, pass_known, IsPassOf, IsIndex, StandsAt};
 
-use crate::lane_cells::{lend_cell, settle_cell, take_cell};
 use crate::lanes::LanePass;
 use crate::state::State;
 use metrics_core::{Memory, MetricKind, SeriesId};
@@ -134,11 +133,11 @@ impl State {
     {
         match self.place_at(index) {
             Place::Counter(place) => {
-                let counter = lend_cell(alloc, self.series.counter_at(place))?;
+                let counter = self.series.counter_at(place).lend_to_lane(alloc)?;
                 Ok(LanePass::Counter(counter))
             }
             Place::Gauge(place) => {
-                let gauge = lend_cell(alloc, self.series.gauge_at(place))?;
+                let gauge = self.series.gauge_at(place).lend_to_lane(alloc)?;
                 Ok(LanePass::Gauge(gauge))
             }
             Place::Histogram(place) => {
@@ -157,10 +156,10 @@ impl State {
         ensures frame { frame_of self.new ≡ frame_of self.old }
     {
         match lent {
-            LanePass::Counter(counter) => take_cell(self.series.counter_at(index), counter),
+            LanePass::Counter(counter) => self.series.counter_at(index).take_from_lane(counter),
             LanePass::Gauge(gauge) => {
                 let counters = self.series.counter_count();
-                take_cell(self.series.gauge_at(index - counters), gauge);
+                self.series.gauge_at(index - counters).take_from_lane(gauge);
             }
             LanePass::Histogram(histogram) => {
                 let values = self.series.counter_count() + self.series.gauge_count();
@@ -181,8 +180,8 @@ impl State {
         ensures frame { frame_of self.new ≡ frame_of self.old }
     {
         match self.place_at(index) {
-            Place::Counter(place) => settle_cell(rt, self.series.counter_at(place)),
-            Place::Gauge(place) => settle_cell(rt, self.series.gauge_at(place)),
+            Place::Counter(place) => self.series.counter_at(place).settle(rt),
+            Place::Gauge(place) => self.series.gauge_at(place).settle(rt),
             Place::Histogram(place) => self.series.histogram_at(place).settle(rt),
         }
     }

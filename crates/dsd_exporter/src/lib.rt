@@ -16,6 +16,7 @@ mod flushing;
 mod gauge_texts;
 mod histogram_flushing;
 mod indices;
+mod kept_cells;
 mod lane_cells;
 mod lane_laws;
 mod lanes;

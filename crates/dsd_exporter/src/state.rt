@@ -11,9 +11,9 @@ ghost use Rattle.dsd_exporter.specs.Lending.{LendsCounter, LendsGauge, LendsHist
 
 use crate::configuration::StateConfiguration;
 use crate::gauge_texts::GaugeTexts;
+use crate::kept_cells::{KeptCell, new_counter, new_gauge};
 use crate::lent::Lent;
 use crate::queued::QueuedSamples;
-use cell_lanes::OwnedCell;
 use flushed_cells::{CounterPass, DsdCounter, DsdGauge, GaugePass};
 use hash_starts::HashStart;
 use metrics_core::{Fixed, Key, Memory, MetricKind, SeriesId};
@@ -28,7 +28,7 @@ use std::sync::Arc;
 #[derive(Drop)]
 pub struct State {
     pub(crate) configuration: StateConfiguration,
-    pub(crate) series: Registry<OwnedCell<DsdCounter>, OwnedCell<DsdGauge>, QueuedSamples>,
+    pub(crate) series: Registry<KeptCell<DsdCounter>, KeptCell<DsdGauge>, QueuedSamples>,
     /// What lines want of the gauges, in order.
     pub(crate) gauge_keys: GaugeTexts,
 }
@@ -113,9 +113,7 @@ impl State {
     {
         let number = self.series.made();
         if number < u64::MAX {
-            return self
-                .series
-                .register_counter(key, || DsdCounter::owned(alloc));
+            return self.series.register_counter(key, || new_counter(alloc));
         }
         match self.series.find_counter(&key) {
             Some(id) => Ok(id),
@@ -178,7 +176,7 @@ impl State {
         // That a gauge can be taken back needs how many were made.
         let _made = self.series.made();
         let count = self.series.gauge_count();
-        let id = self.series.register_gauge(key, || DsdGauge::owned(alloc))?;
+        let id = self.series.register_gauge(key, || new_gauge(alloc))?;
         let gauges = self.series.gauges();
         let Some(key) = gauges.key(count) else {
             return Ok(id);

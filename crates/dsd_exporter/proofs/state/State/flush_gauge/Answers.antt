@@ -1,31 +1,21 @@
-use Rattle.std.proofs.Common.{◌≡◌, ◌<◌, length, ap, sym, subst, ◌∙◌}
+use Rattle.std.proofs.Common.{◌≡◌, refl, sym, inr, subst, Option, Some, IfSome}
+use Rattle.metrics_core.specs.Keys.{KeyText}
+use Rattle.metrics_core.specs.Numbers.{dogstatsd_number}
 use Rattle.flushed_cells.specs.declared.gauge_state.GaugeState.{GaugeState}
-use Rattle.dsd_exporter.specs.Exporter.{Exporter}
-use Rattle.dsd_exporter.specs.Flushing.{ChangesAt, TakesGauge}
-use Rattle.dsd_exporter.proofs.Taken.{length-with}
-use Rattle.dsd_exporter.proofs.Gauges.{flushed_gauge, gauge_room}
+use Rattle.dsd_writer.specs.Results.{Written}
+use Rattle.dsd_exporter.specs.Flushing.{ChangesAt, HasKeyAt, PassesGauge, WritesOne, gauge_line}
+use Rattle.dsd_exporter.proofs.Gauges.{flushed_gauge}
 use Rattle.dsd_exporter.proofs.state.State.flush_gauge.Goals as goal
 
-pub write_gauge-written-requires-clause-here : goal.write_gauge-written-requires-clause-here
-write_gauge-written-requires-clause-here g c =
-    let taken = c.take_gauge-updates.ensures.taken in
-    subst (λ (e : Exporter). c.args.place < length e.series.gauges) (sym c.keep_line.ensures)
-    (subst (λ n. c.args.place < n) (sym (ap length taken.2.4 ∙ length-with c.args.self.now.series.gauges c.args.place taken.2.1)) c.requires)
-
-pub write_gauge-written-requires-clause-room : goal.write_gauge-written-requires-clause-room
-write_gauge-written-requires-clause-room g c =
+pub returns-in-Some-clause-flushed : goal.returns-in-Some-clause-flushed
+returns-in-Some-clause-flushed g c =
     let old = c.args.self.now in
-    let taken = c.take_gauge-updates.ensures.taken in
-    gauge_room c.args.moment c.args.place old c.keep_line.new.self c.args.writer.now c.reserve_gauge.new.writer taken.2.1
-    (ap (λ (e : Exporter). e.series.gauges) c.keep_line.ensures ∙ taken.2.4)
-    (subst (λ (e : Exporter). e ≡ record old { series = record old.series { gauges = e.series.gauges } }) (sym c.keep_line.ensures) c.take_gauge-updates.ensures.others)
-    c.in_ok-reserve_gauge.ensures.settings c.in_ok-reserve_gauge.ensures.room
-
-pub returns-clause-flushed : goal.returns-clause-flushed
-returns-clause-flushed g c =
-    let old = c.args.self.now in
-    let result = c.take_gauge-updates.result in
-    let taken = subst (λ (e : Exporter). (found : GaugeState) × (result ≡ (found.value, found.updates)) × ChangesAt c.args.place (λ s t. TakesGauge s found t) old.series.gauges e.series.gauges)
-    (sym c.keep_line.ensures) c.take_gauge-updates.ensures.taken in
-    flushed_gauge old.settings c.args.moment c.args.place _ _ _ _ _ taken.0 result taken.1 taken.2 c.in_ok-reserve_gauge.ensures.settings c.in_ok-reserve_gauge.ensures.lines _ _
-    c.write_gauge-written.result _ (ap (λ (e : Exporter). e.settings) (c.keep_line.ensures ∙ c.take_gauge-updates.ensures.others)) c.write_gauge-written.ensures c.count_number.ensures
+    let live = old.series.gauges in
+    let again = subst (λ (o : Option Written). IfSome o (λ written. (found : GaugeState) × (key : KeyText) × HasKeyAt c.args.place key live
+    × ChangesAt c.args.place (λ s t. PassesGauge s found t) live live
+    × WritesOne (gauge_line old.settings c.args.writer.now.global_tags c.args.moment key) (dogstatsd_number found.value.0) written c.args.writer.now c.write_again.new.writer)) c.in-Some.is c.in_ok-written.ensures.written in
+    let found = again.0 in
+    let passes = again.3 in
+    flushed_gauge old.settings c.args.moment c.args.place live live c.args.writer.now c.args.writer.now c.args.telemetry.now found (found.value, 0) (λ j. (found.value, sym passes.3.1.updates j))
+    (passes.0, passes.1, passes.2, inr passes.3, passes.4) (record { same_limit = refl; same_start = refl; same_tags = refl }) refl _ _
+    c.in-Some.written old.settings refl (again.1, again.2, again.4) c.count_number.ensures

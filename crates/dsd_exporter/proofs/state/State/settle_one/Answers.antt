@@ -6,8 +6,8 @@ use Rattle.dsd_exporter.proofs.LaneThings.{HomeAt, counter_here, gauge_here, his
 use Rattle.dsd_exporter.proofs.GaugeKeys.{keys-with_cell_at}
 use Rattle.dsd_exporter.proofs.state.State.settle_one.Goals as goal
 
-pub settle_cell-requires-clause-home : goal.settle_cell-requires-clause-home
-settle_cell-requires-clause-home g c κs lives =
+pub settle-requires-clause-home : goal.settle-requires-clause-home
+settle-requires-clause-home g c κs lives =
     let at = subst (λ e. StandsAt c.args.index e (places.Counter c.in-Counter.place)) (sym c.self.view_is) c.in-Counter.ensures in
     let home = subst (λ e. HomeAt e c.args.index) (sym c.self.view_is) c.requires.home in
     home (of_counter c.counter_at.result.now) (counter_here (the_view c.self.inside) c.args.index c.in-Counter.place c.counter_at.result.now at.0 c.counter_at.ensures.value)
@@ -15,20 +15,20 @@ settle_cell-requires-clause-home g c κs lives =
 pub returns-in-Counter-clause-same : goal.returns-in-Counter-clause-same
 returns-in-Counter-clause-same g c =
     let at = subst (λ e. StandsAt c.args.index e (places.Counter c.in-Counter.place)) (sym c.self.view_is) c.in-Counter.ensures in
-    rw (← c.self.view_is) (ap things_of (counter_settles (the_view c.self.inside) c.args.index c.in-Counter.place c.counter_at.result.now c.settle_cell.new.cell at.0 c.counter_at.ensures.value c.settle_cell.ensures.same c.settle_cell.ensures.settled).0)
+    rw (← c.self.view_is) (ap things_of (counter_settles (the_view c.self.inside) c.args.index c.in-Counter.place c.counter_at.result.now c.settle.new.self at.0 c.counter_at.ensures.value c.settle.ensures.same c.settle.ensures.settled).0)
 
 pub returns-in-Counter-clause-settled : goal.returns-in-Counter-clause-settled
 returns-in-Counter-clause-settled g c =
     let at = subst (λ e. StandsAt c.args.index e (places.Counter c.in-Counter.place)) (sym c.self.view_is) c.in-Counter.ensures in
-    rw (← c.self.view_is) (counter_settles (the_view c.self.inside) c.args.index c.in-Counter.place c.counter_at.result.now c.settle_cell.new.cell at.0 c.counter_at.ensures.value c.settle_cell.ensures.same c.settle_cell.ensures.settled).1
+    rw (← c.self.view_is) (counter_settles (the_view c.self.inside) c.args.index c.in-Counter.place c.counter_at.result.now c.settle.new.self at.0 c.counter_at.ensures.value c.settle.ensures.same c.settle.ensures.settled).1
 
 pub returns-in-Counter-clause-frame : goal.returns-in-Counter-clause-frame
 returns-in-Counter-clause-frame g c =
     let at = subst (λ e. StandsAt c.args.index e (places.Counter c.in-Counter.place)) (sym c.self.view_is) c.in-Counter.ensures in
-    rw (← c.self.view_is) (ap frame_of (counter_settles (the_view c.self.inside) c.args.index c.in-Counter.place c.counter_at.result.now c.settle_cell.new.cell at.0 c.counter_at.ensures.value c.settle_cell.ensures.same c.settle_cell.ensures.settled).0)
+    rw (← c.self.view_is) (ap frame_of (counter_settles (the_view c.self.inside) c.args.index c.in-Counter.place c.counter_at.result.now c.settle.new.self at.0 c.counter_at.ensures.value c.settle.ensures.same c.settle.ensures.settled).0)
 
-pub settle_cell-requires-in-Gauge-clause-home : goal.settle_cell-requires-in-Gauge-clause-home
-settle_cell-requires-in-Gauge-clause-home g c κs lives =
+pub settle-requires-in-Gauge-clause-home : goal.settle-requires-in-Gauge-clause-home
+settle-requires-in-Gauge-clause-home g c κs lives =
     let at = subst (λ e. StandsAt c.args.index e (places.Gauge c.in-Gauge.place)) (sym c.self.view_is) c.in-Gauge.ensures in
     let home = subst (λ e. HomeAt e c.args.index) (sym c.self.view_is) c.requires.home in
     home (of_gauge c.gauge_at.result.now) (gauge_here (the_view c.self.inside) c.args.index c.in-Gauge.place c.gauge_at.result.now at.0 c.gauge_at.ensures.value)
@@ -36,20 +36,20 @@ settle_cell-requires-in-Gauge-clause-home g c κs lives =
 pub returns-in-Gauge-clause-same : goal.returns-in-Gauge-clause-same
 returns-in-Gauge-clause-same g c =
     let at = subst (λ e. StandsAt c.args.index e (places.Gauge c.in-Gauge.place)) (sym c.self.view_is) c.in-Gauge.ensures in
-    rw (← c.self.view_is) (ap things_of (gauge_settles (the_view c.self.inside) c.args.index c.in-Gauge.place c.gauge_at.result.now c.settle_cell-in-Gauge.new.cell at.0 c.gauge_at.ensures.value c.settle_cell-in-Gauge.ensures.same c.settle_cell-in-Gauge.ensures.settled).0)
+    rw (← c.self.view_is) (ap things_of (gauge_settles (the_view c.self.inside) c.args.index c.in-Gauge.place c.gauge_at.result.now c.settle-in-Gauge.new.self at.0 c.gauge_at.ensures.value c.settle-in-Gauge.ensures.same c.settle-in-Gauge.ensures.settled).0)
 
 pub returns-in-Gauge-clause-settled : goal.returns-in-Gauge-clause-settled
 returns-in-Gauge-clause-settled g c =
     let at = subst (λ e. StandsAt c.args.index e (places.Gauge c.in-Gauge.place)) (sym c.self.view_is) c.in-Gauge.ensures in
-    rw (← c.self.view_is) (gauge_settles (the_view c.self.inside) c.args.index c.in-Gauge.place c.gauge_at.result.now c.settle_cell-in-Gauge.new.cell at.0 c.gauge_at.ensures.value c.settle_cell-in-Gauge.ensures.same c.settle_cell-in-Gauge.ensures.settled).1
+    rw (← c.self.view_is) (gauge_settles (the_view c.self.inside) c.args.index c.in-Gauge.place c.gauge_at.result.now c.settle-in-Gauge.new.self at.0 c.gauge_at.ensures.value c.settle-in-Gauge.ensures.same c.settle-in-Gauge.ensures.settled).1
 
 pub returns-in-Gauge-clause-frame : goal.returns-in-Gauge-clause-frame
 returns-in-Gauge-clause-frame g c =
     let at = subst (λ e. StandsAt c.args.index e (places.Gauge c.in-Gauge.place)) (sym c.self.view_is) c.in-Gauge.ensures in
-    rw (← c.self.view_is) (ap frame_of (gauge_settles (the_view c.self.inside) c.args.index c.in-Gauge.place c.gauge_at.result.now c.settle_cell-in-Gauge.new.cell at.0 c.gauge_at.ensures.value c.settle_cell-in-Gauge.ensures.same c.settle_cell-in-Gauge.ensures.settled).0)
+    rw (← c.self.view_is) (ap frame_of (gauge_settles (the_view c.self.inside) c.args.index c.in-Gauge.place c.gauge_at.result.now c.settle-in-Gauge.new.self at.0 c.gauge_at.ensures.value c.settle-in-Gauge.ensures.same c.settle-in-Gauge.ensures.settled).0)
 
-pub settle-requires : goal.settle-requires
-settle-requires g c =
+pub settle-requires-in-Histogram : goal.settle-requires-in-Histogram
+settle-requires-in-Histogram g c =
     let at = subst (λ e. StandsAt c.args.index e (places.Histogram c.in-Histogram.place)) (sym c.self.view_is) c.in-Histogram.ensures in
     let home = subst (λ e. HomeAt e c.args.index) (sym c.self.view_is) c.requires.home in
     home (of_histogram c.histogram_at.result.now) (histogram_here (the_view c.self.inside) c.args.index c.in-Histogram.place c.histogram_at.result.now at c.histogram_at.ensures.value)
@@ -57,17 +57,17 @@ settle-requires g c =
 pub returns-in-Histogram-clause-same : goal.returns-in-Histogram-clause-same
 returns-in-Histogram-clause-same g c =
     let at = subst (λ e. StandsAt c.args.index e (places.Histogram c.in-Histogram.place)) (sym c.self.view_is) c.in-Histogram.ensures in
-    rw (← c.self.view_is) (ap things_of (histogram_settles (the_view c.self.inside) c.args.index c.in-Histogram.place c.histogram_at.result.now c.settle.new.self at c.histogram_at.ensures.value c.settle.ensures.same c.settle.ensures.settled).0)
+    rw (← c.self.view_is) (ap things_of (histogram_settles (the_view c.self.inside) c.args.index c.in-Histogram.place c.histogram_at.result.now c.settle-in-Histogram.new.self at c.histogram_at.ensures.value c.settle-in-Histogram.ensures.same c.settle-in-Histogram.ensures.settled).0)
 
 pub returns-in-Histogram-clause-settled : goal.returns-in-Histogram-clause-settled
 returns-in-Histogram-clause-settled g c =
     let at = subst (λ e. StandsAt c.args.index e (places.Histogram c.in-Histogram.place)) (sym c.self.view_is) c.in-Histogram.ensures in
-    rw (← c.self.view_is) (histogram_settles (the_view c.self.inside) c.args.index c.in-Histogram.place c.histogram_at.result.now c.settle.new.self at c.histogram_at.ensures.value c.settle.ensures.same c.settle.ensures.settled).1
+    rw (← c.self.view_is) (histogram_settles (the_view c.self.inside) c.args.index c.in-Histogram.place c.histogram_at.result.now c.settle-in-Histogram.new.self at c.histogram_at.ensures.value c.settle-in-Histogram.ensures.same c.settle-in-Histogram.ensures.settled).1
 
 pub returns-in-Histogram-clause-frame : goal.returns-in-Histogram-clause-frame
 returns-in-Histogram-clause-frame g c =
     let at = subst (λ e. StandsAt c.args.index e (places.Histogram c.in-Histogram.place)) (sym c.self.view_is) c.in-Histogram.ensures in
-    rw (← c.self.view_is) (ap frame_of (histogram_settles (the_view c.self.inside) c.args.index c.in-Histogram.place c.histogram_at.result.now c.settle.new.self at c.histogram_at.ensures.value c.settle.ensures.same c.settle.ensures.settled).0)
+    rw (← c.self.view_is) (ap frame_of (histogram_settles (the_view c.self.inside) c.args.index c.in-Histogram.place c.histogram_at.result.now c.settle-in-Histogram.new.self at c.histogram_at.ensures.value c.settle-in-Histogram.ensures.same c.settle-in-Histogram.ensures.settled).0)
 
 pub invariant_of-self-in-Gauge : goal.invariant_of-self-in-Gauge
-invariant_of-self-in-Gauge g c = c.self.invariant ∙ sym (keys-with_cell_at c.self.inside.series.gauges c.in-Gauge.place c.settle_cell-in-Gauge.new.cell)
+invariant_of-self-in-Gauge g c = c.self.invariant ∙ sym (keys-with_cell_at c.self.inside.series.gauges c.in-Gauge.place c.settle-in-Gauge.new.self)

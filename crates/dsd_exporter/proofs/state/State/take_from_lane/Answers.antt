@@ -13,8 +13,8 @@ counter_at-requires c =
     let at = counter_place (the_view c.self.inside) c.args.index c.in-Counter.counter below owned in
     at
 
-pub take_cell-requires-clause-lent : goal.take_cell-requires-clause-lent
-take_cell-requires-clause-lent c κs =
+pub take_from_lane-requires-clause-lent : goal.take_from_lane-requires-clause-lent
+take_from_lane-requires-clause-lent c κs =
     let below = subst (λ e. c.args.index < length (things_of e)) (sym c.self.view_is) c.requires.here in
     let owned : IsPassHere (the_view c.self.inside) (passes.Counter c.in-Counter.counter) c.args.index = subst (λ p. IsPassHere (the_view c.self.inside) p c.args.index) c.in-Counter.is (subst (λ e. IsPassHere e c.args.lent c.args.index) (sym c.self.view_is) c.requires.lent) in
     let at = counter_place (the_view c.self.inside) c.args.index c.in-Counter.counter below owned in
@@ -25,14 +25,14 @@ returns-in-Counter-clause-taken c =
     let below = subst (λ e. c.args.index < length (things_of e)) (sym c.self.view_is) c.requires.here in
     let owned : IsPassHere (the_view c.self.inside) (passes.Counter c.in-Counter.counter) c.args.index = subst (λ p. IsPassHere (the_view c.self.inside) p c.args.index) c.in-Counter.is (subst (λ e. IsPassHere e c.args.lent c.args.index) (sym c.self.view_is) c.requires.lent) in
     let at = counter_place (the_view c.self.inside) c.args.index c.in-Counter.counter below owned in
-    rw (← c.self.view_is, c.in-Counter.is) (counter_takes_back (the_view c.self.inside) c.args.index c.args.index c.counter_at.result.now c.take_cell.new.cell c.in-Counter.counter (refl, at) c.counter_at.ensures.value c.take_cell.ensures).0
+    rw (← c.self.view_is, c.in-Counter.is) (counter_takes_back (the_view c.self.inside) c.args.index c.args.index c.counter_at.result.now c.take_from_lane.new.self c.in-Counter.counter (refl, at) c.counter_at.ensures.value c.take_from_lane.ensures).0
 
 pub returns-in-Counter-clause-frame : goal.returns-in-Counter-clause-frame
 returns-in-Counter-clause-frame c =
     let below = subst (λ e. c.args.index < length (things_of e)) (sym c.self.view_is) c.requires.here in
     let owned : IsPassHere (the_view c.self.inside) (passes.Counter c.in-Counter.counter) c.args.index = subst (λ p. IsPassHere (the_view c.self.inside) p c.args.index) c.in-Counter.is (subst (λ e. IsPassHere e c.args.lent c.args.index) (sym c.self.view_is) c.requires.lent) in
     let at = counter_place (the_view c.self.inside) c.args.index c.in-Counter.counter below owned in
-    rw (← c.self.view_is) (counter_takes_back (the_view c.self.inside) c.args.index c.args.index c.counter_at.result.now c.take_cell.new.cell c.in-Counter.counter (refl, at) c.counter_at.ensures.value c.take_cell.ensures).1
+    rw (← c.self.view_is) (counter_takes_back (the_view c.self.inside) c.args.index c.args.index c.counter_at.result.now c.take_from_lane.new.self c.in-Counter.counter (refl, at) c.counter_at.ensures.value c.take_from_lane.ensures).1
 
 pub overflow_sub-index : goal.overflow_sub-index
 overflow_sub-index c =
@@ -48,8 +48,8 @@ gauge_at-requires c =
     let at = gauge_counted (the_view c.self.inside) c.args.index c.counter_count-counters.result c.counter_count-counters.ensures.count (gauge_place (the_view c.self.inside) c.args.index c.in-Gauge.gauge below owned) in
     at.2
 
-pub take_cell-requires-in-Gauge-clause-lent : goal.take_cell-requires-in-Gauge-clause-lent
-take_cell-requires-in-Gauge-clause-lent c κs =
+pub take_from_lane-requires-in-Gauge-clause-lent : goal.take_from_lane-requires-in-Gauge-clause-lent
+take_from_lane-requires-in-Gauge-clause-lent c κs =
     let below = subst (λ e. c.args.index < length (things_of e)) (sym c.self.view_is) c.requires.here in
     let owned : IsPassHere (the_view c.self.inside) (passes.Gauge c.in-Gauge.gauge) c.args.index = subst (λ p. IsPassHere (the_view c.self.inside) p c.args.index) c.in-Gauge.is (subst (λ e. IsPassHere e c.args.lent c.args.index) (sym c.self.view_is) c.requires.lent) in
     let at = gauge_counted (the_view c.self.inside) c.args.index c.counter_count-counters.result c.counter_count-counters.ensures.count (gauge_place (the_view c.self.inside) c.args.index c.in-Gauge.gauge below owned) in
@@ -60,14 +60,14 @@ returns-in-Gauge-clause-taken c =
     let below = subst (λ e. c.args.index < length (things_of e)) (sym c.self.view_is) c.requires.here in
     let owned : IsPassHere (the_view c.self.inside) (passes.Gauge c.in-Gauge.gauge) c.args.index = subst (λ p. IsPassHere (the_view c.self.inside) p c.args.index) c.in-Gauge.is (subst (λ e. IsPassHere e c.args.lent c.args.index) (sym c.self.view_is) c.requires.lent) in
     let at = gauge_counted (the_view c.self.inside) c.args.index c.counter_count-counters.result c.counter_count-counters.ensures.count (gauge_place (the_view c.self.inside) c.args.index c.in-Gauge.gauge below owned) in
-    rw (← c.self.view_is, c.in-Gauge.is) (gauge_takes_back (the_view c.self.inside) c.args.index (c.args.index - c.counter_count-counters.result) c.gauge_at.result.now c.take_cell-in-Gauge.new.cell c.in-Gauge.gauge (at.1, at.2) c.gauge_at.ensures.value c.take_cell-in-Gauge.ensures).0
+    rw (← c.self.view_is, c.in-Gauge.is) (gauge_takes_back (the_view c.self.inside) c.args.index (c.args.index - c.counter_count-counters.result) c.gauge_at.result.now c.take_from_lane-in-Gauge.new.self c.in-Gauge.gauge (at.1, at.2) c.gauge_at.ensures.value c.take_from_lane-in-Gauge.ensures).0
 
 pub returns-in-Gauge-clause-frame : goal.returns-in-Gauge-clause-frame
 returns-in-Gauge-clause-frame c =
     let below = subst (λ e. c.args.index < length (things_of e)) (sym c.self.view_is) c.requires.here in
     let owned : IsPassHere (the_view c.self.inside) (passes.Gauge c.in-Gauge.gauge) c.args.index = subst (λ p. IsPassHere (the_view c.self.inside) p c.args.index) c.in-Gauge.is (subst (λ e. IsPassHere e c.args.lent c.args.index) (sym c.self.view_is) c.requires.lent) in
     let at = gauge_counted (the_view c.self.inside) c.args.index c.counter_count-counters.result c.counter_count-counters.ensures.count (gauge_place (the_view c.self.inside) c.args.index c.in-Gauge.gauge below owned) in
-    rw (← c.self.view_is) (gauge_takes_back (the_view c.self.inside) c.args.index (c.args.index - c.counter_count-counters.result) c.gauge_at.result.now c.take_cell-in-Gauge.new.cell c.in-Gauge.gauge (at.1, at.2) c.gauge_at.ensures.value c.take_cell-in-Gauge.ensures).1
+    rw (← c.self.view_is) (gauge_takes_back (the_view c.self.inside) c.args.index (c.args.index - c.counter_count-counters.result) c.gauge_at.result.now c.take_from_lane-in-Gauge.new.self c.in-Gauge.gauge (at.1, at.2) c.gauge_at.ensures.value c.take_from_lane-in-Gauge.ensures).1
 
 pub overflow_sub-index-in-Histogram : goal.overflow_sub-index-in-Histogram
 overflow_sub-index-in-Histogram c =
@@ -83,8 +83,8 @@ histogram_at-requires c =
     let at = histogram_counted (the_view c.self.inside) c.args.index c.counter_count.result c.gauge_count.result c.counter_count.ensures.count c.gauge_count.ensures (histogram_place (the_view c.self.inside) c.args.index c.in-Histogram.histogram below owned) in
     at.2
 
-pub take_from_lane-requires : goal.take_from_lane-requires
-take_from_lane-requires c =
+pub take_from_lane-requires-in-Histogram : goal.take_from_lane-requires-in-Histogram
+take_from_lane-requires-in-Histogram c =
     let below = subst (λ e. c.args.index < length (things_of e)) (sym c.self.view_is) c.requires.here in
     let owned : IsPassHere (the_view c.self.inside) (passes.Histogram c.in-Histogram.histogram) c.args.index = subst (λ p. IsPassHere (the_view c.self.inside) p c.args.index) c.in-Histogram.is (subst (λ e. IsPassHere e c.args.lent c.args.index) (sym c.self.view_is) c.requires.lent) in
     let at = histogram_counted (the_view c.self.inside) c.args.index c.counter_count.result c.gauge_count.result c.counter_count.ensures.count c.gauge_count.ensures (histogram_place (the_view c.self.inside) c.args.index c.in-Histogram.histogram below owned) in
@@ -95,14 +95,14 @@ returns-in-Histogram-clause-taken c =
     let below = subst (λ e. c.args.index < length (things_of e)) (sym c.self.view_is) c.requires.here in
     let owned : IsPassHere (the_view c.self.inside) (passes.Histogram c.in-Histogram.histogram) c.args.index = subst (λ p. IsPassHere (the_view c.self.inside) p c.args.index) c.in-Histogram.is (subst (λ e. IsPassHere e c.args.lent c.args.index) (sym c.self.view_is) c.requires.lent) in
     let at = histogram_counted (the_view c.self.inside) c.args.index c.counter_count.result c.gauge_count.result c.counter_count.ensures.count c.gauge_count.ensures (histogram_place (the_view c.self.inside) c.args.index c.in-Histogram.histogram below owned) in
-    rw (← c.self.view_is, c.in-Histogram.is) (histogram_takes_back (the_view c.self.inside) c.args.index (c.args.index - (c.counter_count.result + c.gauge_count.result)) c.histogram_at.result.now c.take_from_lane.new.self c.in-Histogram.histogram at.1 c.histogram_at.ensures.value c.take_from_lane.ensures).0
+    rw (← c.self.view_is, c.in-Histogram.is) (histogram_takes_back (the_view c.self.inside) c.args.index (c.args.index - (c.counter_count.result + c.gauge_count.result)) c.histogram_at.result.now c.take_from_lane-in-Histogram.new.self c.in-Histogram.histogram at.1 c.histogram_at.ensures.value c.take_from_lane-in-Histogram.ensures).0
 
 pub returns-in-Histogram-clause-frame : goal.returns-in-Histogram-clause-frame
 returns-in-Histogram-clause-frame c =
     let below = subst (λ e. c.args.index < length (things_of e)) (sym c.self.view_is) c.requires.here in
     let owned : IsPassHere (the_view c.self.inside) (passes.Histogram c.in-Histogram.histogram) c.args.index = subst (λ p. IsPassHere (the_view c.self.inside) p c.args.index) c.in-Histogram.is (subst (λ e. IsPassHere e c.args.lent c.args.index) (sym c.self.view_is) c.requires.lent) in
     let at = histogram_counted (the_view c.self.inside) c.args.index c.counter_count.result c.gauge_count.result c.counter_count.ensures.count c.gauge_count.ensures (histogram_place (the_view c.self.inside) c.args.index c.in-Histogram.histogram below owned) in
-    rw (← c.self.view_is) (histogram_takes_back (the_view c.self.inside) c.args.index (c.args.index - (c.counter_count.result + c.gauge_count.result)) c.histogram_at.result.now c.take_from_lane.new.self c.in-Histogram.histogram at.1 c.histogram_at.ensures.value c.take_from_lane.ensures).1
+    rw (← c.self.view_is) (histogram_takes_back (the_view c.self.inside) c.args.index (c.args.index - (c.counter_count.result + c.gauge_count.result)) c.histogram_at.result.now c.take_from_lane-in-Histogram.new.self c.in-Histogram.histogram at.1 c.histogram_at.ensures.value c.take_from_lane-in-Histogram.ensures).1
 
 pub invariant_of-self-in-Gauge : goal.invariant_of-self-in-Gauge
-invariant_of-self-in-Gauge c = c.self.invariant ∙ sym (keys-with_cell_at c.self.inside.series.gauges (c.args.index - c.counter_count-counters.result) c.take_cell-in-Gauge.new.cell)
+invariant_of-self-in-Gauge c = c.self.invariant ∙ sym (keys-with_cell_at c.self.inside.series.gauges (c.args.index - c.counter_count-counters.result) c.take_from_lane-in-Gauge.new.self)
