@@ -29,7 +29,7 @@ use metrics_core::{Memory, MetricKind, SeriesId, Sink};
 use std::alloc::Global;
 use std::mem;
 use std::sync::Wait;
-use std::thread::{Threads, spawn};
+use std::thread::Threads;
 
 /// Plays a script: the lanes of each round run side by side, then a page goes to the sink, ended by the line `# EOF`, and then the payloads of
 /// a flush go to the link, which is aimed at the address. The gate is called around each call of a lane. The script is taken apart:
@@ -193,8 +193,8 @@ impl Player {
         Ok(())
     }
 
-    /// Ends the exporter of the pages. What both exporters keep is let go side by side.
-    pub(crate) fn end<R: Threads + Wait>(self, rt: &R) {
+    /// Ends the exporter of the pages, where the program ends behind it: the memory of the series isn't given back block by block.
+    pub(crate) fn end<R: Wait>(self, rt: &R) {
         let Player {
             exporters,
             handles: _,
@@ -208,11 +208,8 @@ impl Player {
             prometheus,
             dogstatsd,
         } = exporters;
-        let aside = spawn(rt, move || drop(dogstatsd));
-        prometheus.end(rt);
-        if let Ok(thread) = aside {
-            thread.join(rt);
-        }
+        mem::forget(dogstatsd);
+        prometheus.end_with_program(rt);
     }
 
     /// Plays a round: its setup, its calls, its page, its flush.
