@@ -10,25 +10,11 @@ use crate::distribution_pages::write_distributions;
 use crate::naming::Naming;
 use crate::pages::write_families;
 use crate::state::PrometheusState;
-use metrics_core::{Memory, Sink, write_whole};
+use metrics_core::{Sink, write_whole};
 use prom_format::FamilyType;
 use std::alloc::Global;
 
 impl PrometheusState {
-    /// Keeps what the rows of the counters and gauges want that were registered since the last page, which then needn't: so a caller
-    /// may have it done beside other work. Where memory is refused it is kept of some of them, and the next page goes on from there.
-    pub fn prepare_rows(&mut self, alloc: Global) -> Result<(), Memory>
-        ensures { self.new ≡ self.old }
-    {
-        let (counter_count, gauge_count) = (self.series.counter_count(), self.series.gauge_count());
-        let counters = self.series.counters();
-        self.counter_rows
-            .catch_up(alloc, &counters, counter_count, &self.globals)?;
-        let gauges = self.series.gauges();
-        self.gauge_rows
-            .catch_up(alloc, &gauges, gauge_count, &self.globals)
-    }
-
     /// Writes the body of the families that the exporter shows at a moment, as it is.
     pub(crate) fn write_body<K: Sink>(
         &mut self,
