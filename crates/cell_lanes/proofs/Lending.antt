@@ -17,15 +17,15 @@ pub times_one : (j : ℕ) (xs : List ℕ) (t : ℕ) → times j (xs ++ t ∷ [])
 times_one j [] t = omega arith
 times_one j (x ∷ xs) t = let h = times_one j xs t in omega arith
 
-module _ {S F : Type 0} (fixed : S → F) where
-  pub stays_none : (c : S) → Stays fixed c c
-  stays_none c = refl
+module _ {S F : Type 0} (lasts : F → F → Type 0) (fixed : S → F) where
+  pub stays_none : ((f : F) → lasts f f) → (c : S) → Stays lasts fixed c c
+  stays_none on c = on (fixed c)
 
-  pub stays_then : (c d e : S) → Stays fixed c d → Stays fixed d e → Stays fixed c e
-  stays_then c d e p q = q ∙ p
+  pub stays_then : ((f g h : F) → lasts f g → lasts g h → lasts f h) → (c d e : S) → Stays lasts fixed c d → Stays lasts fixed d e → Stays lasts fixed c e
+  stays_then then c d e p q = then (fixed c) (fixed d) (fixed e) p q
 
-  pub owned : {L : Type 0} (owns : F → L → Type 0) (c d : S) (x : L) → Stays fixed c d → Owns fixed owns c x → Owns fixed owns d x
-  owned owns c d x p h = subst (λ f. owns f x) (sym p) h
+  pub owned : {L : Type 0} (owns : F → L → Type 0) → ((f g : F) (x : L) → lasts f g → owns f x → owns g x) → (c d : S) (x : L) → Stays lasts fixed c d → Owns fixed owns c x → Owns fixed owns d x
+  owned owns on c d x p h = on (fixed c) (fixed d) x p h
 
 module _ {L : Type 0} where
   pub cells_one : (xs : List (Slot L)) (x : Slot L) → cells_of (xs ++ x ∷ []) ≡ cells_of xs ++ x.cell ∷ []

@@ -158,18 +158,23 @@ cell_here (x ∷ xs) zero y e = ap (λ (z : Slot _). some z.cell) (some-injectiv
 cell_here (x ∷ xs) (suc s) y e = cell_here xs s y e
 
 -- a lane that has a pass for each cell that it names is ready
-pub ready : {S F L M K : Type 0} (root : S → View M) (fixed : S → F) (knows : L → View M) (owns : F → L → Type 0) (takes : F → K → Type 0) (n : ℕ → ℕ) (cs ds : List S) (ls : List (Lane K)) (l : ℕ) (a : Lane K) (x : Job L)
-    → get_elem? ls l ≡ some a → length ds ≡ length cs → Each (λ j. Lends root (Stays fixed) (n j)) cs ds → Fit (length cs) a → AllTaken fixed takes cs ls → Fresh knows x.slots.items → cells_of x.slots.items ≡ a.cells.items → SlotsFit (Owns fixed owns) ds x.slots.items
+pub ready : {S F L M K : Type 0} (root : S → View M) (lasts : F → F → Type 0) (fixed : S → F) (knows : L → View M) (owns : F → L → Type 0) (takes : F → K → Type 0)
+    → ((f g : F) (call : K) → lasts f g → takes f call → takes g call)
+    → (n : ℕ → ℕ) (cs ds : List S) (ls : List (Lane K)) (l : ℕ) (a : Lane K) (x : Job L)
+    → get_elem? ls l ≡ some a → length ds ≡ length cs → Each (λ j. Lends root (Stays lasts fixed) (n j)) cs ds → Fit (length cs) a → AllTaken fixed takes cs ls → Fresh knows x.slots.items → cells_of x.slots.items ≡ a.cells.items → SlotsFit (Owns fixed owns) ds x.slots.items
     → LaneReady knows owns takes a x
-ready {S} root fixed knows owns takes n cs ds ls l a x at len lends fit taken fresh full slots = (
+ready {S} root lasts fixed knows owns takes on n cs ds ls l a x at len lends fit taken fresh full slots = (
   fresh,
   (λ k line e. subst (λ n. HasSlot n line) (sym (ap length full) ∙ cells_length x.slots.items) (fit.lines k line e)),
   (λ k line e. IfSome_then line.slot (taken l a k line at e) (λ s takes_it y f.
       let g = slots s y f in
       let d = below_some ds y.cell g.0 in
-      let c = below_some cs y.cell (let b = g.0 in omega arith) in
-      let same : fixed d.0 ≡ fixed c.0 = (lends y.cell c.0 d.0 c.1 d.1).kept in
-      (fixed c.0, subst (λ h. owns h y.lent) same (g.1 d.0 d.1), takes_it y.cell c.0 (subst (λ ns. get_elem? ns s ≡ some y.cell) full (cell_here x.slots.items s y f)) c.1))),
+      let c = below_some cs y.cell (let b = g.0 in omega arith) in (
+        fixed d.0,
+        g.1 d.0 d.1,
+        on (fixed c.0) (fixed d.0) line.call (lends y.cell c.0 d.0 c.1 d.1).kept
+            (takes_it y.cell c.0 (subst (λ ns. get_elem? ns s ≡ some y.cell) full (cell_here x.slots.items s y f)) c.1),
+      ))),
 )
 
 -- the jobs of lanes that have all run

@@ -148,9 +148,9 @@ module _ {S M : Type 0} (root : S → View M) where
   abbrev pub AtRest : List S → Type 0
   AtRest cs = (j : ℕ) (c : S) → get_elem? cs j ≡ some c → ((root c).out ≡ 0) × Settled (root c)
 
--- what is fixed stays
-abbrev pub Stays : {S F : Type 0} → (S → F) → S → S → Type 0
-Stays fixed c d = fixed d ≡ fixed c
+-- what is fixed lasts on
+abbrev pub Stays : {S F : Type 0} → (F → F → Type 0) → (S → F) → S → S → Type 0
+Stays lasts fixed c d = lasts (fixed c) (fixed d)
 
 -- the pass was lent by this one
 abbrev pub Owns : {S F L : Type 0} → (S → F) → (F → L → Type 0) → S → L → Type 0

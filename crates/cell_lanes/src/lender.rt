@@ -20,7 +20,7 @@ pub trait Lender: Send {
     /// A call as it stands in the history, with its answer.
     type Entry;
 
-    /// What tells one from another, and whatever else is kept with it and never changes.
+    /// What tells one from another, and whatever else is kept with it and lasts.
     type Lasting;
 
     /// What the root pass knows.
@@ -29,7 +29,7 @@ pub trait Lender: Send {
     /// What a lent pass knows.
     ghost knows: { Self.Lent → View Self.Entry };
 
-    /// What lending, calls and taking back leave as it is.
+    /// What calls and taking back leave as it is, and lending too, but that it may make what wasn't there.
     ghost fixed: { Self → Self.Lasting };
 
     /// The pass was lent by one of which this is fixed.
@@ -38,16 +38,31 @@ pub trait Lender: Send {
     /// One of which this is fixed takes this call.
     ghost takes: { Self.Lasting → Self.Call → Type 0 };
 
+    /// This lasts on as that: it is the same, or what wasn't there was made.
+    ghost lasts: { Self.Lasting → Self.Lasting → Type 0 };
+
+    /// What stays lasts on.
+    ghost lasts_on: { (f : Self.Lasting) → lasts f f };
+
+    /// What lasts on and on lasts on.
+    ghost lasts_then: { (f g h : Self.Lasting) → lasts f g → lasts g h → lasts f h };
+
+    /// A pass stays one of what lasts on.
+    ghost owns_on: { (f g : Self.Lasting) (lent : Self.Lent) → lasts f g → owns f lent → owns g lent };
+
+    /// What lasts on takes the same calls.
+    ghost takes_on: { (f g : Self.Lasting) (call : Self.Call) → lasts f g → takes f call → takes g call };
+
     /// What a lane asks for may stand in the history as these calls: mostly one, none where the call changes nothing.
     ghost stands_as: { Self.Call → List Self.Entry → Type 0 };
 
     /// Lends a new pass, which has seen what the root pass has seen and has made no call.
     fn lend(&mut self, alloc: Global) -> Result<Self::Lent, Memory>
         requires { (root self.old).number ≡ 0 }
-        ensures lent { IfOk result (λ new. owns (fixed self.old) new × (knows new ≡ child (root self.old))) }
+        ensures lent { IfOk result (λ new. owns (fixed self.new) new × (knows new ≡ child (root self.old))) }
         ensures root { OnOk result (root self.new ≡ lender (root self.old)) }
-        ensures refused { OnErr result (root self.new ≡ root self.old) }
-        ensures fixed { fixed self.new ≡ fixed self.old };
+        ensures lasts { OnOk result (lasts (fixed self.old) (fixed self.new)) }
+        ensures refused { OnErr result ((root self.new ≡ root self.old) × (fixed self.new ≡ fixed self.old)) };
 
     /// Makes a call with a pass. A refused call changes nothing.
     fn make<R: Wait>(

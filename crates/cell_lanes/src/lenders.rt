@@ -25,7 +25,7 @@ pub trait Lenders: Send {
     /// A call as it stands in the history, with its answer.
     type Entry;
 
-    /// What tells one thing from another, and whatever else is kept with it and never changes.
+    /// What tells one thing from another, and whatever else is kept with it and lasts.
     type Lasting;
 
     /// What is kept beside the things.
@@ -34,7 +34,7 @@ pub trait Lenders: Send {
     /// The things, in the order of their indices.
     ghost things: { Self → List (Thing Self.Entry Self.Lasting) };
 
-    /// All but what the root passes know. Lending, taking back and settling leave it as it is.
+    /// All but what the root passes know and what lasts. Lending, taking back and settling leave it as it is.
     ghost frame: { Self → Self.Frame };
 
     /// What a lent pass knows.
@@ -46,6 +46,21 @@ pub trait Lenders: Send {
     /// A thing of which this is fixed takes this call.
     ghost takes: { Self.Lasting → Self.Call → Type 0 };
 
+    /// This lasts on as that: it is the same, or what wasn't there was made.
+    ghost lasts: { Self.Lasting → Self.Lasting → Type 0 };
+
+    /// What stays lasts on.
+    ghost lasts_on: { (f : Self.Lasting) → lasts f f };
+
+    /// What lasts on and on lasts on.
+    ghost lasts_then: { (f g h : Self.Lasting) → lasts f g → lasts g h → lasts f h };
+
+    /// A pass stays one of what lasts on.
+    ghost owns_on: { (f g : Self.Lasting) (lent : Self.Lent) → lasts f g → owns f lent → owns g lent };
+
+    /// What lasts on takes the same calls.
+    ghost takes_on: { (f g : Self.Lasting) (call : Self.Call) → lasts f g → takes f call → takes g call };
+
     /// What a lane asks for may stand in the history as these calls: mostly one, none where the call changes nothing.
     ghost stands_as: { Self.Call → List Self.Entry → Type 0 };
 
@@ -53,8 +68,9 @@ pub trait Lenders: Send {
     fn lend(&mut self, alloc: Global, index: usize) -> Result<Self::Lent, Memory>
         requires here { index < length (things self.old) }
         requires root { (t : Thing Self.Entry Self.Lasting) → get_elem? (things self.old) index ≡ some t → t.root.number ≡ 0 }
-        ensures lent { IfOk result (λ new. (t : Thing Self.Entry Self.Lasting) → get_elem? (things self.old) index ≡ some t → owns t.fixed new × (knows new ≡ child t.root)) }
-        ensures out { OnOk result ((t : Thing Self.Entry Self.Lasting) → get_elem? (things self.old) index ≡ some t → things self.new ≡ set (things self.old) index (record t { root = lender t.root })) }
+        ensures lent { IfOk result (λ new. (t : Thing Self.Entry Self.Lasting) → get_elem? (things self.old) index ≡ some t
+            → (u : Thing Self.Entry Self.Lasting) × (u.root ≡ lender t.root) × lasts t.fixed u.fixed × owns u.fixed new × (knows new ≡ child t.root)
+            × (things self.new ≡ set (things self.old) index u)) }
         ensures refused { OnErr result (things self.new ≡ things self.old) }
         ensures frame { frame self.new ≡ frame self.old };
 
@@ -111,6 +127,16 @@ impl<S: Lender> Lenders for Vec<S> {
     ghost owns = { S.owns };
 
     ghost takes = { S.takes };
+
+    ghost lasts = { S.lasts };
+
+    ghost lasts_on = { S.lasts_on };
+
+    ghost lasts_then = { S.lasts_then };
+
+    ghost owns_on = { S.owns_on };
+
+    ghost takes_on = { S.takes_on };
 
     ghost stands_as = { S.stands_as };
 

@@ -172,7 +172,7 @@ impl<C: CountedCell> OwnedCell<C> {
 
 impl<C: SharedCell> Lender for OwnedCell<C> {
     ghost use Rattle.std.specs.Prelude.{⊤};
-    ghost use Rattle.cell_lanes.specs.Things.{root_of, fixed_of, knows_of, IsOf};
+    ghost use Rattle.cell_lanes.specs.Things.{root_of, fixed_of, knows_of, IsOf, IsKept, kept_on, kept_then, of_kept};
 
     type Lent = LentCell<C>;
 
@@ -191,6 +191,16 @@ impl<C: SharedCell> Lender for OwnedCell<C> {
     ghost owns = { IsOf };
 
     ghost takes = { λ _ _. ⊤ };
+
+    ghost lasts = { IsKept };
+
+    ghost lasts_on = { kept_on };
+
+    ghost lasts_then = { kept_then };
+
+    ghost owns_on = { of_kept };
+
+    ghost takes_on = { λ _ _ _ _ taken. taken };
 
     ghost stands_as = { C.stands_as };
 

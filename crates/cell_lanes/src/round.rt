@@ -33,7 +33,7 @@ fn lend_lane<S: Lenders>(
     requires room { (slots.old.items ≡ []) × (vec_len slots.old ≡ 0) × (length named.now ≤ vec_capacity slots.old) }
     ensures many { length (S.things shared.new) ≡ length (S.things shared.old) }
     ensures frame { S.frame shared.new ≡ S.frame shared.old }
-    ensures lends { Each (λ j. Lends root_of (Stays fixed_of) (times j (cells_of slots.new.items))) (S.things shared.old) (S.things shared.new) }
+    ensures lends { Each (λ j. Lends root_of (Stays S.lasts fixed_of) (times j (cells_of slots.new.items))) (S.things shared.old) (S.things shared.new) }
     ensures some_cells { cells_of slots.new.items ≡ take (length slots.new.items) named.now }
     ensures slots { SlotsFit (Owns fixed_of S.owns) (S.things shared.new) slots.new.items × Fresh S.knows slots.new.items }
     ensures ok { OnOk result (cells_of slots.new.items ≡ named.now) }
@@ -59,7 +59,7 @@ fn lend_all<S: Lenders>(
     requires room { (jobs.old.items ≡ []) × (vec_len jobs.old ≡ 0) × (length lanes.now ≤ vec_capacity jobs.old) }
     ensures many { length (S.things shared.new) ≡ length (S.things shared.old) }
     ensures frame { S.frame shared.new ≡ S.frame shared.old }
-    ensures lends { Each (λ j. Lends root_of (Stays fixed_of) (lent_on j jobs.new.items)) (S.things shared.old) (S.things shared.new) }
+    ensures lends { Each (λ j. Lends root_of (Stays S.lasts fixed_of) (lent_on j jobs.new.items)) (S.things shared.old) (S.things shared.new) }
     ensures fit { JobsFit (Owns fixed_of S.owns) (S.things shared.new) jobs.new.items }
     ensures fresh { JobsFresh S.knows lanes.now jobs.new.items × (length jobs.new.items ≤ length lanes.now) }
     ensures ok { OnOk result ((length jobs.new.items ≡ length lanes.now) × ((l : ℕ) (a : Lane S.Call) (x : Job S.Lent) → get_elem? lanes.now l ≡ some a → get_elem? jobs.new.items l ≡ some x → cells_of x.slots.items ≡ a.cells.items)) }
@@ -200,7 +200,7 @@ fn lend_and_run<R: Threads + Wait + Sync, H: LaneHook + Sync, S: Lenders>(
     requires room { (jobs.old.items ≡ []) × (vec_len jobs.old ≡ 0) × (length lanes.now ≤ vec_capacity jobs.old) }
     ensures many { length (S.things shared.new) ≡ length (S.things shared.old) }
     ensures frame { S.frame shared.new ≡ S.frame shared.old }
-    ensures lends { Each (λ j. Lends root_of (Stays fixed_of) (lent_on j jobs.new.items)) (S.things shared.old) (S.things shared.new) }
+    ensures lends { Each (λ j. Lends root_of (Stays S.lasts fixed_of) (lent_on j jobs.new.items)) (S.things shared.old) (S.things shared.new) }
     ensures fit { JobsFit (Owns fixed_of S.owns) (S.things shared.new) jobs.new.items }
     ensures few { length jobs.new.items ≤ length lanes.now }
     ensures ran { JobsRan S.knows S.stands_as lanes.now jobs.new.items }
@@ -221,7 +221,7 @@ fn take_lane<S: Lenders>(shared: &mut S, lane: usize, mut slots: Vec<Slot<S::Len
     requires slots { SlotsFit (Owns fixed_of S.owns) (S.things shared.old) slots.items }
     ensures many { length (S.things shared.new) ≡ length (S.things shared.old) }
     ensures frame { S.frame shared.new ≡ S.frame shared.old }
-    ensures takes { Each (λ j. Takes root_of (Stays fixed_of) (given S.knows j lane slots.items)) (S.things shared.old) (S.things shared.new) }
+    ensures takes { Each (λ j. Takes root_of (Stays S.lasts fixed_of) (given S.knows j lane slots.items)) (S.things shared.old) (S.things shared.new) }
 {
     while let Some(slot) = slots.pop() {
         let Slot { cell, lent } = slot;
@@ -235,7 +235,7 @@ fn take_all<S: Lenders>(shared: &mut S, mut jobs: Vec<Job<S::Lent>>)
     requires fit { JobsFit (Owns fixed_of S.owns) (S.things shared.old) jobs.items }
     ensures many { length (S.things shared.new) ≡ length (S.things shared.old) }
     ensures frame { S.frame shared.new ≡ S.frame shared.old }
-    ensures takes { Each (λ j. Takes root_of (Stays fixed_of) (all_given S.knows j 0 jobs.items)) (S.things shared.old) (S.things shared.new) }
+    ensures takes { Each (λ j. Takes root_of (Stays S.lasts fixed_of) (all_given S.knows j 0 jobs.items)) (S.things shared.old) (S.things shared.new) }
 {
     while let Some(job) = jobs.pop() {
         let Job { slots, done: _ } = job;
@@ -288,7 +288,7 @@ pub fn run_lanes<R: Threads + Wait + Sync, H: LaneHook + Sync, S: Lenders>(
     ensures many { length (S.things shared.new) ≡ length (S.things shared.old) }
     ensures frame { S.frame shared.new ≡ S.frame shared.old }
     ensures roots { Roots root_of (S.things shared.new) × AtRest root_of (S.things shared.new) }
-    ensures stays { Each (λ j. Stays fixed_of) (S.things shared.old) (S.things shared.new) }
+    ensures stays { Each (λ j. Stays S.lasts fixed_of) (S.things shared.old) (S.things shared.new) }
     ensures grew { (done : ℕ → ℕ) × OnOk result (AllDone lanes.now done) × Each (Grew root_of S.stands_as lanes.now done) (S.things shared.old) (S.things shared.new) × OnErr result (Unfinished lanes.now done) }
 {
     let mut jobs = match Vec::with_capacity(alloc, lanes.len()) {

@@ -14,7 +14,7 @@ use Rattle.cell_lanes.proofs.round.lend_all.Goals as goal
 pub lend_lane-lent-requires-clause-roots : goal.lend_lane-lent-requires-clause-roots
 lend_lane-lent-requires-clause-roots g c κs within =
     let i = c.loop-lane.invariant in
-    roots_lent root_of (Stays fixed_of) (stays_none fixed_of) (stays_then fixed_of) (λ j. lent_on j c.loop-lane.jobs.items) (g.S.Lenders.things c.args.shared.now) (g.S.Lenders.things c.loop-lane.shared) i.len i.lends c.requires.roots
+    roots_lent root_of (Stays g.S.Lenders.lasts fixed_of) (stays_none g.S.Lenders.lasts fixed_of g.S.Lenders.lasts_on) (stays_then g.S.Lenders.lasts fixed_of g.S.Lenders.lasts_then) (λ j. lent_on j c.loop-lane.jobs.items) (g.S.Lenders.things c.args.shared.now) (g.S.Lenders.things c.loop-lane.shared) i.len i.lends c.requires.roots
 
 pub lend_lane-lent-requires-clause-named : goal.lend_lane-lent-requires-clause-named
 lend_lane-lent-requires-clause-named g c κs within =
@@ -27,8 +27,8 @@ pub returns-in-Err-clause-lends : goal.returns-in-Err-clause-lends
 returns-in-Err-clause-lends g c =
     let i = c.loop-lane.invariant in
     let job : Job _ = record { slots = c.lend_lane-lent.new.slots; done = 0 } in
-    subst (λ l. Each (λ j. Lends root_of (Stays fixed_of) (lent_on j l)) (g.S.Lenders.things c.args.shared.now) (g.S.Lenders.things c.lend_lane-lent.new.shared)) (sym c.push_reserved.ensures.items)
-    (lends_lane root_of (Stays fixed_of) (stays_none fixed_of) (stays_then fixed_of) (g.S.Lenders.things c.args.shared.now) (g.S.Lenders.things c.loop-lane.shared) (g.S.Lenders.things c.lend_lane-lent.new.shared) c.loop-lane.jobs.items job i.len i.lends c.lend_lane-lent.ensures.lends)
+    subst (λ l. Each (λ j. Lends root_of (Stays g.S.Lenders.lasts fixed_of) (lent_on j l)) (g.S.Lenders.things c.args.shared.now) (g.S.Lenders.things c.lend_lane-lent.new.shared)) (sym c.push_reserved.ensures.items)
+    (lends_lane root_of (Stays g.S.Lenders.lasts fixed_of) (stays_none g.S.Lenders.lasts fixed_of g.S.Lenders.lasts_on) (stays_then g.S.Lenders.lasts fixed_of g.S.Lenders.lasts_then) (g.S.Lenders.things c.args.shared.now) (g.S.Lenders.things c.loop-lane.shared) (g.S.Lenders.things c.lend_lane-lent.new.shared) c.loop-lane.jobs.items job i.len i.lends c.lend_lane-lent.ensures.lends)
 
 pub returns-in-Err-clause-fit : goal.returns-in-Err-clause-fit
 returns-in-Err-clause-fit g c =
@@ -36,8 +36,8 @@ returns-in-Err-clause-fit g c =
     let e = c.lend_lane-lent.ensures in
     let job : Job _ = record { slots = c.lend_lane-lent.new.slots; done = 0 } in
     subst (JobsFit (Owns fixed_of g.S.Lenders.owns) (g.S.Lenders.things c.lend_lane-lent.new.shared)) (sym c.push_reserved.ensures.items)
-    (jobs_fit_one (Stays fixed_of) (stays_none fixed_of) (stays_then fixed_of) (Owns fixed_of g.S.Lenders.owns) (owned fixed_of g.S.Lenders.owns) (g.S.Lenders.things c.lend_lane-lent.new.shared) c.loop-lane.jobs.items job
-    (jobs_fit_each (Stays fixed_of) (stays_none fixed_of) (stays_then fixed_of) (Owns fixed_of g.S.Lenders.owns) (owned fixed_of g.S.Lenders.owns) root_of (λ j. times j (cells_of job.slots.items)) (g.S.Lenders.things c.loop-lane.shared) (g.S.Lenders.things c.lend_lane-lent.new.shared) c.loop-lane.jobs.items c.lend_lane-lent.ensures.many e.lends i.fit)
+    (jobs_fit_one (Stays g.S.Lenders.lasts fixed_of) (stays_none g.S.Lenders.lasts fixed_of g.S.Lenders.lasts_on) (stays_then g.S.Lenders.lasts fixed_of g.S.Lenders.lasts_then) (Owns fixed_of g.S.Lenders.owns) (owned g.S.Lenders.lasts fixed_of g.S.Lenders.owns g.S.Lenders.owns_on) (g.S.Lenders.things c.lend_lane-lent.new.shared) c.loop-lane.jobs.items job
+    (jobs_fit_each (Stays g.S.Lenders.lasts fixed_of) (stays_none g.S.Lenders.lasts fixed_of g.S.Lenders.lasts_on) (stays_then g.S.Lenders.lasts fixed_of g.S.Lenders.lasts_then) (Owns fixed_of g.S.Lenders.owns) (owned g.S.Lenders.lasts fixed_of g.S.Lenders.owns g.S.Lenders.owns_on) root_of (λ j. times j (cells_of job.slots.items)) (g.S.Lenders.things c.loop-lane.shared) (g.S.Lenders.things c.lend_lane-lent.new.shared) c.loop-lane.jobs.items c.lend_lane-lent.ensures.many e.lends i.fit)
     e.slots.0)
 
 pub returns-in-Err-clause-fresh : goal.returns-in-Err-clause-fresh
@@ -67,11 +67,11 @@ loop-lane-preserved g c =
     record {
       frame = c.lend_lane-lent.ensures.frame ∙ i.frame;
       len = c.lend_lane-lent.ensures.many ∙ i.len;
-      lends = subst (λ l. Each (λ j. Lends root_of (Stays fixed_of) (lent_on j l)) (g.S.Lenders.things c.args.shared.now) (g.S.Lenders.things c.lend_lane-lent.new.shared)) (sym items)
-          (lends_lane root_of (Stays fixed_of) (stays_none fixed_of) (stays_then fixed_of) (g.S.Lenders.things c.args.shared.now) (g.S.Lenders.things c.loop-lane.shared) (g.S.Lenders.things c.lend_lane-lent.new.shared) old job i.len i.lends e.lends);
+      lends = subst (λ l. Each (λ j. Lends root_of (Stays g.S.Lenders.lasts fixed_of) (lent_on j l)) (g.S.Lenders.things c.args.shared.now) (g.S.Lenders.things c.lend_lane-lent.new.shared)) (sym items)
+          (lends_lane root_of (Stays g.S.Lenders.lasts fixed_of) (stays_none g.S.Lenders.lasts fixed_of g.S.Lenders.lasts_on) (stays_then g.S.Lenders.lasts fixed_of g.S.Lenders.lasts_then) (g.S.Lenders.things c.args.shared.now) (g.S.Lenders.things c.loop-lane.shared) (g.S.Lenders.things c.lend_lane-lent.new.shared) old job i.len i.lends e.lends);
       fit = subst (JobsFit (Owns fixed_of g.S.Lenders.owns) (g.S.Lenders.things c.lend_lane-lent.new.shared)) (sym items)
-          (jobs_fit_one (Stays fixed_of) (stays_none fixed_of) (stays_then fixed_of) (Owns fixed_of g.S.Lenders.owns) (owned fixed_of g.S.Lenders.owns) (g.S.Lenders.things c.lend_lane-lent.new.shared) old job
-          (jobs_fit_each (Stays fixed_of) (stays_none fixed_of) (stays_then fixed_of) (Owns fixed_of g.S.Lenders.owns) (owned fixed_of g.S.Lenders.owns) root_of (λ j. times j (cells_of job.slots.items)) (g.S.Lenders.things c.loop-lane.shared) (g.S.Lenders.things c.lend_lane-lent.new.shared) old c.lend_lane-lent.ensures.many e.lends i.fit)
+          (jobs_fit_one (Stays g.S.Lenders.lasts fixed_of) (stays_none g.S.Lenders.lasts fixed_of g.S.Lenders.lasts_on) (stays_then g.S.Lenders.lasts fixed_of g.S.Lenders.lasts_then) (Owns fixed_of g.S.Lenders.owns) (owned g.S.Lenders.lasts fixed_of g.S.Lenders.owns g.S.Lenders.owns_on) (g.S.Lenders.things c.lend_lane-lent.new.shared) old job
+          (jobs_fit_each (Stays g.S.Lenders.lasts fixed_of) (stays_none g.S.Lenders.lasts fixed_of g.S.Lenders.lasts_on) (stays_then g.S.Lenders.lasts fixed_of g.S.Lenders.lasts_then) (Owns fixed_of g.S.Lenders.owns) (owned g.S.Lenders.lasts fixed_of g.S.Lenders.owns g.S.Lenders.owns_on) root_of (λ j. times j (cells_of job.slots.items)) (g.S.Lenders.things c.loop-lane.shared) (g.S.Lenders.things c.lend_lane-lent.new.shared) old c.lend_lane-lent.ensures.many e.lends i.fit)
           e.slots.0);
       fresh = subst (JobsFresh g.S.Lenders.knows c.args.lanes.now) (sym items)
           (jobs_fresh_one g.S.Lenders.knows c.args.lanes.now old job a here (e.some_cells ∙ ap (take (length job.slots.items)) c.as_slice.ensures.value) e.slots.1 refl i.fresh);

@@ -11,7 +11,7 @@ abbrev pub invariant-loop-lane : goal.invariant-loop-lane
 invariant-loop-lane g l = record {
   frame : g.S.Lenders.frame l.shared ≡ g.S.Lenders.frame l.initial.shared;
   len : length (g.S.Lenders.things l.shared) ≡ length (g.S.Lenders.things l.initial.shared);
-  lends : Each (λ j. Lends root_of (Stays fixed_of) (lent_on j l.jobs.items)) (g.S.Lenders.things l.initial.shared) (g.S.Lenders.things l.shared);
+  lends : Each (λ j. Lends root_of (Stays g.S.Lenders.lasts fixed_of) (lent_on j l.jobs.items)) (g.S.Lenders.things l.initial.shared) (g.S.Lenders.things l.shared);
   fit : JobsFit (Owns fixed_of g.S.Lenders.owns) (g.S.Lenders.things l.shared) l.jobs.items;
   fresh : JobsFresh g.S.Lenders.knows l.lanes l.jobs.items;
   full : (i : ℕ) (a : Lane _) (x : Job _) → get_elem? l.lanes i ≡ some a → get_elem? l.jobs.items i ≡ some x → cells_of x.slots.items ≡ a.cells.items;

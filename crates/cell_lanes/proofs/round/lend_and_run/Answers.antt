@@ -36,7 +36,7 @@ returns-clause-refused g c =
 pub run_all-requires-clause-ready : goal.run_all-requires-clause-ready
 run_all-requires-clause-ready g c κs within = λ l a x e f.
     let at = subst (λ xs. get_elem? xs l ≡ some x) c.as_mut_slice.ensures.value f in
-    ready root_of fixed_of g.S.Lenders.knows g.S.Lenders.owns g.S.Lenders.takes (λ j. lent_on j c.lend_all.new.jobs.items) (g.S.Lenders.things c.args.shared.now) (g.S.Lenders.things c.lend_all.new.shared) c.args.lanes.now l a x e c.lend_all.ensures.many c.lend_all.ensures.lends
+    ready root_of g.S.Lenders.lasts fixed_of g.S.Lenders.knows g.S.Lenders.owns g.S.Lenders.takes g.S.Lenders.takes_on (λ j. lent_on j c.lend_all.new.jobs.items) (g.S.Lenders.things c.args.shared.now) (g.S.Lenders.things c.lend_all.new.shared) c.args.lanes.now l a x e c.lend_all.ensures.many c.lend_all.ensures.lends
     (c.requires.fit l a e) c.requires.taken (c.lend_all.ensures.fresh.0 l a x e at).1 (c.in-Ok.ensures.ok.1 l a x e at) (c.lend_all.ensures.fit l x at)
 
 pub returns-clause-lends : goal.returns-clause-lends
@@ -46,7 +46,7 @@ returns-clause-lends g c =
     let news = c.run_all.new.jobs in
     let len : length news ≡ length jobs = c.run_all.auto.jobs ∙ ap length m.value in
     let front = front_of news (drop (length news) jobs) c.lend_all.new.jobs.len (c.run_all.auto.jobs ∙ m.len) in
-    λ j a b e f. subst (λ n. Lends root_of (Stays fixed_of) n a b)
+    λ j a b e f. subst (λ n. Lends root_of (Stays g.S.Lenders.lasts fixed_of) n a b)
     (sym (ap (lent_on j) front ∙ ran_lent g.S.Lenders.knows g.S.Lenders.stands_as g.S.Lenders.owns c.args.lanes.now jobs news len c.in-Ok.ensures.ok.0 c.in-Ok.ensures.ok.1
     (λ l x y z p q r. c.run_all.ensures.ran l x y z p (subst (λ xs. get_elem? xs l ≡ some y) (sym m.value) q) r) j))
     (c.lend_all.ensures.lends j a b e f)

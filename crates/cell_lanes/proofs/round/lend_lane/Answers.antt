@@ -22,12 +22,12 @@ lend-requires-clause-here g c =
 pub lend-requires-clause-root : goal.lend-requires-clause-root
 lend-requires-clause-root g c =
     let i = c.loop-cell.invariant in
-    roots_lent root_of (Stays fixed_of) (stays_none fixed_of) (stays_then fixed_of) (λ j. times j (cells_of c.loop-cell.slots.items)) (g.S.Lenders.things c.args.shared.now) (g.S.Lenders.things c.loop-cell.shared) i.len i.lends c.requires.roots
+    roots_lent root_of (Stays g.S.Lenders.lasts fixed_of) (stays_none g.S.Lenders.lasts fixed_of g.S.Lenders.lasts_on) (stays_then g.S.Lenders.lasts fixed_of g.S.Lenders.lasts_then) (λ j. times j (cells_of c.loop-cell.slots.items)) (g.S.Lenders.things c.args.shared.now) (g.S.Lenders.things c.loop-cell.shared) i.len i.lends c.requires.roots
     (slice_index_or c.args.named.now c.loop-cell.cell-index 0)
 
 pub returns-in-Err-clause-lends : goal.returns-in-Err-clause-lends
 returns-in-Err-clause-lends g c =
-    subst (Each (λ j. Lends root_of (Stays fixed_of) (times j (cells_of c.loop-cell.slots.items))) (g.S.Lenders.things c.args.shared.now)) (sym c.in-Err.ensures.refused) c.loop-cell.invariant.lends
+    subst (Each (λ j. Lends root_of (Stays g.S.Lenders.lasts fixed_of) (times j (cells_of c.loop-cell.slots.items))) (g.S.Lenders.things c.args.shared.now)) (sym c.in-Err.ensures.refused) c.loop-cell.invariant.lends
 
 pub returns-in-Err-clause-slots : goal.returns-in-Err-clause-slots
 returns-in-Err-clause-slots g c =
@@ -44,10 +44,9 @@ loop-cell-preserved g c =
     let found = below_some things t k in
     let q = found.0 in
     let at = found.1 in
-    let r : Thing _ _ = record { root = lender q.root; fixed = q.fixed } in
-    let e = c.in-Ok.ensures in
-    let out = e.out q at in
-    let lent = e.lent q at in
+    let e = c.in-Ok.ensures.lent q at in
+    let r : Thing _ _ = e.0 in
+    let out = e.5 in
     let old = c.loop-cell.slots.items in
     let slot : Slot _ = record { cell = t; lent = c.in-Ok.lent } in
     let p = c.push_reserved.ensures in
@@ -56,15 +55,15 @@ loop-cell-preserved g c =
     record {
       frame = c.lend.ensures.frame ∙ i.frame;
       len = ap length out ∙ length-set things t r ∙ i.len;
-      lends = subst (Each (λ j. Lends root_of (Stays fixed_of) (times j (cells_of c.push_reserved.new.self.items))) (g.S.Lenders.things c.args.shared.now)) (sym out)
-          (subst (λ l. Each (λ j. Lends root_of (Stays fixed_of) (times j l)) (g.S.Lenders.things c.args.shared.now) (set things t r)) (sym cells)
-          (lends_more root_of (Stays fixed_of) (stays_none fixed_of) (stays_then fixed_of) (g.S.Lenders.things c.args.shared.now) things (cells_of old) t q r at refl refl i.lends));
+      lends = subst (Each (λ j. Lends root_of (Stays g.S.Lenders.lasts fixed_of) (times j (cells_of c.push_reserved.new.self.items))) (g.S.Lenders.things c.args.shared.now)) (sym out)
+          (subst (λ l. Each (λ j. Lends root_of (Stays g.S.Lenders.lasts fixed_of) (times j l)) (g.S.Lenders.things c.args.shared.now) (set things t r)) (sym cells)
+          (lends_more root_of (Stays g.S.Lenders.lasts fixed_of) (stays_none g.S.Lenders.lasts fixed_of g.S.Lenders.lasts_on) (stays_then g.S.Lenders.lasts fixed_of g.S.Lenders.lasts_then) (g.S.Lenders.things c.args.shared.now) things (cells_of old) t q r at e.1 e.2 i.lends));
       cells = cells ∙ (ap (λ l. l ++ t ∷ []) i.cells ∙ sym more);
       slots = subst (λ ds. SlotsFit (Owns fixed_of g.S.Lenders.owns) ds c.push_reserved.new.self.items) (sym out)
           (subst (SlotsFit (Owns fixed_of g.S.Lenders.owns) (set things t r)) (sym p.items)
-          (fit_one (Stays fixed_of) (stays_none fixed_of) (stays_then fixed_of) (Owns fixed_of g.S.Lenders.owns) (owned fixed_of g.S.Lenders.owns) (set things t r) old slot r (set_here things t r k) lent.0
-          (fit_set (Stays fixed_of) (stays_none fixed_of) (stays_then fixed_of) (Owns fixed_of g.S.Lenders.owns) (owned fixed_of g.S.Lenders.owns) things old t q r at refl i.slots)));
-      fresh = subst (Fresh g.S.Lenders.knows) (sym p.items) (fresh_one g.S.Lenders.knows old slot (ap (λ (v : View _). v.mine) lent.1) i.fresh);
+          (fit_one (Stays g.S.Lenders.lasts fixed_of) (stays_none g.S.Lenders.lasts fixed_of g.S.Lenders.lasts_on) (stays_then g.S.Lenders.lasts fixed_of g.S.Lenders.lasts_then) (Owns fixed_of g.S.Lenders.owns) (owned g.S.Lenders.lasts fixed_of g.S.Lenders.owns g.S.Lenders.owns_on) (set things t r) old slot r (set_here things t r k) e.3
+          (fit_set (Stays g.S.Lenders.lasts fixed_of) (stays_none g.S.Lenders.lasts fixed_of g.S.Lenders.lasts_on) (stays_then g.S.Lenders.lasts fixed_of g.S.Lenders.lasts_then) (Owns fixed_of g.S.Lenders.owns) (owned g.S.Lenders.lasts fixed_of g.S.Lenders.owns g.S.Lenders.owns_on) things old t q r at e.2 i.slots)));
+      fresh = subst (Fresh g.S.Lenders.knows) (sym p.items) (fresh_one g.S.Lenders.knows old slot (ap (λ (v : View _). v.mine) e.4) i.fresh);
       items = ap length p.items ∙ omega (arith, i.items, length-append old (slot ∷ []));
       count = omega (arith, p.len, i.count);
       room = p.capacity ∙ i.room;

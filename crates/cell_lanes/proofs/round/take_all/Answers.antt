@@ -13,13 +13,13 @@ loop-job-init g c =
       frame = refl;
       len = refl;
       fit = c.requires.fit;
-      takes = each_same (Taking root_of (Stays fixed_of) (λ j. all_given g.S.Lenders.knows j 0 c.args.jobs.items) (λ j. all_given g.S.Lenders.knows j 0 c.args.jobs.items)) (g.S.Lenders.things c.args.shared.now) (taking_none root_of (Stays fixed_of) (stays_none fixed_of) (stays_then fixed_of) (λ j. all_given g.S.Lenders.knows j 0 c.args.jobs.items));
+      takes = each_same (Taking root_of (Stays g.S.Lenders.lasts fixed_of) (λ j. all_given g.S.Lenders.knows j 0 c.args.jobs.items) (λ j. all_given g.S.Lenders.knows j 0 c.args.jobs.items)) (g.S.Lenders.things c.args.shared.now) (taking_none root_of (Stays g.S.Lenders.lasts fixed_of) (stays_none g.S.Lenders.lasts fixed_of g.S.Lenders.lasts_on) (stays_then g.S.Lenders.lasts fixed_of g.S.Lenders.lasts_then) (λ j. all_given g.S.Lenders.knows j 0 c.args.jobs.items));
     }
 
 pub take_lane-requires-clause-roots : goal.take_lane-requires-clause-roots
 take_lane-requires-clause-roots g c κs within =
     let i = c.loop-job.invariant in
-    roots_taking root_of (Stays fixed_of) (stays_none fixed_of) (stays_then fixed_of) (λ j. all_given g.S.Lenders.knows j 0 c.loop-job.jobs.items) (λ j. all_given g.S.Lenders.knows j 0 c.args.jobs.items)
+    roots_taking root_of (Stays g.S.Lenders.lasts fixed_of) (stays_none g.S.Lenders.lasts fixed_of g.S.Lenders.lasts_on) (stays_then g.S.Lenders.lasts fixed_of g.S.Lenders.lasts_then) (λ j. all_given g.S.Lenders.knows j 0 c.loop-job.jobs.items) (λ j. all_given g.S.Lenders.knows j 0 c.args.jobs.items)
     (g.S.Lenders.things c.args.shared.now) (g.S.Lenders.things c.loop-job.shared) i.len i.takes c.requires.roots
 
 pub take_lane-requires-clause-slots : goal.take_lane-requires-clause-slots
@@ -35,10 +35,10 @@ loop-job-preserved g c =
     record {
       frame = c.take_lane.ensures.frame ∙ i.frame;
       len = c.take_lane.ensures.many ∙ i.len;
-      fit = λ l x e. fit_each (Stays fixed_of) (stays_none fixed_of) (stays_then fixed_of) (Owns fixed_of g.S.Lenders.owns) (owned fixed_of g.S.Lenders.owns)
-          (λ j. Rattle.cell_lanes.specs.Lanes.Takes root_of (Stays fixed_of) (given g.S.Lenders.knows j c.len.result c.in-Some.job.slots.items)) (g.S.Lenders.things c.loop-job.shared) (g.S.Lenders.things c.take_lane.new.shared) x.slots.items c.take_lane.ensures.many (λ j a b h. h.kept) t.takes (rest l x e);
-      takes = takes_lane root_of (Stays fixed_of) (stays_none fixed_of) (stays_then fixed_of) g.S.Lenders.knows (λ j. all_given g.S.Lenders.knows j 0 c.args.jobs.items) (g.S.Lenders.things c.args.shared.now) (g.S.Lenders.things c.loop-job.shared) (g.S.Lenders.things c.take_lane.new.shared) c.pop.new.self.items c.in-Some.job c.len.result (c.len.ensures ∙ c.pop.new.self.ok.0) i.len
-          (subst (λ l. Each (Taking root_of (Stays fixed_of) (λ j. all_given g.S.Lenders.knows j 0 l) (λ j. all_given g.S.Lenders.knows j 0 c.args.jobs.items)) (g.S.Lenders.things c.args.shared.now) (g.S.Lenders.things c.loop-job.shared)) c.in-Some.ensures.items i.takes) t.takes;
+      fit = λ l x e. fit_each (Stays g.S.Lenders.lasts fixed_of) (stays_none g.S.Lenders.lasts fixed_of g.S.Lenders.lasts_on) (stays_then g.S.Lenders.lasts fixed_of g.S.Lenders.lasts_then) (Owns fixed_of g.S.Lenders.owns) (owned g.S.Lenders.lasts fixed_of g.S.Lenders.owns g.S.Lenders.owns_on)
+          (λ j. Rattle.cell_lanes.specs.Lanes.Takes root_of (Stays g.S.Lenders.lasts fixed_of) (given g.S.Lenders.knows j c.len.result c.in-Some.job.slots.items)) (g.S.Lenders.things c.loop-job.shared) (g.S.Lenders.things c.take_lane.new.shared) x.slots.items c.take_lane.ensures.many (λ j a b h. h.kept) t.takes (rest l x e);
+      takes = takes_lane root_of (Stays g.S.Lenders.lasts fixed_of) (stays_none g.S.Lenders.lasts fixed_of g.S.Lenders.lasts_on) (stays_then g.S.Lenders.lasts fixed_of g.S.Lenders.lasts_then) g.S.Lenders.knows (λ j. all_given g.S.Lenders.knows j 0 c.args.jobs.items) (g.S.Lenders.things c.args.shared.now) (g.S.Lenders.things c.loop-job.shared) (g.S.Lenders.things c.take_lane.new.shared) c.pop.new.self.items c.in-Some.job c.len.result (c.len.ensures ∙ c.pop.new.self.ok.0) i.len
+          (subst (λ l. Each (Taking root_of (Stays g.S.Lenders.lasts fixed_of) (λ j. all_given g.S.Lenders.knows j 0 l) (λ j. all_given g.S.Lenders.knows j 0 c.args.jobs.items)) (g.S.Lenders.things c.args.shared.now) (g.S.Lenders.things c.loop-job.shared)) c.in-Some.ensures.items i.takes) t.takes;
     }
 
 pub returns : goal.returns
@@ -48,6 +48,6 @@ returns g c =
     record {
       frame = i.frame;
       many = i.len;
-      takes = taken_all root_of (Stays fixed_of) (stays_none fixed_of) (stays_then fixed_of) (λ j. all_given g.S.Lenders.knows j 0 c.args.jobs.items) (λ j. all_given g.S.Lenders.knows j 0 c.loop-job.jobs.items)
+      takes = taken_all root_of (Stays g.S.Lenders.lasts fixed_of) (stays_none g.S.Lenders.lasts fixed_of g.S.Lenders.lasts_on) (stays_then g.S.Lenders.lasts fixed_of g.S.Lenders.lasts_then) (λ j. all_given g.S.Lenders.knows j 0 c.args.jobs.items) (λ j. all_given g.S.Lenders.knows j 0 c.loop-job.jobs.items)
           (g.S.Lenders.things c.args.shared.now) (g.S.Lenders.things c.loop-job.shared) (λ j. ap (all_given g.S.Lenders.knows j 0) none) i.takes;
     }

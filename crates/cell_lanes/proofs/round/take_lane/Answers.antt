@@ -13,7 +13,7 @@ loop-slot-init g c =
       frame = refl;
       len = refl;
       slots = c.requires.slots;
-      takes = each_same (Taking root_of (Stays fixed_of) (λ j. given g.S.Lenders.knows j c.args.lane c.args.slots.items) (λ j. given g.S.Lenders.knows j c.args.lane c.args.slots.items)) (g.S.Lenders.things c.args.shared.now) (taking_none root_of (Stays fixed_of) (stays_none fixed_of) (stays_then fixed_of) (λ j. given g.S.Lenders.knows j c.args.lane c.args.slots.items));
+      takes = each_same (Taking root_of (Stays g.S.Lenders.lasts fixed_of) (λ j. given g.S.Lenders.knows j c.args.lane c.args.slots.items) (λ j. given g.S.Lenders.knows j c.args.lane c.args.slots.items)) (g.S.Lenders.things c.args.shared.now) (taking_none root_of (Stays g.S.Lenders.lasts fixed_of) (stays_none g.S.Lenders.lasts fixed_of g.S.Lenders.lasts_on) (stays_then g.S.Lenders.lasts fixed_of g.S.Lenders.lasts_then) (λ j. given g.S.Lenders.knows j c.args.lane c.args.slots.items));
     }
 
 pub take_back-requires-clause-here : goal.take_back-requires-clause-here
@@ -25,7 +25,7 @@ take_back-requires-clause-here g c =
 pub take_back-requires-clause-root : goal.take_back-requires-clause-root
 take_back-requires-clause-root g c =
     let i = c.loop-slot.invariant in
-    roots_taking root_of (Stays fixed_of) (stays_none fixed_of) (stays_then fixed_of) (λ j. given g.S.Lenders.knows j c.args.lane c.loop-slot.slots.items) (λ j. given g.S.Lenders.knows j c.args.lane c.args.slots.items)
+    roots_taking root_of (Stays g.S.Lenders.lasts fixed_of) (stays_none g.S.Lenders.lasts fixed_of g.S.Lenders.lasts_on) (stays_then g.S.Lenders.lasts fixed_of g.S.Lenders.lasts_then) (λ j. given g.S.Lenders.knows j c.args.lane c.loop-slot.slots.items) (λ j. given g.S.Lenders.knows j c.args.lane c.args.slots.items)
     (g.S.Lenders.things c.args.shared.now) (g.S.Lenders.things c.loop-slot.shared) i.len i.takes c.requires.roots c.in-Some.slot.cell
 
 pub take_back-requires-clause-lent : goal.take_back-requires-clause-lent
@@ -47,15 +47,16 @@ loop-slot-preserved g c =
     let t = c.take_back.ensures.taken q at in
     let r = t.0 in
     let out = t.3 in
+    let kept = subst (g.S.Lenders.lasts q.fixed) (sym t.2) (g.S.Lenders.lasts_on q.fixed) in
     record {
       frame = c.take_back.ensures.frame ∙ i.frame;
       len = ap length out ∙ length-set things x.cell r ∙ i.len;
       slots = subst (λ ds. SlotsFit (Owns fixed_of g.S.Lenders.owns) ds c.pop.new.self.items) (sym out)
-          (fit_set (Stays fixed_of) (stays_none fixed_of) (stays_then fixed_of) (Owns fixed_of g.S.Lenders.owns) (owned fixed_of g.S.Lenders.owns) things c.pop.new.self.items x.cell q r at t.2
+          (fit_set (Stays g.S.Lenders.lasts fixed_of) (stays_none g.S.Lenders.lasts fixed_of g.S.Lenders.lasts_on) (stays_then g.S.Lenders.lasts fixed_of g.S.Lenders.lasts_then) (Owns fixed_of g.S.Lenders.owns) (owned g.S.Lenders.lasts fixed_of g.S.Lenders.owns g.S.Lenders.owns_on) things c.pop.new.self.items x.cell q r at kept
           (fit_front (Owns fixed_of g.S.Lenders.owns) things c.pop.new.self.items x all));
-      takes = subst (Each (Taking root_of (Stays fixed_of) (λ j. given g.S.Lenders.knows j c.args.lane c.pop.new.self.items) (λ j. given g.S.Lenders.knows j c.args.lane c.args.slots.items)) (g.S.Lenders.things c.args.shared.now)) (sym out)
-          (takes_more root_of (Stays fixed_of) (stays_none fixed_of) (stays_then fixed_of) g.S.Lenders.knows c.args.lane (λ j. given g.S.Lenders.knows j c.args.lane c.args.slots.items) (g.S.Lenders.things c.args.shared.now) things c.pop.new.self.items x q r at t.1 t.2
-          (subst (λ l. Each (Taking root_of (Stays fixed_of) (λ j. given g.S.Lenders.knows j c.args.lane l) (λ j. given g.S.Lenders.knows j c.args.lane c.args.slots.items)) (g.S.Lenders.things c.args.shared.now) things) c.in-Some.ensures.items i.takes));
+      takes = subst (Each (Taking root_of (Stays g.S.Lenders.lasts fixed_of) (λ j. given g.S.Lenders.knows j c.args.lane c.pop.new.self.items) (λ j. given g.S.Lenders.knows j c.args.lane c.args.slots.items)) (g.S.Lenders.things c.args.shared.now)) (sym out)
+          (takes_more root_of (Stays g.S.Lenders.lasts fixed_of) (stays_none g.S.Lenders.lasts fixed_of g.S.Lenders.lasts_on) (stays_then g.S.Lenders.lasts fixed_of g.S.Lenders.lasts_then) g.S.Lenders.knows c.args.lane (λ j. given g.S.Lenders.knows j c.args.lane c.args.slots.items) (g.S.Lenders.things c.args.shared.now) things c.pop.new.self.items x q r at t.1 kept
+          (subst (λ l. Each (Taking root_of (Stays g.S.Lenders.lasts fixed_of) (λ j. given g.S.Lenders.knows j c.args.lane l) (λ j. given g.S.Lenders.knows j c.args.lane c.args.slots.items)) (g.S.Lenders.things c.args.shared.now) things) c.in-Some.ensures.items i.takes));
     }
 
 pub returns : goal.returns
@@ -65,6 +66,6 @@ returns g c =
     record {
       frame = i.frame;
       many = i.len;
-      takes = Rattle.cell_lanes.proofs.Returning.taken_all root_of (Stays fixed_of) (stays_none fixed_of) (stays_then fixed_of) (λ j. given g.S.Lenders.knows j c.args.lane c.args.slots.items) (λ j. given g.S.Lenders.knows j c.args.lane c.loop-slot.slots.items)
+      takes = Rattle.cell_lanes.proofs.Returning.taken_all root_of (Stays g.S.Lenders.lasts fixed_of) (stays_none g.S.Lenders.lasts fixed_of g.S.Lenders.lasts_on) (stays_then g.S.Lenders.lasts fixed_of g.S.Lenders.lasts_then) (λ j. given g.S.Lenders.knows j c.args.lane c.args.slots.items) (λ j. given g.S.Lenders.knows j c.args.lane c.loop-slot.slots.items)
           (g.S.Lenders.things c.args.shared.now) (g.S.Lenders.things c.loop-slot.shared) (λ j. ap (given g.S.Lenders.knows j c.args.lane) none) i.takes;
     }
