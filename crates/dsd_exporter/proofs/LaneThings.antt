@@ -1,5 +1,5 @@
 -- The exporter's series by their indices: counters, then gauges, then histograms.
-use Rattle.std.proofs.Common.{◌≡◌, true, false, ℕ, zero, suc, ◌+◌, ◌-◌, ◌<◌, ◌≤◌, List, [], ◌∷◌, ◌++◌, length, map, set, Some, refl, sym, ap, subst, ◌∙◌, ◌⊎◌, inl, inr, ⊎_elim, arith, length-append}
+use Rattle.std.proofs.Common.{◌≡◌, true, false, ℕ, zero, suc, ◌+◌, ◌-◌, ◌<◌, ◌≤◌, List, [], ◌∷◌, ◌++◌, length, map, set, Option, Some, None, refl, sym, ap, subst, ◌∙◌, ◌⊎◌, inl, inr, ⊎_elim, arith, length-append}
 use Rattle.std.specs.Prelude.{option_map, slice_get}
 use Rattle.std.specs.List.{list_any}
 use Rattle.std.proofs.lemmas.Bool.{cases_lt, true≢false, or_parts}
@@ -33,9 +33,9 @@ use Rattle.dsd_exporter.specs.declared.lanes.SeriesCell.{SeriesCell}
 use Rattle.dsd_exporter.specs.declared.lanes.SeriesCell.TheVariants as cells
 use Rattle.dsd_exporter.specs.declared.lanes.SeriesEntry.{SeriesEntry}
 use Rattle.dsd_exporter.specs.declared.lanes.SeriesEntry.TheVariants as entry
-use Rattle.dsd_exporter.specs.Exporter.{Exporter, CounterThing, GaugeThing, Queued, unused}
-use Rattle.dsd_exporter.specs.Lending.{with_one_out, with_one_back, queue_out, queue_back}
-use Rattle.dsd_exporter.specs.LanePasses.{IsPassOf, of_counter, of_gauge, of_histogram, counter_thing, gauge_thing, histogram_thing, things_of, ids_of, pass_known, unheard, frame_of}
+use Rattle.dsd_exporter.specs.Exporter.{Exporter, CounterThing, GaugeThing, Queued, unmade}
+use Rattle.dsd_exporter.specs.Lending.{Makes, with_lent, with_one_back, queue_out, queue_back}
+use Rattle.dsd_exporter.specs.LanePasses.{IsPassOf, Lasts, lasts_on, of_counter, of_gauge, of_histogram, counter_thing, gauge_thing, histogram_thing, things_of, ids_of, pass_known, unheard, frame_of}
 use Rattle.dsd_exporter.proofs.Taken.{with-same}
 
 -- ---- lists, one behind the other
@@ -119,6 +119,25 @@ module _ {X : Type 0} where
     but_put [] i cell new e left = refl
     but_put (x ∷ es) zero cell new e left = (λ j. record x { cell = (left ∙ ap f (sym (same_Some x.cell cell e))) j } ∷ map but es)
     but_put (x ∷ es) (suc i) cell new e left = ap (λ l. but x ∷ l) (but_put es i cell new e left)
+
+-- a cell that is made where there was none lasts
+counter_owns : (made : Option DsdCounter) (cell : DsdCounter) → Makes made cell → (lent : LanePass) → IsPassOf (cells.Counter made) lent → IsPassOf (cells.Counter (Some cell)) lent
+counter_owns None cell makes (passes.Counter lent) is = absurd (cc is)
+counter_owns (Some made) cell makes (passes.Counter lent) is = ap Some makes ∙ is
+counter_owns made cell makes (passes.Gauge lent) is = is
+counter_owns made cell makes (passes.Histogram lent) is = is
+
+gauge_owns : (made : Option DsdGauge) (cell : DsdGauge) → Makes made cell → (lent : LanePass) → IsPassOf (cells.Gauge made) lent → IsPassOf (cells.Gauge (Some cell)) lent
+gauge_owns made cell makes (passes.Counter lent) is = is
+gauge_owns None cell makes (passes.Gauge lent) is = absurd (cc is)
+gauge_owns (Some made) cell makes (passes.Gauge lent) is = ap Some makes ∙ is
+gauge_owns made cell makes (passes.Histogram lent) is = is
+
+counter_lasts : (made : Option DsdCounter) (cell : DsdCounter) → Makes made cell → Lasts (cells.Counter made) (cells.Counter (Some cell))
+counter_lasts made cell makes = (counter_owns made cell makes, λ call takes. takes)
+
+gauge_lasts : (made : Option DsdGauge) (cell : DsdGauge) → Makes made cell → Lasts (cells.Gauge made) (cells.Gauge (Some cell))
+gauge_lasts made cell makes = (gauge_owns made cell makes, λ call takes. takes)
 
 took_back : {M : Type 0} (v known : View M) → TookBack v known (taker v known)
 took_back v known = record { number = refl; mine = refl; joined = refl; seen = prefix_self (longer v.seen known.seen); out = refl }
@@ -283,54 +302,62 @@ module _ (e : Exporter) where
 
   -- ---- what lanes leave as it is
 
-  abbrev but_known : {M F : Type 0} → Thing M F → Thing M F
-  but_known s = unused s.fixed
+  counter_frame : (place : ℕ) (cell new : CounterThing) → Got e.series.counters place cell → frame_of (with_counter_at e place new) ≡ frame_of e
+  counter_frame place cell new got = ap (λ l. record (frame_of e) { series = record (frame_of e).series { counters = l } }) (but_put (λ _. unmade) e.series.counters place cell new got refl)
 
-  counter_frame : (place : ℕ) (cell new : CounterThing) → Got e.series.counters place cell → but_known new ≡ but_known cell → frame_of (with_counter_at e place new) ≡ frame_of e
-  counter_frame place cell new got left = ap (λ l. record (frame_of e) { series = record (frame_of e).series { counters = l } }) (but_put but_known e.series.counters place cell new got left)
-
-  gauge_frame : (place : ℕ) (cell new : GaugeThing) → Got e.series.gauges place cell → but_known new ≡ but_known cell → frame_of (with_gauge_at e place new) ≡ frame_of e
-  gauge_frame place cell new got left = ap (λ l. record (frame_of e) { series = record (frame_of e).series { gauges = l } }) (but_put but_known e.series.gauges place cell new got left)
+  gauge_frame : (place : ℕ) (cell new : GaugeThing) → Got e.series.gauges place cell → frame_of (with_gauge_at e place new) ≡ frame_of e
+  gauge_frame place cell new got = ap (λ l. record (frame_of e) { series = record (frame_of e).series { gauges = l } }) (but_put (λ _. unmade) e.series.gauges place cell new got refl)
 
   histogram_frame : (place : ℕ) (cell new : Queued) → Got e.series.histograms place cell → unheard new ≡ unheard cell → frame_of (with_histogram_at e place new) ≡ frame_of e
   histogram_frame place cell new got left = ap (λ l. record (frame_of e) { series = record (frame_of e).series { histograms = l } }) (but_put unheard e.series.histograms place cell new got left)
 
   -- ---- lending
 
+  -- one more pass of a thing is out, and its cell lasts
+  abbrev pub LentOf : LanePass → List SeriesThing → ℕ → SeriesThing → Type 0
+  LentOf lent things i t = (u : SeriesThing) × (u.root ≡ lender t.root) × Lasts t.fixed u.fixed × IsPassOf u.fixed lent × (pass_known lent ≡ child t.root) × (things ≡ set (things_of e) i u)
+
   -- a pass was lent of what has an index, and one more is out
   abbrev pub LendsAt : ℕ → LanePass → Exporter → Type 0
-  LendsAt i lent new =
-      ((t : SeriesThing) → get_elem? (things_of e) i ≡ some t → IsPassOf t.fixed lent × (pass_known lent ≡ child t.root))
-      × ((t : SeriesThing) → get_elem? (things_of e) i ≡ some t → things_of new ≡ set (things_of e) i (record t { root = lender t.root }))
-      × (frame_of new ≡ frame_of e)
+  LendsAt i lent new = ((t : SeriesThing) → get_elem? (things_of e) i ≡ some t → LentOf lent (things_of new) i t) × (frame_of new ≡ frame_of e)
 
-  lends_at : (i : ℕ) (lent : LanePass) (new : Exporter) (s : SeriesThing) → get_elem? (things_of e) i ≡ some s → IsPassOf s.fixed lent → pass_known lent ≡ child s.root
-      → things_of new ≡ set (things_of e) i (record s { root = lender s.root }) → frame_of new ≡ frame_of e → LendsAt i lent new
-  lends_at i lent new s at owned knows puts frame = (
-    (λ t also. of_each (λ u. IsPassOf u.fixed lent × (pass_known lent ≡ child u.root)) i s t at (owned, knows) also),
-    (λ t also. of_each (λ u. things_of new ≡ set (things_of e) i (record u { root = lender u.root })) i s t at puts also),
-    frame,
-  )
+  lends_at : (i : ℕ) (lent : LanePass) (new : Exporter) (s : SeriesThing) → get_elem? (things_of e) i ≡ some s → LentOf lent (things_of new) i s → frame_of new ≡ frame_of e → LendsAt i lent new
+  lends_at i lent new s at lends frame = ((λ t also. of_each (LentOf lent (things_of new) i) i s t at lends also), frame)
 
   pub counter_lends : (i place : ℕ) (cell new : CounterThing) (lent : Lease CounterCall DsdCounter) → (i ≡ place) × (place < length e.series.counters) → Got e.series.counters place cell
-      → (lent.cell ≡ cell.fixed) × (lent.knows ≡ child cell.root) → new ≡ with_one_out cell → LendsAt i (passes.Counter lent) (with_counter_at e place new)
-  counter_lends i place cell new lent at got lends out = lends_at i (passes.Counter lent) (with_counter_at e place new) (of_counter cell) (counter_here i place cell at.0 got)
-      lends.0 (ap (mapped_view entry.Counter) lends.1)
-      (ap (λ x. things_of (with_counter_at e place x)) out ∙ counter_put i place (with_one_out cell) at.0 at.1)
-      (counter_frame place cell new got (ap but_known out))
+      → Makes cell.fixed lent.cell × (lent.knows ≡ child cell.root) × (new ≡ with_lent lent.cell cell) → LendsAt i (passes.Counter lent) (with_counter_at e place new)
+  counter_lends i place cell new lent at got lends = lends_at i (passes.Counter lent) (with_counter_at e place new) (of_counter cell) (counter_here i place cell at.0 got) (
+    of_counter (with_lent lent.cell cell),
+    refl,
+    counter_lasts cell.fixed lent.cell lends.0,
+    refl,
+    ap (mapped_view entry.Counter) lends.1,
+    ap (λ x. things_of (with_counter_at e place x)) lends.2 ∙ counter_put i place (with_lent lent.cell cell) at.0 at.1,
+  )
+      (counter_frame place cell new got)
 
   pub gauge_lends : (i place : ℕ) (cell new : GaugeThing) (lent : Lease GaugeCall DsdGauge) → (i ≡ length e.series.counters + place) × (place < length e.series.gauges) → Got e.series.gauges place cell
-      → (lent.cell ≡ cell.fixed) × (lent.knows ≡ child cell.root) → new ≡ with_one_out cell → LendsAt i (passes.Gauge lent) (with_gauge_at e place new)
-  gauge_lends i place cell new lent at got lends out = lends_at i (passes.Gauge lent) (with_gauge_at e place new) (of_gauge cell) (gauge_here i place cell at.0 got)
-      lends.0 (ap (mapped_view entry.Gauge) lends.1)
-      (ap (λ x. things_of (with_gauge_at e place x)) out ∙ gauge_put i place (with_one_out cell) at.0 at.1)
-      (gauge_frame place cell new got (ap but_known out))
+      → Makes cell.fixed lent.cell × (lent.knows ≡ child cell.root) × (new ≡ with_lent lent.cell cell) → LendsAt i (passes.Gauge lent) (with_gauge_at e place new)
+  gauge_lends i place cell new lent at got lends = lends_at i (passes.Gauge lent) (with_gauge_at e place new) (of_gauge cell) (gauge_here i place cell at.0 got) (
+    of_gauge (with_lent lent.cell cell),
+    refl,
+    gauge_lasts cell.fixed lent.cell lends.0,
+    refl,
+    ap (mapped_view entry.Gauge) lends.1,
+    ap (λ x. things_of (with_gauge_at e place x)) lends.2 ∙ gauge_put i place (with_lent lent.cell cell) at.0 at.1,
+  )
+      (gauge_frame place cell new got)
 
   pub histogram_lends : (i place : ℕ) (cell new : Queued) (lent : Lease (QueueCall FixedOf) (SampleQueue FixedOf)) → i ≡ length e.series.counters + (length e.series.gauges + place) → Got e.series.histograms place cell
       → (lent.cell ≡ cell.cell) × (lent.knows ≡ child cell.root) → new ≡ queue_out cell → LendsAt i (passes.Histogram lent) (with_histogram_at e place new)
-  histogram_lends i place cell new lent at got lends out = lends_at i (passes.Histogram lent) (with_histogram_at e place new) (of_histogram cell) (histogram_here i place cell at got)
-      lends.0 (ap (mapped_view entry.Histogram) lends.1)
-      (ap (λ x. things_of (with_histogram_at e place x)) out ∙ histogram_put i place (queue_out cell) at)
+  histogram_lends i place cell new lent at got lends out = lends_at i (passes.Histogram lent) (with_histogram_at e place new) (of_histogram cell) (histogram_here i place cell at got) (
+    of_histogram (queue_out cell),
+    refl,
+    lasts_on (cells.Histogram cell.cell),
+    lends.0,
+    ap (mapped_view entry.Histogram) lends.1,
+    ap (λ x. things_of (with_histogram_at e place x)) out ∙ histogram_put i place (queue_out cell) at,
+  )
       (histogram_frame place cell new got (ap unheard out))
 
   -- ---- taking back
@@ -356,7 +383,7 @@ module _ (e : Exporter) where
       (took_back-mapped entry.Counter cell.root lent.knows (taker cell.root lent.knows) (took_back cell.root lent.knows)))
       (ap (λ (x : CounterThing). cells.Counter x.fixed) takes)
       (counter_put i place new at.0 at.1)
-      (counter_frame place cell new got (ap but_known takes))
+      (counter_frame place cell new got)
 
   pub gauge_takes_back : (i place : ℕ) (cell new : GaugeThing) (lent : Lease GaugeCall DsdGauge) → (i ≡ length e.series.counters + place) × (place < length e.series.gauges) → Got e.series.gauges place cell
       → new ≡ with_one_back lent.knows cell → TakesAt i (passes.Gauge lent) (with_gauge_at e place new)
@@ -366,7 +393,7 @@ module _ (e : Exporter) where
       (took_back-mapped entry.Gauge cell.root lent.knows (taker cell.root lent.knows) (took_back cell.root lent.knows)))
       (ap (λ (x : GaugeThing). cells.Gauge x.fixed) takes)
       (gauge_put i place new at.0 at.1)
-      (gauge_frame place cell new got (ap but_known takes))
+      (gauge_frame place cell new got)
 
   pub histogram_takes_back : (i place : ℕ) (cell new : Queued) (lent : Lease (QueueCall FixedOf) (SampleQueue FixedOf)) → i ≡ length e.series.counters + (length e.series.gauges + place) → Got e.series.histograms place cell
       → new ≡ queue_back lent.knows cell → TakesAt i (passes.Histogram lent) (with_histogram_at e place new)

@@ -1,8 +1,7 @@
 -- Behind a flush nothing waits in a cell.
-use Rattle.std.proofs.Common.{◌≡◌, List, [], ◌∷◌, ◌++◌, ℕ, refl, sym, ap, subst, ◌∙◌}
+use Rattle.std.proofs.Common.{List, [], ◌∷◌, ◌++◌, ℕ, refl, sym, ap, subst, ◌∙◌}
 use Rattle.legal_history.specs.declared.history.View.{View}
-use Rattle.legal_history.specs.declared.history.Entry.{Entry}
-use Rattle.legal_history.specs.History.{after, calls, said}
+use Rattle.legal_history.specs.History.{calls, first, said}
 use Rattle.legal_history.specs.Object.{Made, Runs}
 use Rattle.legal_history.proofs.Lists.{calls-append}
 use Rattle.metrics_core.specs.declared.numbers.Fixed.{Fixed as FixedOf}
@@ -11,7 +10,9 @@ use Rattle.flushed_cells.specs.declared.gauge_calls.GaugeCall.{GaugeCall}
 use Rattle.flushed_cells.specs.Counters.{CounterStep, counter_start, counter_flush}
 use Rattle.flushed_cells.specs.Gauges.{GaugeStep, gauge_start, gauge_flush}
 use Rattle.flushed_cells.specs.Series.{Flushes}
-use Rattle.dsd_exporter.specs.Waiting.{NothingWaits, GaugeStays}
+use Rattle.dsd_exporter.specs.Exporter.{unmade}
+use Rattle.dsd_exporter.specs.Flushing.{PassesCounter, PassesGauge}
+use Rattle.dsd_exporter.specs.Waiting.{CounterRests, GaugeRests, NothingWaits, GaugeStays}
 
 module _ {S C : Type 0} (Step : C → S → S → Type 0) where
   runs-then : (s x y : S) (cs : List C) (c : C) → Runs Step s cs x → Step c x y → Runs Step s (cs ++ c ∷ []) y
@@ -43,3 +44,23 @@ flushed_gauge v w answer m = (
     updates = ap (λ s. s.updates) m.5.2;
   },
 )
+
+-- nothing waits in a cell that nobody has called
+counter_rests : CounterRests first counter_start
+counter_rests = record { holds = refl; delta = refl; updates = refl }
+
+gauge_rests : GaugeRests first gauge_start
+gauge_rests = record { holds = refl; updates = refl }
+
+pub first_counter : NothingWaits first
+first_counter = (counter_start, counter_rests)
+
+pub first_gauge : GaugeStays first gauge_start.value
+first_gauge = (gauge_start, refl, gauge_rests)
+
+-- a flush passes over a cell that isn't made yet
+pub unmade_counter : PassesCounter unmade counter_start unmade
+unmade_counter = (refl, counter_rests, refl)
+
+pub unmade_gauge : PassesGauge unmade gauge_start unmade
+unmade_gauge = (refl, gauge_rests, refl)

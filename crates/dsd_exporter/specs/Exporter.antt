@@ -1,5 +1,5 @@
 -- An exporter as its contracts see it: what it was built with, and its series with their cells.
-use Rattle.std.specs.Prelude.{◌≡◌, ℕ, codes, Bool, true, false, List, [], ◌++◌, map, Some, None, All, option_map, string_bytes, if◌then◌else◌}
+use Rattle.std.specs.Prelude.{◌≡◌, ℕ, codes, Bool, true, false, List, [], ◌++◌, map, Option, Some, None, All, option_map, string_bytes, if◌then◌else◌}
 use Rattle.legal_history.specs.declared.history.View.{View}
 use Rattle.legal_history.specs.History.{calls, first}
 use Rattle.cell_lanes.specs.Things.{Thing}
@@ -39,12 +39,12 @@ settings_of c = record {
   reservoir_size = if c.histogram_sampling then Some c.histogram_reservoir_size else None;
 }
 
--- a counter or a gauge: its cell, and what the exporter's own pass of it knows
+-- a counter or a gauge: its cell, once it was lent, and what the exporter's own pass of it knows
 abbrev pub CounterThing : Type 0
-CounterThing = Thing CounterCall DsdCounter
+CounterThing = Thing CounterCall (Option DsdCounter)
 
 abbrev pub GaugeThing : Type 0
-GaugeThing = Thing GaugeCall DsdGauge
+GaugeThing = Thing GaugeCall (Option DsdGauge)
 
 -- a histogram: its queue, what the exporter's own pass of it knows, and the entries that were taken out of it and not sent yet
 pub record Queued : Type 0 where
@@ -66,6 +66,15 @@ no_cells = record { counters = []; gauges = []; histograms = []; made = 0 }
 -- a cell that nobody has called, with no pass out
 abbrev pub unused : {M F : Type 0} → F → Thing M F
 unused cell = record { root = first; fixed = cell }
+
+-- one whose cell isn't made yet
+abbrev pub unmade : {M F : Type 0} → Thing M (Option F)
+unmade = unused None
+
+-- a cell that may not be made yet, as one that is or one that isn't
+abbrev pub kept_thing : {M F : Type 0} → Option (Thing M F) → Thing M (Option F)
+kept_thing None = unmade
+kept_thing (Some owned) = record { root = owned.root; fixed = Some owned.fixed }
 
 abbrev pub empty_queue : SampleQueue FixedOf → Queued
 empty_queue cell = record { cell = cell; root = first; taken = [] }
@@ -119,10 +128,10 @@ pub record AllHome (exporter : Exporter) : Type 0 where
 
 -- a new series goes last: its cell is one that nobody has called
 abbrev pub AddsCounter : KeyText → Exporter → Exporter → Type 0
-AddsCounter key old new = (cell : DsdCounter) × (new ≡ record old { series = with_counter old.series key (unused cell) })
+AddsCounter key old new = (cell : Option DsdCounter) × (new ≡ record old { series = with_counter old.series key (unused cell) })
 
 abbrev pub AddsGauge : KeyText → Exporter → Exporter → Type 0
-AddsGauge key old new = (cell : DsdGauge) × (new ≡ record old { series = with_gauge old.series key (unused cell) })
+AddsGauge key old new = (cell : Option DsdGauge) × (new ≡ record old { series = with_gauge old.series key (unused cell) })
 
 abbrev pub AddsHistogram : KeyText → Exporter → Exporter → Type 0
 AddsHistogram key old new = (cell : SampleQueue FixedOf) × (new ≡ record old { series = with_histogram old.series key (empty_queue cell) })

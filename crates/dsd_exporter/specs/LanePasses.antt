@@ -26,7 +26,7 @@ use Rattle.dsd_exporter.specs.declared.lanes.SeriesCell.TheVariants as cells
 use Rattle.dsd_exporter.specs.declared.lanes.SeriesEntry.{SeriesEntry}
 use Rattle.dsd_exporter.specs.declared.lanes.SeriesEntry.TheVariants as entry
 use Rattle.dsd_exporter.specs.CallSteps.{IsCounterCall, IsGaugeCall, IsRecord}
-use Rattle.dsd_exporter.specs.Exporter.{Exporter, CounterThing, GaugeThing, Queued, unused, empty_queue}
+use Rattle.dsd_exporter.specs.Exporter.{Exporter, CounterThing, GaugeThing, Queued, unmade, empty_queue}
 
 -- a counter, a gauge and a histogram as a thing: what the exporter's own pass knows, with each call as one of any kind, and the cell
 abbrev pub of_counter : CounterThing → Thing SeriesEntry SeriesCell
@@ -58,8 +58,8 @@ pass_known (passes.Histogram lent) = mapped_view entry.Histogram lent.knows
 
 -- the pass is one of this cell
 abbrev pub IsPassOf : SeriesCell → LanePass → Type 0
-IsPassOf (cells.Counter cell) (passes.Counter lent) = lent.cell ≡ cell
-IsPassOf (cells.Gauge cell) (passes.Gauge lent) = lent.cell ≡ cell
+IsPassOf (cells.Counter cell) (passes.Counter lent) = cell ≡ Some lent.cell
+IsPassOf (cells.Gauge cell) (passes.Gauge lent) = cell ≡ Some lent.cell
 IsPassOf (cells.Histogram cell) (passes.Histogram lent) = lent.cell ≡ cell
 IsPassOf (cells.Counter _) (passes.Gauge _) = ⊥
 IsPassOf (cells.Counter _) (passes.Histogram _) = ⊥
@@ -73,6 +73,22 @@ abbrev pub TakesCall : SeriesCell → SeriesCall → Type 0
 TakesCall (cells.Counter _) call = IsCounterCall call
 TakesCall (cells.Gauge _) call = IsGaugeCall call
 TakesCall (cells.Histogram _) call = IsRecord call
+
+-- what was a pass of a cell stays one, and what it took it takes: the cell stays, or one that there wasn't was made
+abbrev pub Lasts : SeriesCell → SeriesCell → Type 0
+Lasts f g = ((lent : LanePass) → IsPassOf f lent → IsPassOf g lent) × ((call : SeriesCall) → TakesCall f call → TakesCall g call)
+
+pub lasts_on : (f : SeriesCell) → Lasts f f
+lasts_on f = (λ lent is. is, λ call takes. takes)
+
+pub lasts_then : (f g h : SeriesCell) → Lasts f g → Lasts g h → Lasts f h
+lasts_then f g h first more = (λ lent is. more.0 lent (first.0 lent is), λ call takes. more.1 call (first.1 call takes))
+
+pub owns_on : (f g : SeriesCell) (lent : LanePass) → Lasts f g → IsPassOf f lent → IsPassOf g lent
+owns_on f g lent lasts is = lasts.0 lent is
+
+pub takes_on : (f g : SeriesCell) (call : SeriesCall) → Lasts f g → TakesCall f call → TakesCall g call
+takes_on f g call lasts takes = lasts.1 call takes
 
 -- what stands in the history of a counter for a call, in that of a gauge, and in that of a queue, where a record of no sample is none
 abbrev pub counter_calls : SeriesCall → List CounterCall
@@ -108,9 +124,9 @@ StandsAsEntries call made = made ≡ entries_made call
 
 -- ---- what lanes leave as it is
 
--- a series, but for what the exporter knows of it
-abbrev pub unseen : {M F : Type 0} → LiveSeries (Thing M F) → LiveSeries (Thing M F)
-unseen series = record series { cell = unused series.cell.fixed }
+-- a series, but for its cell and what the exporter knows of it
+abbrev pub unseen : {M F : Type 0} → LiveSeries (Thing M (Option F)) → LiveSeries (Thing M (Option F))
+unseen series = record series { cell = unmade }
 
 -- a histogram, but for that: what was taken out of its queue stays
 abbrev pub unheard : Queued → Queued

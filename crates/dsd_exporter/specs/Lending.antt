@@ -62,10 +62,16 @@ ChangesHistogram id changes old new =
     (s t : Queued) × (cell_of id old.series.histograms ≡ Some s) × changes s t
     × (new ≡ record old { series = record old.series { histograms = with_cell id old.series.histograms t } })
 
--- one more pass is out; a pass that knew so much was taken back
-abbrev pub with_one_out : {M F : Type 0} → Thing M F → Thing M F
-with_one_out s = record s { root = lender s.root }
+-- a cell is made once: then it is the one that is there
+abbrev pub Makes : {F : Type 0} → Option F → F → Type 0
+Makes None cell = Unit {0}
+Makes (Some made) cell = cell ≡ made
 
+-- one more pass of a cell is out
+abbrev pub with_lent : {M F : Type 0} → F → Thing M (Option F) → Thing M (Option F)
+with_lent cell s = record { root = lender s.root; fixed = Some cell }
+
+-- one more pass is out; a pass that knew so much was taken back
 abbrev pub with_one_back : {M F : Type 0} → View M → Thing M F → Thing M F
 with_one_back known s = record s { root = taker s.root known }
 
@@ -75,17 +81,17 @@ queue_out s = record s { root = lender s.root }
 abbrev pub queue_back : View (QueueCall FixedOf) → Queued → Queued
 queue_back known s = record s { root = taker s.root known }
 
--- what is lent of a series is its cell, and a new pass that has seen what the exporter has seen
+-- what is lent of a series is its cell, which is made where there is none yet, and a new pass that has seen what the exporter has seen
 pub record IsLentCounter (id : SeriesId) (s : CounterThing) (lent : LentCounterOf) : Type 0 where
   pub id_is : lent.id ≡ id
-  pub handle : arc_value lent.handle ≡ s.fixed
-  pub pass : IsCounterPass s.fixed lent.pass
+  pub cell : Makes s.fixed (arc_value lent.handle)
+  pub pass : IsCounterPass (arc_value lent.handle) lent.pass
   pub knows : flushed.view_of lent.pass ≡ child s.root
 
 pub record IsLentGauge (id : SeriesId) (s : GaugeThing) (lent : LentGaugeOf) : Type 0 where
   pub id_is : lent.id ≡ id
-  pub handle : arc_value lent.handle ≡ s.fixed
-  pub pass : IsGaugePass s.fixed lent.pass
+  pub cell : Makes s.fixed (arc_value lent.handle)
+  pub pass : IsGaugePass (arc_value lent.handle) lent.pass
   pub knows : flushed.view_of lent.pass ≡ child s.root
 
 pub record IsLentHistogram (id : SeriesId) (s : Queued) (lent : LentHistogramOf) : Type 0 where
@@ -97,11 +103,11 @@ pub record IsLentHistogram (id : SeriesId) (s : Queued) (lent : LentHistogramOf)
 -- nothing is lent exactly where there is no such series; otherwise one more pass of it is out
 abbrev pub LendsCounter : SeriesId → Option LentCounterOf → Exporter → Exporter → Type 0
 LendsCounter id None old new = HasNoCounter id old × (new ≡ old)
-LendsCounter id (Some lent) old new = ChangesCounter id (λ s t. IsLentCounter id s lent × (t ≡ with_one_out s)) old new
+LendsCounter id (Some lent) old new = ChangesCounter id (λ s t. IsLentCounter id s lent × (t ≡ with_lent (arc_value lent.handle) s)) old new
 
 abbrev pub LendsGauge : SeriesId → Option LentGaugeOf → Exporter → Exporter → Type 0
 LendsGauge id None old new = HasNoGauge id old × (new ≡ old)
-LendsGauge id (Some lent) old new = ChangesGauge id (λ s t. IsLentGauge id s lent × (t ≡ with_one_out s)) old new
+LendsGauge id (Some lent) old new = ChangesGauge id (λ s t. IsLentGauge id s lent × (t ≡ with_lent (arc_value lent.handle) s)) old new
 
 abbrev pub LendsHistogram : SeriesId → Option LentHistogramOf → Exporter → Exporter → Type 0
 LendsHistogram id None old new = HasNoHistogram id old × (new ≡ old)
@@ -109,10 +115,10 @@ LendsHistogram id (Some lent) old new = ChangesHistogram id (λ s t. IsLentHisto
 
 -- where there is such a series, what was lent has a pass of its cell
 abbrev pub LentCounter : Exporter → LentCounterOf → Type 0
-LentCounter exporter lent = (s : CounterThing) → cell_of lent.id exporter.series.counters ≡ Some s → IsCounterPass s.fixed lent.pass
+LentCounter exporter lent = (s : CounterThing) → cell_of lent.id exporter.series.counters ≡ Some s → (cell : DsdCounter) × (s.fixed ≡ Some cell) × IsCounterPass cell lent.pass
 
 abbrev pub LentGauge : Exporter → LentGaugeOf → Type 0
-LentGauge exporter lent = (s : GaugeThing) → cell_of lent.id exporter.series.gauges ≡ Some s → IsGaugePass s.fixed lent.pass
+LentGauge exporter lent = (s : GaugeThing) → cell_of lent.id exporter.series.gauges ≡ Some s → (cell : DsdGauge) × (s.fixed ≡ Some cell) × IsGaugePass cell lent.pass
 
 abbrev pub LentHistogram : Exporter → LentHistogramOf → Type 0
 LentHistogram exporter lent = (s : Queued) → cell_of lent.id exporter.series.histograms ≡ Some s → IsSamplePass s.cell lent.pass

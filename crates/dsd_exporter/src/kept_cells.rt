@@ -1,101 +1,115 @@
 //! Counters and gauges as the exporter keeps them: the cell that threads share, and what a flush knows of it without a look.
 
-ghost use Rattle.std.specs.Prelude.{◌≡◌, IfOk, IfSome, OnOk, OnErr};
+ghost use Rattle.std.specs.Prelude.{◌≡◌, Some, IfOk, IfSome, OnOk, OnErr};
 ghost use Rattle.std.specs.Bool.{OnTrue, OnFalse};
 ghost use Rattle.std.specs.Arc.{arc_value};
-ghost use Rattle.legal_history.specs.History.{Settled, child, first, lender, taker};
+ghost use Rattle.legal_history.specs.History.{Settled, child, first};
 ghost use Rattle.flushed_cells.specs.declared.counter_state.CounterState.{CounterState};
 ghost use Rattle.flushed_cells.specs.declared.gauge_state.GaugeState.{GaugeState};
-ghost use Rattle.dsd_exporter.specs.Exporter.{IsHome};
+ghost use Rattle.dsd_exporter.specs.Exporter.{IsHome, unmade};
 ghost use Rattle.dsd_exporter.specs.Flushing.{PassesGauge, TakesCounter, TakesGauge};
-ghost use Rattle.dsd_exporter.specs.Lending.{with_one_out, with_one_back};
+ghost use Rattle.dsd_exporter.specs.Lending.{Makes, with_lent, with_one_back};
 ghost use Rattle.dsd_exporter.specs.Waiting.{NothingWaits, GaugeStays};
 
-use crate::lane_cells::{lend_cell, settle_cell, take_cell};
-use cell_lanes::{LentCell, OwnedCell, SharedCell};
+use cell_lanes::{Lender, LentCell, OwnedCell, SharedCell};
 use flushed_cells::{DsdCounter, DsdGauge};
 use metrics_core::{Fixed, Memory};
 use std::alloc::Global;
 use std::marker::Model;
 use std::sync::{Arc, Wait};
 
-/// A cell in which nothing waits from a flush to the next call.
+/// A cell in which nothing waits before the first call, nor from a flush to the next call.
 pub(crate) trait RestingCell: SharedCell {
+    ghost use Rattle.std.specs.Prelude.{◌≡◌, IfOk};
     ghost use Rattle.legal_history.specs.declared.history.View.{View};
+    ghost use Rattle.legal_history.specs.History.{Settled, first};
 
     /// What is to know of a cell in which nothing waits.
     type Rest: Send + Drop;
 
     /// After all calls that a pass has seen nothing waits, and this is to know of the cell.
     ghost rests: { View Self.Entry → Self.Rest → Type 0 };
+
+    /// Makes a cell that nobody has called.
+    fn make_cell(alloc: Global) -> Result<OwnedCell<Self>, Memory>
+        ensures { IfOk result (λ made. (made.root ≡ first) × Settled made.root) };
 }
 
-/// A cell with the exporter's own pass of it. Where no pass was out since the last flush it says what another flush finds: the
-/// cell isn't looked at. A contract sees it as the cell and what the exporter's pass knows.
+/// A cell with the exporter's own pass of it, which is made when it is first lent. Where no pass was out since the last flush it
+/// says what another flush finds: the cell isn't looked at. A contract sees it as the cell, once it is made, and what the
+/// exporter's pass knows.
 #[derive(Drop)]
 pub(crate) struct KeptCell<C: RestingCell> {
-    owned: OwnedCell<C>,
+    owned: Option<OwnedCell<C>>,
     /// What is to know of the cell, where no pass is out and nothing waits for sure.
     rest: Option<C::Rest>,
 }
 
 impl<C: RestingCell> Model for KeptCell<C> {
-    ghost use Rattle.std.specs.Prelude.{◌≡◌, IfSome};
+    ghost use Rattle.std.specs.Prelude.{◌≡◌, Option, IfSome};
     ghost use Rattle.cell_lanes.specs.Things.{Thing};
+    ghost use Rattle.dsd_exporter.specs.Exporter.{kept_thing};
 
-    ghost Value = { Thing C.Entry C };
+    ghost Value = { Thing C.Entry (Option C) };
 
-    ghost view = { λ kept. kept.owned };
+    ghost view = { λ kept. kept_thing kept.owned };
 
-    ghost invariant = { λ kept. IfSome kept.rest (λ rest. (kept.owned.root.out ≡ 0) × C.rests kept.owned.root rest) };
+    ghost invariant = { λ kept. IfSome kept.rest (λ rest. ((kept_thing kept.owned).root.out ≡ 0) × C.rests (kept_thing kept.owned).root rest) };
 }
 
 impl<C: RestingCell> KeptCell<C> {
-    /// A cell of which nothing is known yet.
-    fn new(owned: OwnedCell<C>) -> KeptCell<C>
-        ensures { result ≡ owned }
+    /// A cell that isn't made yet, with what is to know of one that nobody has called.
+    fn new(rest: C::Rest) -> KeptCell<C>
+        requires { C.rests first rest }
+        ensures { result ≡ unmade }
     {
-        KeptCell { owned, rest: None }
+        KeptCell {
+            owned: None,
+            rest: Some(rest),
+        }
     }
 
-    /// Lends the cell and a new pass of it.
+    /// Lends the cell and a new pass of it. The first lend makes the cell.
     pub(crate) fn lend_pass(&mut self, alloc: Global) -> Result<(Arc<C>, C::Pass), Memory>
-        ensures lent { IfOk result (λ lent. (arc_value lent.0 ≡ self.old.fixed) × C.is_pass self.old.fixed lent.1 × (C.view lent.1 ≡ child self.old.root)) }
-        ensures root { OnOk result (self.new.root ≡ lender self.old.root) }
+        ensures lent { IfOk result (λ lent. Makes self.old.fixed (arc_value lent.0) × C.is_pass (arc_value lent.0) lent.1 × (C.view lent.1 ≡ child self.old.root) × (self.new ≡ with_lent (arc_value lent.0) self.old)) }
         ensures refused { OnErr result (self.new ≡ self.old) }
-        ensures cell { self.new.fixed ≡ self.old.fixed }
     {
         self.rest = None;
-        self.owned.lend_pass(alloc)
+        if let Some(owned) = &mut self.owned {
+            return owned.lend_pass(alloc);
+        }
+        let mut owned = C::make_cell(alloc)?;
+        let lent = owned.lend_pass(alloc)?;
+        self.owned = Some(owned);
+        Ok(lent)
     }
 
     /// Takes a pass of the cell back.
     pub(crate) fn take_pass(&mut self, pass: C::Pass)
-        requires { C.is_pass self.old.fixed pass }
-        ensures root { self.new.root ≡ taker self.old.root (C.view pass) }
-        ensures cell { self.new.fixed ≡ self.old.fixed }
+        requires pass { (cell : C) × (self.old.fixed ≡ Some cell) × C.is_pass cell pass }
+        ensures { self.new ≡ with_one_back (C.view pass) self.old }
     {
         self.rest = None;
-        self.owned.take_pass(pass);
+        if let Some(owned) = &mut self.owned {
+            owned.take_pass(pass);
+        }
     }
 
-    /// Lends a new pass of the cell to a lane.
+    /// Lends a new pass of the cell to a lane. The first lend makes the cell.
     pub(crate) fn lend_to_lane(&mut self, alloc: Global) -> Result<LentCell<C>, Memory>
-        ensures lent { IfOk result (λ lent. (lent.cell ≡ self.old.fixed) × (lent.knows ≡ child self.old.root)) }
-        ensures out { OnOk result (self.new ≡ with_one_out self.old) }
+        ensures lent { IfOk result (λ lent. Makes self.old.fixed lent.cell × (lent.knows ≡ child self.old.root) × (self.new ≡ with_lent lent.cell self.old)) }
         ensures refused { OnErr result (self.new ≡ self.old) }
     {
-        self.rest = None;
-        lend_cell(alloc, &mut self.owned)
+        let (cell, pass) = self.lend_pass(alloc)?;
+        Ok(LentCell::new(cell, pass))
     }
 
     /// Takes a lane's pass of the cell back.
     pub(crate) fn take_from_lane(&mut self, lent: LentCell<C>)
-        requires lent { lent.cell ≡ self.old.fixed }
+        requires lent { self.old.fixed ≡ Some lent.cell }
         ensures { self.new ≡ with_one_back lent.knows self.old }
     {
-        self.rest = None;
-        take_cell(&mut self.owned, lent);
+        self.take_pass(lent.into_pass());
     }
 
     /// Notes what is to know of the cell, if no pass of it is out.
@@ -103,8 +117,10 @@ impl<C: RestingCell> KeptCell<C> {
         requires { C.rests self.old.root rest }
         ensures { self.new ≡ self.old }
     {
-        if self.owned.is_home() {
-            self.rest = Some(rest);
+        if let Some(owned) = &self.owned {
+            if owned.is_home() {
+                self.rest = Some(rest);
+            }
         }
     }
 
@@ -114,7 +130,9 @@ impl<C: RestingCell> KeptCell<C> {
         ensures same { self.new ≡ self.old }
         ensures settled { Settled self.old.root }
     {
-        settle_cell(rt, &mut self.owned);
+        if let Some(owned) = &mut self.owned {
+            owned.settle(rt);
+        }
     }
 }
 
@@ -122,26 +140,34 @@ impl RestingCell for DsdCounter {
     type Rest = ();
 
     ghost rests = { λ v _. NothingWaits v };
+
+    fn make_cell(alloc: Global) -> Result<OwnedCell<DsdCounter>, Memory> {
+        DsdCounter::owned(alloc)
+    }
 }
 
 impl RestingCell for DsdGauge {
     type Rest = Fixed;
 
     ghost rests = { GaugeStays };
+
+    fn make_cell(alloc: Global) -> Result<OwnedCell<DsdGauge>, Memory> {
+        DsdGauge::owned(alloc)
+    }
 }
 
-/// A new counter, with no calls.
-pub(crate) fn new_counter(alloc: Global) -> Result<KeptCell<DsdCounter>, Memory>
-    ensures { IfOk result (λ made. (made.root ≡ first) × Settled made.root) }
+/// A new counter, with no calls. It takes no memory before it is lent.
+pub(crate) fn new_counter() -> KeptCell<DsdCounter>
+    ensures { result ≡ unmade }
 {
-    Ok(KeptCell::new(DsdCounter::owned(alloc)?))
+    KeptCell::new(())
 }
 
-/// A new gauge, with no calls.
-pub(crate) fn new_gauge(alloc: Global) -> Result<KeptCell<DsdGauge>, Memory>
-    ensures { IfOk result (λ made. (made.root ≡ first) × Settled made.root) }
+/// A new gauge, with no calls. It takes no memory before it is lent.
+pub(crate) fn new_gauge() -> KeptCell<DsdGauge>
+    ensures { result ≡ unmade }
 {
-    Ok(KeptCell::new(DsdGauge::owned(alloc)?))
+    KeptCell::new(Fixed(0))
 }
 
 impl KeptCell<DsdCounter> {
@@ -152,7 +178,10 @@ impl KeptCell<DsdCounter> {
         if self.rest.is_some() {
             return (0, 0);
         }
-        let taken = self.owned.read(rt);
+        let taken = match &mut self.owned {
+            Some(owned) => owned.read(rt),
+            None => return (0, 0),
+        };
         self.note_rest(());
         taken
     }
@@ -165,7 +194,11 @@ impl KeptCell<DsdCounter> {
         if self.rest.is_some() {
             return true;
         }
-        if self.owned.read_still(rt).is_none() {
+        let still = match &mut self.owned {
+            Some(owned) => owned.read_still(rt),
+            None => return true,
+        };
+        if still.is_none() {
             return false;
         }
         self.note_rest(());
@@ -188,7 +221,10 @@ impl KeptCell<DsdGauge> {
         if let Some(value) = self.rest {
             return (value, 0);
         }
-        let taken = self.owned.read(rt);
+        let taken = match &mut self.owned {
+            Some(owned) => owned.read(rt),
+            None => return (Fixed(0), 0),
+        };
         self.note_rest(taken.0);
         taken
     }

@@ -31,10 +31,10 @@ pub enum LanePass {
 
 /// The cell of a series, of any kind. Contracts speak of it, and no value of it is made.
 pub enum SeriesCell {
-    /// A counter.
-    Counter(DsdCounter),
-    /// A gauge.
-    Gauge(DsdGauge),
+    /// A counter, once it was lent.
+    Counter(Option<DsdCounter>),
+    /// A gauge, once it was lent.
+    Gauge(Option<DsdGauge>),
     /// A histogram.
     Histogram(DsdHistogram),
 }
@@ -119,7 +119,7 @@ impl LanePass {
 }
 
 impl Lenders for State {
-    ghost use Rattle.dsd_exporter.specs.LanePasses.{things_of, frame_of, pass_known, IsPassOf, TakesCall, StandsAsEntries};
+    ghost use Rattle.dsd_exporter.specs.LanePasses.{things_of, frame_of, pass_known, IsPassOf, Lasts, TakesCall, StandsAsEntries, lasts_on, lasts_then, owns_on, takes_on};
 
     type Frame = State;
 
@@ -138,6 +138,16 @@ impl Lenders for State {
     type Call = SeriesCall;
 
     ghost takes = { TakesCall };
+
+    ghost lasts = { Lasts };
+
+    ghost lasts_on = { lasts_on };
+
+    ghost lasts_then = { lasts_then };
+
+    ghost owns_on = { owns_on };
+
+    ghost takes_on = { takes_on };
 
     type Entry = SeriesEntry;
 

@@ -17,7 +17,6 @@ mod gauge_texts;
 mod histogram_flushing;
 mod indices;
 mod kept_cells;
-mod lane_cells;
 mod lane_laws;
 mod lanes;
 mod lent;

@@ -10,8 +10,7 @@ ghost use Rattle.dsd_exporter.specs.Flushing.{Drains, FoundEmpty, IsSample, Offe
 ghost use Rattle.dsd_exporter.specs.Samples.{samples_in};
 ghost use Rattle.dsd_exporter.specs.Lending.{queue_out, queue_back};
 
-use crate::lane_cells::{lend_cell, settle_cell, take_cell};
-use cell_lanes::{LentCell, OwnedCell};
+use cell_lanes::{Lender, LentCell, OwnedCell};
 use metrics_core::{Fixed, Memory, Words};
 use metrics_registry::Reservoir;
 use sample_queue::{DsdHistogram, SampleEntry, SamplePass, SampleQueue};
@@ -72,7 +71,8 @@ impl QueuedSamples {
         ensures out { OnOk result (self.new ≡ queue_out self.old) }
         ensures refused { OnErr result (self.new ≡ self.old) }
     {
-        lend_cell(alloc, &mut self.queue)
+        let (queue, pass) = self.queue.lend_pass(alloc)?;
+        Ok(LentCell::new(queue, pass))
     }
 
     /// Takes a lane's pass of the queue back.
@@ -80,7 +80,7 @@ impl QueuedSamples {
         requires { lent.cell ≡ self.old.cell }
         ensures { self.new ≡ queue_back lent.knows self.old }
     {
-        take_cell(&mut self.queue, lent);
+        self.queue.take_pass(lent.into_pass());
     }
 
     /// With no pass out, makes sure that the exporter knows whose each call on the queue is. It changes nothing.
@@ -89,7 +89,7 @@ impl QueuedSamples {
         ensures same { self.new ≡ self.old }
         ensures settled { Settled self.old.root }
     {
-        settle_cell(rt, &mut self.queue);
+        self.queue.settle(rt);
     }
 
     /// Takes entries out of the queue, in order, until it was empty at a moment of the call. Where memory is refused those that

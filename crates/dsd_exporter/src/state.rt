@@ -113,7 +113,7 @@ impl State {
     {
         let number = self.series.made();
         if number < u64::MAX {
-            return self.series.register_counter(key, || new_counter(alloc));
+            return self.series.register_counter(key, || Ok(new_counter()));
         }
         match self.series.find_counter(&key) {
             Some(id) => Ok(id),
@@ -153,7 +153,7 @@ impl State {
     {
         let number = self.series.made();
         if number < u64::MAX {
-            return self.add_gauge(alloc, key);
+            return self.add_gauge(key);
         }
         match self.series.find_gauge(&key) {
             Some(id) => Ok(id),
@@ -166,7 +166,7 @@ impl State {
 
     /// Registers a gauge where a number is left. The key of a new one is kept for its lines; where memory for that is refused
     /// the gauge is taken back.
-    fn add_gauge(&mut self, alloc: Global, key: Key) -> Result<SeriesId, Memory>
+    fn add_gauge(&mut self, key: Key) -> Result<SeriesId, Memory>
         requires { self.old.series.made < 2 ^ 64 - 1 }
         ensures registered { IfOk result (λ id. RegistersGauge (λ cell. cell ≡ unused cell.fixed) key id self.old.series self.new.series) }
         ensures others { self.new ≡ record self.old { series = self.new.series } }
@@ -176,7 +176,7 @@ impl State {
         // That a gauge can be taken back needs how many were made.
         let _made = self.series.made();
         let count = self.series.gauge_count();
-        let id = self.series.register_gauge(key, || new_gauge(alloc))?;
+        let id = self.series.register_gauge(key, || Ok(new_gauge()))?;
         let gauges = self.series.gauges();
         let Some(key) = gauges.key(count) else {
             return Ok(id);
@@ -232,8 +232,8 @@ impl State {
         }
     }
 
-    /// Lends a counter: its cell, and a new pass that has seen what the exporter has seen and has made no call. Answers `None`
-    /// exactly where no counter has the id.
+    /// Lends a counter: its cell, which the first lend makes, and a new pass that has seen what the exporter has seen and has
+    /// made no call. Answers `None` exactly where no counter has the id.
     pub fn lend_counter(
         &mut self,
         alloc: Global,

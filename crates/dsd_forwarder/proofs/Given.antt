@@ -24,9 +24,7 @@ on_err (Err e) X x = x
 -- ---- a counter
 
 pub counter_pass : (id : SeriesId) (lent : LentCounterOf) (old new : Exporter) → LendsCounter id (Some lent) old new → IsCounterPass (arc_value lent.handle) lent.pass
-counter_pass id lent old new lends =
-    let is = lends.3.0 in
-    subst (λ c. IsCounterPass c lent.pass) (sym is.handle) is.pass
+counter_pass id lent old new lends = lends.3.0.pass
 
 pub counter_given : (key : KeyText) (old between new : Exporter) (id : SeriesId) (lent : LentCounterOf)
     → RegistersCounter key old between → id ≡ counter_id key old → LendsCounter id (Some lent) between new → GivesCounter key lent old new
@@ -52,9 +50,7 @@ counter_unlent key old between new registers same = inr (subst (λ e. RegistersC
 -- ---- a gauge
 
 pub gauge_pass : (id : SeriesId) (lent : LentGaugeOf) (old new : Exporter) → LendsGauge id (Some lent) old new → IsGaugePass (arc_value lent.handle) lent.pass
-gauge_pass id lent old new lends =
-    let is = lends.3.0 in
-    subst (λ c. IsGaugePass c lent.pass) (sym is.handle) is.pass
+gauge_pass id lent old new lends = lends.3.0.pass
 
 pub gauge_given : (key : KeyText) (old between new : Exporter) (id : SeriesId) (lent : LentGaugeOf)
     → RegistersGauge key old between → id ≡ gauge_id key old → LendsGauge id (Some lent) between new → GivesGauge key lent old new
@@ -111,4 +107,4 @@ pub held_given : (id : SeriesId) (lent : LentCounterOf) (held : CounterLease) (o
     → LendsCounter id (Some lent) old new → held ≡ record { cell = arc_value lent.handle; knows = view_of lent.pass } → Holds id (Some held) old new
 held_given id lent held old new lends is =
     let lent_is = lends.3.0 in
-    (lends.0, lends.1, lends.2, (is ∙ (λ j. record { cell = lent_is.handle j; knows = lent_is.knows j }), lends.3.1), lends.4)
+    subst (λ (h : CounterLease). Holds id (Some h) old new) (sym is) (lends.0, lends.1, lends.2, (lent_is.cell, lent_is.knows, lends.3.1), lends.4)

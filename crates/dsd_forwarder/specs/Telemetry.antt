@@ -5,7 +5,7 @@ use Rattle.flushed_cells.specs.declared.counter_calls.CounterCall.TheVariants.{I
 use Rattle.legal_history.specs.History.{child}
 use Rattle.metrics_core.specs.declared.kinds.SeriesId.{SeriesId}
 use Rattle.dsd_exporter.specs.Exporter.{Exporter}
-use Rattle.dsd_exporter.specs.Lending.{HasNoCounter, ChangesCounter, with_one_out}
+use Rattle.dsd_exporter.specs.Lending.{HasNoCounter, ChangesCounter, Makes, with_lent}
 use Rattle.dsd_exporter.specs.Updates.{UpdateText}
 use Rattle.dsd_forwarder.specs.declared.own_counters.OwnCounter.{OwnCounter}
 use Rattle.dsd_forwarder.specs.declared.telemetry.OwnCount.{OwnCount}
@@ -16,11 +16,11 @@ use Rattle.dsd_forwarder.specs.Registering.{RegistersCounter, counter_id}
 abbrev pub counters_of : List OwnCount → List OwnCounter
 counters_of counts = map (λ c. c.counter) counts
 
--- Nothing is held exactly where no counter has the id. Otherwise its cell is held with a new pass, which has seen what the state has seen.
+-- Nothing is held exactly where no counter has the id. Otherwise its cell, which is made where there is none yet, is held with a new pass, which has seen what the state has seen.
 abbrev pub Holds : SeriesId → Option CounterLease → Exporter → Exporter → Type 0
 Holds id None old new = HasNoCounter id old × (new ≡ old)
 Holds id (Some held) old new =
-    ChangesCounter id (λ s t. (held ≡ record { cell = s.fixed; knows = child s.root }) × (t ≡ with_one_out s)) old new
+    ChangesCounter id (λ s t. Makes s.fixed held.cell × (held.knows ≡ child s.root) × (t ≡ with_lent held.cell s)) old new
 
 -- one of the counters was registered and lent
 pub record Registers (transport : List ℕ) (old : Exporter) (count : OwnCount) (new : Exporter) : Type 0 where

@@ -10,19 +10,24 @@ use Rattle.cell_lanes.specs.Things.{TookBack}
 use Rattle.cell_lanes.proofs.Lists.{below_some}
 use Rattle.cell_lanes.proofs.Mapped.{took_back-mapped}
 use Rattle.prom_exporter.specs.declared.lanes.LanePass.{LanePass as PrometheusPass}
+use Rattle.prom_exporter.specs.declared.lanes.SeriesCell.{SeriesCell as PrometheusCell}
 use Rattle.prom_exporter.specs.declared.lanes.SeriesEntry.{SeriesEntry as PrometheusEntry}
 use Rattle.prom_exporter.specs.Exporter.{Exporter as PrometheusExporter}
 use Rattle.prom_exporter.specs.LanePasses as P
 use Rattle.dsd_exporter.specs.declared.lanes.LanePass.{LanePass as DogStatsDPass}
+use Rattle.dsd_exporter.specs.declared.lanes.SeriesCell.{SeriesCell as DogStatsDCell}
 use Rattle.dsd_exporter.specs.declared.lanes.SeriesEntry.{SeriesEntry as DogStatsDEntry}
 use Rattle.dsd_exporter.specs.Exporter.{Exporter as DogStatsDExporter}
 use Rattle.dsd_exporter.specs.LanePasses as D
 use Rattle.exporter_lanes.specs.declared.exporters.Exporters.{Exporters}
+use Rattle.exporter_lanes.specs.declared.exporters.ExporterCall.{ExporterCall}
+use Rattle.exporter_lanes.specs.declared.exporters.ExporterCall.TheVariants as calls
+use Rattle.exporter_lanes.specs.declared.exporters.ExporterCell.TheVariants as cells
 use Rattle.exporter_lanes.specs.declared.exporters.ExporterPass.{ExporterPass}
 use Rattle.exporter_lanes.specs.declared.exporters.ExporterPass.TheVariants as passes
 use Rattle.exporter_lanes.specs.declared.exporters.ExporterEntry.{ExporterEntry}
 use Rattle.exporter_lanes.specs.declared.exporters.ExporterEntry.TheVariants as entries
-use Rattle.exporter_lanes.specs.ExporterLanes.{DogStatsDThing, ExporterThing, IsPassOf, PrometheusThing, dogstatsd_thing, dogstatsd_things, first_prometheus, pass_known, prometheus_thing, prometheus_things, things_of}
+use Rattle.exporter_lanes.specs.ExporterLanes.{DogStatsDThing, ExporterThing, IsPassOf, Lasts, PrometheusThing, TakesCall, dogstatsd_thing, dogstatsd_things, first_prometheus, pass_known, prometheus_thing, prometheus_things, things_of}
 use Rattle.exporter_lanes.proofs.Behind.{behind_all, behind_at, behind_set, front_all, front_at, front_set, many}
 
 -- ---- no two calls of one exporter stand as one
@@ -43,6 +48,30 @@ pub one_dogstatsd : IsOneToOne entries.DogStatsD
 unfolding dogstatsd_or
 one_dogstatsd a b e = ap (dogstatsd_or a) e
 
+-- ---- what lasts of one exporter's cell lasts of it as one of both
+
+dogstatsd_owns : (f g : DogStatsDCell) → D.Lasts f g → (lent : ExporterPass) → IsPassOf (cells.DogStatsD f) lent → IsPassOf (cells.DogStatsD g) lent
+dogstatsd_owns f g lasts (passes.Prometheus lent) is = is
+dogstatsd_owns f g lasts (passes.DogStatsD lent) is = D.owns_on f g lent lasts is
+
+dogstatsd_takes : (f g : DogStatsDCell) → D.Lasts f g → (call : ExporterCall) → TakesCall (cells.DogStatsD f) call → TakesCall (cells.DogStatsD g) call
+dogstatsd_takes f g lasts (calls.Prometheus call) takes = takes
+dogstatsd_takes f g lasts (calls.DogStatsD call) takes = D.takes_on f g call lasts takes
+
+dogstatsd_lasts : (f g : DogStatsDCell) → D.Lasts f g → Lasts (cells.DogStatsD f) (cells.DogStatsD g)
+dogstatsd_lasts f g lasts = (dogstatsd_owns f g lasts, dogstatsd_takes f g lasts)
+
+prometheus_owns : (f g : PrometheusCell) → P.Lasts f g → (lent : ExporterPass) → IsPassOf (cells.Prometheus f) lent → IsPassOf (cells.Prometheus g) lent
+prometheus_owns f g lasts (passes.Prometheus lent) is = P.owns_on f g lent lasts is
+prometheus_owns f g lasts (passes.DogStatsD lent) is = is
+
+prometheus_takes : (f g : PrometheusCell) → P.Lasts f g → (call : ExporterCall) → TakesCall (cells.Prometheus f) call → TakesCall (cells.Prometheus g) call
+prometheus_takes f g lasts (calls.Prometheus call) takes = P.takes_on f g call lasts takes
+prometheus_takes f g lasts (calls.DogStatsD call) takes = takes
+
+prometheus_lasts : (f g : PrometheusCell) → P.Lasts f g → Lasts (cells.Prometheus f) (cells.Prometheus g)
+prometheus_lasts f g lasts = (prometheus_owns f g lasts, prometheus_takes f g lasts)
+
 module _ (e : Exporters) where
   -- ---- what has an index
 
@@ -59,13 +88,13 @@ module _ (e : Exporters) where
   abbrev pub IsPassAt : ℕ → ExporterPass → Type 0
   IsPassAt i lent = (t : ExporterThing) → get_elem? (things_of e) i ≡ some t → IsPassOf t.fixed lent
 
-  -- a pass was lent of what has an index
-  abbrev pub LentAt : ℕ → ExporterPass → Type 0
-  LentAt i lent = (t : ExporterThing) → get_elem? (things_of e) i ≡ some t → IsPassOf t.fixed lent × (pass_known lent ≡ child t.root)
+  -- a pass was lent of a thing, and one more is out
+  abbrev pub LentOf : ℕ → ExporterPass → Exporters → ExporterThing → Type 0
+  LentOf i lent new t = (u : ExporterThing) × (u.root ≡ lender t.root) × Lasts t.fixed u.fixed × IsPassOf u.fixed lent × (pass_known lent ≡ child t.root) × (things_of new ≡ set (things_of e) i u)
 
-  -- and one more is out
-  abbrev pub OutAt : ℕ → Exporters → Type 0
-  OutAt i new = (t : ExporterThing) → get_elem? (things_of e) i ≡ some t → things_of new ≡ set (things_of e) i (record t { root = lender t.root })
+  -- the same of what has an index
+  abbrev pub LentAt : ℕ → ExporterPass → Exporters → Type 0
+  LentAt i lent new = (t : ExporterThing) → get_elem? (things_of e) i ≡ some t → LentOf i lent new t
 
   -- a pass was taken back of what has an index
   abbrev pub TakenAt : ℕ → ExporterPass → Exporters → Type 0
@@ -130,30 +159,35 @@ module _ (e : Exporters) where
 
     -- ---- lending
 
-    pub dogstatsd_lent : (i : ℕ) (lent : DogStatsDPass) → i < first
-        → ((t : DogStatsDThing) → get_elem? (dogstatsd_things e) i ≡ some t → D.IsPassOf t.fixed lent × (D.pass_known lent ≡ child t.root)) → LentAt i (passes.DogStatsD lent)
-    dogstatsd_lent i lent below own =
-        dogstatsd_all (λ t. IsPassOf t.fixed (passes.DogStatsD lent) × (pass_known (passes.DogStatsD lent) ≡ child t.root)) i below
-        (λ t at. ((own t at).0, ap (mapped_view entries.DogStatsD) (own t at).1))
+    pub dogstatsd_lent : (i : ℕ) (lent : DogStatsDPass) (d : DogStatsDExporter) → i < first
+        → ((t : DogStatsDThing) → get_elem? (dogstatsd_things e) i ≡ some t
+        → (u : DogStatsDThing) × (u.root ≡ lender t.root) × D.Lasts t.fixed u.fixed × D.IsPassOf u.fixed lent × (D.pass_known lent ≡ child t.root) × (D.things_of d ≡ set (dogstatsd_things e) i u))
+        → LentAt i (passes.DogStatsD lent) (record e { dogstatsd = d })
+    dogstatsd_lent i lent d below own =
+        dogstatsd_all (LentOf i (passes.DogStatsD lent) (record e { dogstatsd = d })) i below
+        (λ t at. let u = own t at in (
+          dogstatsd_thing u.0,
+          ap (mapped_view entries.DogStatsD) u.1,
+          dogstatsd_lasts t.fixed u.0.fixed u.2,
+          u.3,
+          ap (mapped_view entries.DogStatsD) u.4,
+          dogstatsd_put d i u.0 below u.5,
+        ))
 
-    pub dogstatsd_out : (i : ℕ) (d : DogStatsDExporter) → i < first
-        → ((t : DogStatsDThing) → get_elem? (dogstatsd_things e) i ≡ some t → D.things_of d ≡ set (dogstatsd_things e) i (record t { root = lender t.root })) → OutAt i (record e { dogstatsd = d })
-    dogstatsd_out i d below own =
-        dogstatsd_all (λ t. things_of (record e { dogstatsd = d }) ≡ set (things_of e) i (record t { root = lender t.root })) i below
-        (λ t at. dogstatsd_put d i (record t { root = lender t.root }) below (own t at))
-
-    pub prometheus_lent : (i : ℕ) (lent : PrometheusPass) → first ≤ i → i < length (things_of e)
-        → ((t : PrometheusThing) → get_elem? (prometheus_things e) (i - first) ≡ some t → P.IsPassOf t.fixed lent × (P.pass_known lent ≡ child t.root)) → LentAt i (passes.Prometheus lent)
-    prometheus_lent i lent past below own =
-        prometheus_all (λ t. IsPassOf t.fixed (passes.Prometheus lent) × (pass_known (passes.Prometheus lent) ≡ child t.root)) i past below
-        (λ t at. ((own t at).0, ap (mapped_view entries.Prometheus) (own t at).1))
-
-    pub prometheus_out : (i : ℕ) (p : PrometheusExporter) → first ≤ i → i < length (things_of e)
-        → ((t : PrometheusThing) → get_elem? (prometheus_things e) (i - first) ≡ some t → P.things_of p ≡ set (prometheus_things e) (i - first) (record t { root = lender t.root }))
-        → OutAt i (record e { prometheus = p })
-    prometheus_out i p past below own =
-        prometheus_all (λ t. things_of (record e { prometheus = p }) ≡ set (things_of e) i (record t { root = lender t.root })) i past below
-        (λ t at. prometheus_put p i (record t { root = lender t.root }) past (own t at))
+    pub prometheus_lent : (i : ℕ) (lent : PrometheusPass) (p : PrometheusExporter) → first ≤ i → i < length (things_of e)
+        → ((t : PrometheusThing) → get_elem? (prometheus_things e) (i - first) ≡ some t
+        → (u : PrometheusThing) × (u.root ≡ lender t.root) × P.Lasts t.fixed u.fixed × P.IsPassOf u.fixed lent × (P.pass_known lent ≡ child t.root) × (P.things_of p ≡ set (prometheus_things e) (i - first) u))
+        → LentAt i (passes.Prometheus lent) (record e { prometheus = p })
+    prometheus_lent i lent p past below own =
+        prometheus_all (LentOf i (passes.Prometheus lent) (record e { prometheus = p })) i past below
+        (λ t at. let u = own t at in (
+          prometheus_thing u.0,
+          ap (mapped_view entries.Prometheus) u.1,
+          prometheus_lasts t.fixed u.0.fixed u.2,
+          u.3,
+          ap (mapped_view entries.Prometheus) u.4,
+          prometheus_put p i u.0 past u.5,
+        ))
 
     -- ---- taking back
 

@@ -79,6 +79,22 @@ TakesCall (cells.DogStatsD cell) (calls.DogStatsD call) = D.TakesCall cell call
 TakesCall (cells.Prometheus _) (calls.DogStatsD _) = ⊥
 TakesCall (cells.DogStatsD _) (calls.Prometheus _) = ⊥
 
+-- what was a pass of a cell stays one, and what it took it takes
+abbrev pub Lasts : ExporterCell → ExporterCell → Type 0
+Lasts f g = ((lent : ExporterPass) → IsPassOf f lent → IsPassOf g lent) × ((call : ExporterCall) → TakesCall f call → TakesCall g call)
+
+pub lasts_on : (f : ExporterCell) → Lasts f f
+lasts_on f = (λ lent is. is, λ call takes. takes)
+
+pub lasts_then : (f g h : ExporterCell) → Lasts f g → Lasts g h → Lasts f h
+lasts_then f g h first more = (λ lent is. more.0 lent (first.0 lent is), λ call takes. more.1 call (first.1 call takes))
+
+pub owns_on : (f g : ExporterCell) (lent : ExporterPass) → Lasts f g → IsPassOf f lent → IsPassOf g lent
+owns_on f g lent lasts is = lasts.0 lent is
+
+pub takes_on : (f g : ExporterCell) (call : ExporterCall) → Lasts f g → TakesCall f call → TakesCall g call
+takes_on f g call lasts takes = lasts.1 call takes
+
 -- what stands in the history for a call: what stands there for it with its exporter
 abbrev pub entries_made : ExporterCall → List ExporterEntry
 entries_made (calls.Prometheus call) = map entries.Prometheus (P.entries_made call)

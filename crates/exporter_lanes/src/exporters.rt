@@ -50,7 +50,7 @@ pub enum ExporterEntry {
 }
 
 impl Lenders for Exporters {
-    ghost use Rattle.exporter_lanes.specs.ExporterLanes.{things_of, frame_of, pass_known, IsPassOf, TakesCall, StandsAsEntries};
+    ghost use Rattle.exporter_lanes.specs.ExporterLanes.{things_of, frame_of, pass_known, IsPassOf, Lasts, TakesCall, StandsAsEntries, lasts_on, lasts_then, owns_on, takes_on};
 
     type Frame = Exporters;
 
@@ -69,6 +69,16 @@ impl Lenders for Exporters {
     type Call = ExporterCall;
 
     ghost takes = { TakesCall };
+
+    ghost lasts = { Lasts };
+
+    ghost lasts_on = { lasts_on };
+
+    ghost lasts_then = { lasts_then };
+
+    ghost owns_on = { owns_on };
+
+    ghost takes_on = { takes_on };
 
     type Entry = ExporterEntry;
 

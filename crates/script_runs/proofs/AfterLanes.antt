@@ -402,13 +402,13 @@ module _ (moment : ℕ) (e f : Exporter) (handles : List SeriesId) (lines : List
       more_gauges : length f.series.gauges ≡ length e.series.gauges
       more_gauges = sym (length-map f.series.gauges unseen) ∙ ap (λ (x : Exporter). length x.series.gauges) frame ∙ length-map e.series.gauges unseen
 
-      counter_grew : (i : ℕ) (s t : LiveSeries (Shared PromCounter)) → get_elem? e.series.counters i ≡ some s → get_elem? f.series.counters i ≡ some t → GrewAt value_shows kinds.Counter (ids_of e) handles lines moment i s t
+      counter_grew : (i : ℕ) (s t : LiveSeries (Shared (Option PromCounter))) → get_elem? e.series.counters i ≡ some s → get_elem? f.series.counters i ≡ some t → GrewAt value_shows kinds.Counter (ids_of e) handles lines moment i s t
       counter_grew i s t at at' =
           let values = λ (l : ℕ). as_values (asked_at i l) (each_at moment IsValue kinds.Counter (counter_value moment) (ids_of e) handles i l s.id (counter_id e i s at) (rest.counters i s at).kind_is lines fits some_are) in
           let grown = grew_at entries.Value i (counter_thing s) (counter_thing t) values (grew i (counter_thing s) (counter_thing t) (counter_at e i s at) (counter_at f i t at')) in
           value_grew moment (ids_of e) handles lines i kinds.Counter s t grown.0 grown.1 grown.2
 
-      gauge_grew : (k : ℕ) (s t : LiveSeries (Shared PromGauge)) → get_elem? e.series.gauges k ≡ some s → get_elem? f.series.gauges k ≡ some t → GrewAt value_shows kinds.Gauge (ids_of e) handles lines moment (length e.series.counters + k) s t
+      gauge_grew : (k : ℕ) (s t : LiveSeries (Shared (Option PromGauge))) → get_elem? e.series.gauges k ≡ some s → get_elem? f.series.gauges k ≡ some t → GrewAt value_shows kinds.Gauge (ids_of e) handles lines moment (length e.series.counters + k) s t
       gauge_grew k s t at at' =
           let i = length e.series.counters + k in
           let values = λ (l : ℕ). as_values (asked_at i l) (each_at moment IsValue kinds.Gauge (gauge_value moment) (ids_of e) handles i l s.id (gauge_id e k s at) (rest.gauges k s at).kind_is lines fits some_are) in

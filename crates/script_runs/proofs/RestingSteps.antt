@@ -65,28 +65,28 @@ abbrev SeriesThing : Type 0
 SeriesThing = Thing SeriesEntry SeriesCell
 
 module _ (e : Exporter) where
-  abbrev counters : List (LiveSeries (Shared PromCounter))
+  abbrev counters : List (LiveSeries (Shared (Option PromCounter)))
   counters = e.series.counters
 
-  abbrev gauges : List (LiveSeries (Shared PromGauge))
+  abbrev gauges : List (LiveSeries (Shared (Option PromGauge)))
   gauges = e.series.gauges
 
   abbrev histograms : List (LiveSeries Sampled)
   histograms = e.series.histograms
 
-  pub counter_at : (i : ℕ) (s : LiveSeries (Shared PromCounter)) → get_elem? counters i ≡ some s → get_elem? (things_of e) i ≡ some (counter_thing s)
+  pub counter_at : (i : ℕ) (s : LiveSeries (Shared (Option PromCounter))) → get_elem? counters i ≡ some s → get_elem? (things_of e) i ≡ some (counter_thing s)
   counter_at = first_at counter_thing counters (map gauge_thing gauges ++ map histogram_thing histograms)
 
-  pub gauge_at : (k : ℕ) (s : LiveSeries (Shared PromGauge)) → get_elem? gauges k ≡ some s → get_elem? (things_of e) (length counters + k) ≡ some (gauge_thing s)
+  pub gauge_at : (k : ℕ) (s : LiveSeries (Shared (Option PromGauge))) → get_elem? gauges k ≡ some s → get_elem? (things_of e) (length counters + k) ≡ some (gauge_thing s)
   gauge_at = next_at counter_thing gauge_thing counters gauges (map histogram_thing histograms)
 
   pub histogram_at : (k : ℕ) (s : LiveSeries Sampled) → get_elem? histograms k ≡ some s → get_elem? (things_of e) (length counters + (length gauges + k)) ≡ some (histogram_thing s)
   histogram_at = last_at counter_thing gauge_thing histogram_thing counters gauges histograms
 
-  pub counter_id : (i : ℕ) (s : LiveSeries (Shared PromCounter)) → get_elem? counters i ≡ some s → get_elem? (ids_of e) i ≡ some s.id
+  pub counter_id : (i : ℕ) (s : LiveSeries (Shared (Option PromCounter))) → get_elem? counters i ≡ some s → get_elem? (ids_of e) i ≡ some s.id
   counter_id = first_at its_id counters (map its_id gauges ++ map its_id histograms)
 
-  pub gauge_id : (k : ℕ) (s : LiveSeries (Shared PromGauge)) → get_elem? gauges k ≡ some s → get_elem? (ids_of e) (length counters + k) ≡ some s.id
+  pub gauge_id : (k : ℕ) (s : LiveSeries (Shared (Option PromGauge))) → get_elem? gauges k ≡ some s → get_elem? (ids_of e) (length counters + k) ≡ some s.id
   gauge_id = next_at its_id its_id counters gauges (map its_id histograms)
 
   pub histogram_id : (k : ℕ) (s : LiveSeries Sampled) → get_elem? histograms k ≡ some s → get_elem? (ids_of e) (length counters + (length gauges + k)) ≡ some s.id
@@ -94,10 +94,10 @@ module _ (e : Exporter) where
 
   -- a counter under its index, a gauge, or a histogram
   abbrev CounterAt : ℕ → SeriesThing → Type 0
-  CounterAt j t = (s : LiveSeries (Shared PromCounter)) × (get_elem? counters j ≡ some s) × (counter_thing s ≡ t)
+  CounterAt j t = (s : LiveSeries (Shared (Option PromCounter))) × (get_elem? counters j ≡ some s) × (counter_thing s ≡ t)
 
   abbrev GaugeAt : ℕ → SeriesThing → Type 0
-  GaugeAt j t = (k : ℕ) × (j ≡ length counters + k) × ((s : LiveSeries (Shared PromGauge)) × (get_elem? gauges k ≡ some s) × (gauge_thing s ≡ t))
+  GaugeAt j t = (k : ℕ) × (j ≡ length counters + k) × ((s : LiveSeries (Shared (Option PromGauge))) × (get_elem? gauges k ≡ some s) × (gauge_thing s ≡ t))
 
   abbrev HistogramAt : ℕ → SeriesThing → Type 0
   HistogramAt j t = (k : ℕ) × (j ≡ length counters + (length gauges + k)) × ((s : LiveSeries Sampled) × (get_elem? histograms k ≡ some s) × (histogram_thing s ≡ t))
@@ -117,8 +117,8 @@ module _ (e : Exporter) where
       inr (behind_counters back.0 t back.2 j (back.1 ∙ ap (λ n. n + back.0) (length-map counters counter_thing))))
       (front_or_behind (map counter_thing counters) (map gauge_thing gauges ++ map histogram_thing histograms) j t at)
 
-  module _ (P : SeriesThing → Type 0) (of_counter : (i : ℕ) (s : LiveSeries (Shared PromCounter)) → get_elem? counters i ≡ some s → P (counter_thing s))
-      (of_gauge : (i : ℕ) (s : LiveSeries (Shared PromGauge)) → get_elem? gauges i ≡ some s → P (gauge_thing s))
+  module _ (P : SeriesThing → Type 0) (of_counter : (i : ℕ) (s : LiveSeries (Shared (Option PromCounter))) → get_elem? counters i ≡ some s → P (counter_thing s))
+      (of_gauge : (i : ℕ) (s : LiveSeries (Shared (Option PromGauge))) → get_elem? gauges i ≡ some s → P (gauge_thing s))
       (of_histogram : (i : ℕ) (s : LiveSeries Sampled) → get_elem? histograms i ≡ some s → P (histogram_thing s)) where
     each_thing : (j : ℕ) (t : SeriesThing) → get_elem? (things_of e) j ≡ some t → P t
     each_thing j t at = ⊎_elim (λ (c : CounterAt j t). subst P c.2 (of_counter j c.0 c.1))
@@ -135,7 +135,7 @@ module _ (e : Exporter) where
       (λ i s at. ((rest.gauges i s at).home.1, settled-mapped entries.Value s.cell.root (rest.gauges i s at).settled))
       (λ i s at. ((rest.histograms i s at).home.1, settled-mapped entries.Queue s.cell.series.root (rest.histograms i s at).settled))
 
-  takes_counter : (cell : PromCounter) (call : SeriesCall) → kinds.Counter ≡ kind_asked call → TakesCall (cells.Counter cell) call
+  takes_counter : (cell : Option PromCounter) (call : SeriesCall) → kinds.Counter ≡ kind_asked call → TakesCall (cells.Counter cell) call
   takes_counter cell (calls.Increment n) is = tt
   takes_counter cell (calls.Absolute n) is = tt
   takes_counter cell (calls.Add v) is = absurd (counter≢gauge is)
@@ -143,7 +143,7 @@ module _ (e : Exporter) where
   takes_counter cell (calls.Set v) is = absurd (counter≢gauge is)
   takes_counter cell (calls.Record v moment count) is = absurd (counter≢histogram is)
 
-  takes_gauge : (cell : PromGauge) (call : SeriesCall) → kinds.Gauge ≡ kind_asked call → TakesCall (cells.Gauge cell) call
+  takes_gauge : (cell : Option PromGauge) (call : SeriesCall) → kinds.Gauge ≡ kind_asked call → TakesCall (cells.Gauge cell) call
   takes_gauge cell (calls.Increment n) is = absurd (counter≢gauge (sym is))
   takes_gauge cell (calls.Absolute n) is = absurd (counter≢gauge (sym is))
   takes_gauge cell (calls.Add v) is = tt
@@ -203,7 +203,7 @@ rest_after e f frame roots settled rest = record {
       let before = left_at unseen e.series.counters f.series.counters (ap (λ (x : Exporter). x.series.counters) frame) i t at in
       let here = counter_at f i t at in
       record {
-        kind_is = ap (λ (s : LiveSeries (Shared PromCounter)). s.id.kind) (sym before.2) ∙ (rest.counters i before.0 before.1).kind_is;
+        kind_is = ap (λ (s : LiveSeries (Shared (Option PromCounter))). s.id.kind) (sym before.2) ∙ (rest.counters i before.0 before.1).kind_is;
         home = (roots i (counter_thing t) here, (settled i (counter_thing t) here).0);
         settled = settled-back entries.Value value_once t.cell.root (settled i (counter_thing t) here).1;
       };
@@ -211,7 +211,7 @@ rest_after e f frame roots settled rest = record {
       let before = left_at unseen e.series.gauges f.series.gauges (ap (λ (x : Exporter). x.series.gauges) frame) i t at in
       let here = gauge_at f i t at in
       record {
-        kind_is = ap (λ (s : LiveSeries (Shared PromGauge)). s.id.kind) (sym before.2) ∙ (rest.gauges i before.0 before.1).kind_is;
+        kind_is = ap (λ (s : LiveSeries (Shared (Option PromGauge))). s.id.kind) (sym before.2) ∙ (rest.gauges i before.0 before.1).kind_is;
         home = (roots _ (gauge_thing t) here, (settled _ (gauge_thing t) here).0);
         settled = settled-back entries.Value value_once t.cell.root (settled _ (gauge_thing t) here).1;
       };

@@ -22,6 +22,6 @@ returns-clause-lent c =
       c.in-Some.counter.now,
       c.lend_pass.new.self,
       sym c.in-Some.ensures.value,
-      (record { id_is = refl; handle = c.in_ok-handle.ensures.lent.0; pass = c.in_ok-handle.ensures.lent.1; knows = c.in_ok-handle.ensures.lent.2 }, (λ j. record { root = c.in_ok-handle.ensures.root j; fixed = c.in_ok-handle.ensures.cell j })),
+      (record { id_is = refl; cell = c.in_ok-handle.ensures.lent.0; pass = c.in_ok-handle.ensures.lent.1; knows = c.in_ok-handle.ensures.lent.2 }, c.in_ok-handle.ensures.lent.3),
       refl,
     )

@@ -1,5 +1,5 @@
 use Rattle.exporter_lanes.specs.ExporterLanes.{dogstatsd_thing, prometheus_thing}
-use Rattle.exporter_lanes.proofs.Things.{dogstatsd_at, dogstatsd_lent, dogstatsd_out, prometheus_here, prometheus_lent, prometheus_out}
+use Rattle.exporter_lanes.proofs.Things.{dogstatsd_at, dogstatsd_lent, prometheus_here, prometheus_lent}
 use Rattle.exporter_lanes.proofs.exporters.ExportersLenders.lend.Goals as goal
 
 pub lend-requires-clause-root : goal.lend-requires-clause-root
@@ -11,16 +11,8 @@ lend-requires-else-index-first-clause-root c =
 
 pub returns-in_ok-lent-clause-lent : goal.returns-in_ok-lent-clause-lent
 returns-in_ok-lent-clause-lent c =
-    dogstatsd_lent c.args.self.now c.series_count-first.result c.series_count-first.ensures.count c.args.index c.in_ok-lent.lent c.if-index-first.true c.in_ok-lent.ensures.lent
-
-pub returns-in_ok-lent-clause-out : goal.returns-in_ok-lent-clause-out
-returns-in_ok-lent-clause-out c =
-    dogstatsd_out c.args.self.now c.series_count-first.result c.series_count-first.ensures.count c.args.index c.lend.new.self c.if-index-first.true c.in_ok-lent.ensures.out
+    dogstatsd_lent c.args.self.now c.series_count-first.result c.series_count-first.ensures.count c.args.index c.in_ok-lent.lent c.lend.new.self c.if-index-first.true c.in_ok-lent.ensures.lent
 
 pub returns-in_ok-lent-2-clause-lent : goal.returns-in_ok-lent-2-clause-lent
 returns-in_ok-lent-2-clause-lent c =
-    prometheus_lent c.args.self.now c.series_count-first.result c.series_count-first.ensures.count c.args.index c.in_ok-lent-2.lent c.if-index-first.false c.requires.here c.in_ok-lent-2.ensures.lent
-
-pub returns-in_ok-lent-2-clause-out : goal.returns-in_ok-lent-2-clause-out
-returns-in_ok-lent-2-clause-out c =
-    prometheus_out c.args.self.now c.series_count-first.result c.series_count-first.ensures.count c.args.index c.lend-else-index-first.new.self c.if-index-first.false c.requires.here c.in_ok-lent-2.ensures.out
+    prometheus_lent c.args.self.now c.series_count-first.result c.series_count-first.ensures.count c.args.index c.in_ok-lent-2.lent c.lend-else-index-first.new.self c.if-index-first.false c.requires.here c.in_ok-lent-2.ensures.lent
