@@ -1,5 +1,5 @@
 -- What is handed out of a series that was registered, and what is held of it.
-use Rattle.std.proofs.Common.{◌≡◌, ◌⊎◌, sym, subst, ◌∙◌, inl, inr}
+use Rattle.std.proofs.Common.{◌≡◌, ◌⊎◌, sym, subst, inl, inr}
 use Rattle.std.specs.Prelude.{Some, None, Result, Ok, Err, IfOk, OnErr}
 use Rattle.std.specs.Arc.{arc_value}
 use Rattle.metrics_core.specs.declared.kinds.SeriesId.{SeriesId}
