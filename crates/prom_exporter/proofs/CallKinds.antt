@@ -1,5 +1,5 @@
 -- A call of the kind of the cell that it is on stands in the history as its entries.
-use Rattle.std.proofs.Common.{◌≡◌, ℕ, List, [], ◌∷◌, map, refl, ap, ◌∙◌}
+use Rattle.std.proofs.Common.{◌≡◌, ℕ, List, [], ◌∷◌, map, Option, refl, ap, ◌∙◌}
 use Rattle.legal_history.specs.declared.history.View.{View}
 use Rattle.legal_history.specs.Mapped.{mapped_view}
 use Rattle.cell_lanes.specs.Calls.{Made}
@@ -21,7 +21,7 @@ use Rattle.prom_exporter.specs.declared.lanes.SeriesEntry.{SeriesEntry}
 use Rattle.prom_exporter.specs.declared.lanes.SeriesEntry.TheVariants as entry
 use Rattle.prom_exporter.specs.LanePasses.{IsPassOf, TakesCall, StandsAsEntries, entries_made, pushes_asked}
 
-pub counter_entries : (cell : PromCounter) (call : SeriesCall) → TakesCall (cells.Counter cell) call → map entry.Value (as_counter call) ≡ entries_made call
+pub counter_entries : (cell : Option PromCounter) (call : SeriesCall) → TakesCall (cells.Counter cell) call → map entry.Value (as_counter call) ≡ entries_made call
 counter_entries cell (calls.Increment n) takes = refl
 counter_entries cell (calls.Absolute n) takes = refl
 counter_entries cell (calls.Add v) takes = absurd takes
@@ -29,7 +29,7 @@ counter_entries cell (calls.Subtract v) takes = absurd takes
 counter_entries cell (calls.Set v) takes = absurd takes
 counter_entries cell (calls.Record v moment count) takes = absurd takes
 
-pub gauge_entries : (cell : PromGauge) (call : SeriesCall) → TakesCall (cells.Gauge cell) call → map entry.Value (as_gauge call) ≡ entries_made call
+pub gauge_entries : (cell : Option PromGauge) (call : SeriesCall) → TakesCall (cells.Gauge cell) call → map entry.Value (as_gauge call) ≡ entries_made call
 gauge_entries cell (calls.Increment n) takes = absurd takes
 gauge_entries cell (calls.Absolute n) takes = absurd takes
 gauge_entries cell (calls.Add v) takes = refl

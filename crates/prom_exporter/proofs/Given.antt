@@ -1,5 +1,5 @@
 -- What is given and left where a key is registered: of a counter or of a gauge, and of each kind where no series has it.
-use Rattle.std.proofs.Common.{◌≡◌, ◌≢◌, ◌+◌, map, None, sym, ap, subst, ◌∙◌, inl, inr}
+use Rattle.std.proofs.Common.{◌≡◌, ◌≢◌, ◌+◌, map, Option, None, sym, ap, subst, ◌∙◌, inl, inr}
 use Rattle.std.specs.Prelude.{◌⊎◌}
 use Rattle.std.proofs.lemmas.List.{map_push}
 use Rattle.metrics_core.specs.declared.kinds.MetricKind.{MetricKind}
@@ -10,9 +10,9 @@ use Rattle.metrics_registry.specs.Live.{LiveSeries, IsNumbered, id_of_key, Regis
 use Rattle.metric_descriptions.specs.Descriptions.{DescribedText}
 use Rattle.series_cells.specs.declared.counter.PromCounter.{PromCounter}
 use Rattle.series_cells.specs.declared.gauge.PromGauge.{PromGauge}
-use Rattle.prom_exporter.specs.Shared.{Shared, unused}
+use Rattle.prom_exporter.specs.Shared.{unmade, unused}
 use Rattle.prom_exporter.specs.State.{live_series, no_series, number_given, register}
-use Rattle.prom_exporter.specs.Exporter.{AddsCounter, AddsGauge, AllHome, Cells, Exporter, with_said}
+use Rattle.prom_exporter.specs.Exporter.{AddsCounter, AddsGauge, AllHome, Cells, Exporter, with_said, SharedCounter, SharedGauge}
 use Rattle.prom_exporter.specs.Values.{series_of, seen_series, seen_registry, state_of, state_seen}
 use Rattle.prom_exporter.specs.Sampled.{calls_known}
 use Rattle.prom_exporter.proofs.Home.{adds_counter-home, adds_gauge-home}
@@ -36,9 +36,9 @@ given_id kind key series = record { kind = kind; number = number_given kind key 
 pub record GivenCounter (key : KeyText) (id : SeriesId) (said : DescribedText) (series after : Cells) : Type 0 where
   pub id_is : id ≡ given_id Counter key series
   pub registered : with_said said (state_seen after) ≡ register Counter key (with_said said (state_seen series))
-  pub cells : (after ≡ series) ⊎ ((cell : PromCounter) × (after ≡ with_counter series key (unused cell)))
+  pub cells : (after ≡ series) ⊎ ((cell : Option PromCounter) × (after ≡ with_counter series key (unused cell)))
 
-pub counter_given : (IsMade : Shared PromCounter → Type 0) (key : KeyText) (id : SeriesId) (said : DescribedText) (series after : Cells) → ((cell : Shared PromCounter) → IsMade cell → cell ≡ unused cell.cell)
+pub counter_given : (IsMade : SharedCounter → Type 0) (key : KeyText) (id : SeriesId) (said : DescribedText) (series after : Cells) → ((cell : SharedCounter) → IsMade cell → cell ≡ unmade)
     → series.made ≢ no_series → IsNumbered series → RegistersCounter IsMade key id series after → GivenCounter key id said series after
 counter_given IsMade key id said series after fresh room numbered (inl (found, same)) =
     let there = id_of_key-seen key series.counters ∙ found in
@@ -49,20 +49,20 @@ counter_given IsMade key id said series after fresh room numbered (inl (found, s
     }
 counter_given IsMade key id said series after fresh room numbered (inr (none, is, (cell, made, added))) =
     let none_there = id_of_key-seen key series.counters ∙ none in
-    let new : LiveSeries (Shared PromCounter) = record { id = record { kind = Counter; number = series.made }; key = key; cell = unused cell.cell } in
-    let grown : after ≡ with_counter series key (unused cell.cell) = added ∙ ap (with_counter series key) (fresh cell made) in
+    let new : LiveSeries SharedCounter = record { id = record { kind = Counter; number = series.made }; key = key; cell = unmade } in
+    let grown : after ≡ with_counter series key unmade = added ∙ ap (with_counter series key) (fresh cell made) in
     let pushed = ap (λ l. record (state_seen series) { counters = l; made = series.made + 1 }) (ap (map series_of) (map_push seen_series series.counters new) ∙ map_push series_of (map seen_series series.counters) (seen_series new)) in
     record {
       id_is = is ∙ ap (λ n. record { kind = Counter; number = n }) (sym (number-new Counter key (seen_registry calls_known series) none_there));
       registered = registered_said Counter key said (state_seen series) (state_seen after)
           (ap state_seen grown ∙ pushed ∙ sym (register-new Counter key (seen_registry calls_known series) none_there room));
-      cells = inr (cell.cell, grown);
+      cells = inr (None, grown);
     }
 
 pub counter_adds : (key : KeyText) (id : SeriesId) (said : DescribedText) (old : Exporter) (after : Cells) → GivenCounter key id said old.series after → (record old { series = after } ≡ old) ⊎ AddsCounter key old (record old { series = after })
 counter_adds key id said old after given = by given.cells
   where
-    by : (after ≡ old.series) ⊎ ((cell : PromCounter) × (after ≡ with_counter old.series key (unused cell))) → (record old { series = after } ≡ old) ⊎ AddsCounter key old (record old { series = after })
+    by : (after ≡ old.series) ⊎ ((cell : Option PromCounter) × (after ≡ with_counter old.series key (unused cell))) → (record old { series = after } ≡ old) ⊎ AddsCounter key old (record old { series = after })
     by (inl same) = inl (ap (λ (cells : Cells). record old { series = cells }) same)
     by (inr (cell, new)) = inr (cell, ap (λ (cells : Cells). record old { series = cells }) new)
 
@@ -77,9 +77,9 @@ counter_home key id said old after given home = by (counter_adds key id said old
 pub record GivenGauge (key : KeyText) (id : SeriesId) (said : DescribedText) (series after : Cells) : Type 0 where
   pub id_is : id ≡ given_id Gauge key series
   pub registered : with_said said (state_seen after) ≡ register Gauge key (with_said said (state_seen series))
-  pub cells : (after ≡ series) ⊎ ((cell : PromGauge) × (after ≡ with_gauge series key (unused cell)))
+  pub cells : (after ≡ series) ⊎ ((cell : Option PromGauge) × (after ≡ with_gauge series key (unused cell)))
 
-pub gauge_given : (IsMade : Shared PromGauge → Type 0) (key : KeyText) (id : SeriesId) (said : DescribedText) (series after : Cells) → ((cell : Shared PromGauge) → IsMade cell → cell ≡ unused cell.cell)
+pub gauge_given : (IsMade : SharedGauge → Type 0) (key : KeyText) (id : SeriesId) (said : DescribedText) (series after : Cells) → ((cell : SharedGauge) → IsMade cell → cell ≡ unmade)
     → series.made ≢ no_series → IsNumbered series → RegistersGauge IsMade key id series after → GivenGauge key id said series after
 gauge_given IsMade key id said series after fresh room numbered (inl (found, same)) =
     let there = id_of_key-seen key series.gauges ∙ found in
@@ -90,20 +90,20 @@ gauge_given IsMade key id said series after fresh room numbered (inl (found, sam
     }
 gauge_given IsMade key id said series after fresh room numbered (inr (none, is, (cell, made, added))) =
     let none_there = id_of_key-seen key series.gauges ∙ none in
-    let new : LiveSeries (Shared PromGauge) = record { id = record { kind = Gauge; number = series.made }; key = key; cell = unused cell.cell } in
-    let grown : after ≡ with_gauge series key (unused cell.cell) = added ∙ ap (with_gauge series key) (fresh cell made) in
+    let new : LiveSeries SharedGauge = record { id = record { kind = Gauge; number = series.made }; key = key; cell = unmade } in
+    let grown : after ≡ with_gauge series key unmade = added ∙ ap (with_gauge series key) (fresh cell made) in
     let pushed = ap (λ l. record (state_seen series) { gauges = l; made = series.made + 1 }) (ap (map series_of) (map_push seen_series series.gauges new) ∙ map_push series_of (map seen_series series.gauges) (seen_series new)) in
     record {
       id_is = is ∙ ap (λ n. record { kind = Gauge; number = n }) (sym (number-new Gauge key (seen_registry calls_known series) none_there));
       registered = registered_said Gauge key said (state_seen series) (state_seen after)
           (ap state_seen grown ∙ pushed ∙ sym (register-new Gauge key (seen_registry calls_known series) none_there room));
-      cells = inr (cell.cell, grown);
+      cells = inr (None, grown);
     }
 
 pub gauge_adds : (key : KeyText) (id : SeriesId) (said : DescribedText) (old : Exporter) (after : Cells) → GivenGauge key id said old.series after → (record old { series = after } ≡ old) ⊎ AddsGauge key old (record old { series = after })
 gauge_adds key id said old after given = by given.cells
   where
-    by : (after ≡ old.series) ⊎ ((cell : PromGauge) × (after ≡ with_gauge old.series key (unused cell))) → (record old { series = after } ≡ old) ⊎ AddsGauge key old (record old { series = after })
+    by : (after ≡ old.series) ⊎ ((cell : Option PromGauge) × (after ≡ with_gauge old.series key (unused cell))) → (record old { series = after } ≡ old) ⊎ AddsGauge key old (record old { series = after })
     by (inl same) = inl (ap (λ (cells : Cells). record old { series = cells }) same)
     by (inr (cell, new)) = inr (cell, ap (λ (cells : Cells). record old { series = cells }) new)
 

@@ -20,7 +20,7 @@ use Rattle.prom_exporter.specs.Sampled.{Sampled, IsAtRest, unsampled}
 use Rattle.series_cells.specs.declared.counter.PromCounter.{PromCounter}
 use Rattle.series_cells.specs.declared.gauge.PromGauge.{PromGauge}
 use Rattle.std.proofs.Common.{◌+◌}
-use Rattle.prom_exporter.specs.Exporter.{Cells, Exporter, AllHome, AddsCounter, AddsGauge, AddsHistogram}
+use Rattle.prom_exporter.specs.Exporter.{Cells, Exporter, AllHome, AddsCounter, AddsGauge, AddsHistogram, SharedCounter, SharedGauge}
 
 among_last : (h : Held SeriesCall) (hs : List (Held SeriesCall)) → Among h (hs ++ h ∷ [])
 among_last h [] = inl refl
@@ -64,7 +64,7 @@ adds_histogram-home key old new adds home =
     )
 
 -- a counter that was made went last
-pub counter_added : (exporter : Exporter) (settings : ExporterSettings) (series : Cells) (said : DescribedText) (after : Cells) (key copied : KeyText) (id : SeriesId) (cell : Shared PromCounter)
+pub counter_added : (exporter : Exporter) (settings : ExporterSettings) (series : Cells) (said : DescribedText) (after : Cells) (key copied : KeyText) (id : SeriesId) (cell : SharedCounter)
     → record { settings = settings; series = series; said = said } ≡ exporter
     → after ≡ record series { counters = series.counters ++ record { id = id; key = copied; cell = cell } ∷ []; made = series.made + 1 }
     → id ≡ record { kind = Counter; number = series.made } → copied ≡ key → cell ≡ unused cell.cell
@@ -77,7 +77,7 @@ counter_added exporter settings series said after key copied id cell is added nu
     )
 
 -- a gauge that was made went last
-pub gauge_added : (exporter : Exporter) (settings : ExporterSettings) (series : Cells) (said : DescribedText) (after : Cells) (key copied : KeyText) (id : SeriesId) (cell : Shared PromGauge)
+pub gauge_added : (exporter : Exporter) (settings : ExporterSettings) (series : Cells) (said : DescribedText) (after : Cells) (key copied : KeyText) (id : SeriesId) (cell : SharedGauge)
     → record { settings = settings; series = series; said = said } ≡ exporter
     → after ≡ record series { gauges = series.gauges ++ record { id = id; key = copied; cell = cell } ∷ []; made = series.made + 1 }
     → id ≡ record { kind = Gauge; number = series.made } → copied ≡ key → cell ≡ unused cell.cell

@@ -15,7 +15,7 @@ use Rattle.prom_exporter.specs.Rows.{RowsText, rows_of, keys_of}
 use Rattle.prom_exporter.specs.Shared.{Shared}
 use Rattle.prom_exporter.specs.Sampled.{Sampled}
 use Rattle.prom_exporter.specs.Kept.{KeepsFirst, HaveKinds, IsKept}
-use Rattle.prom_exporter.specs.Exporter.{Cells}
+use Rattle.prom_exporter.specs.Exporter.{Cells, SharedCounter, SharedGauge}
 
 module _ {X : Type 0} where
   keys_stay : (live : List (LiveSeries X)) (place : ℕ) (cell : X) → keys_of (with_cell_at live place cell) ≡ keys_of live
@@ -39,7 +39,7 @@ module _ (settings : ExporterSettings) where
   kinds_stay (s ∷ live) (suc place) cell new got same have = All-cons HasKind s (with_cell_at live place new) (All-head HasKind s live have) (kinds_stay live place cell new got same (All-tail HasKind s live have))
 
 module _ (settings : ExporterSettings) (distributions : DistributionRules) (series : Cells) (counters gauges histograms : RowsText) (kept : IsKept settings distributions series counters gauges histograms) (place : ℕ) where
-  pub counter_cell_kept : (cell : Shared PromCounter) → IsKept settings distributions (record series { counters = with_cell_at series.counters place cell }) counters gauges histograms
+  pub counter_cell_kept : (cell : SharedCounter) → IsKept settings distributions (record series { counters = with_cell_at series.counters place cell }) counters gauges histograms
   counter_cell_kept cell = record {
     counters = first_stays settings.globals series.counters place cell counters kept.counters;
     gauges = kept.gauges;
@@ -48,7 +48,7 @@ module _ (settings : ExporterSettings) (distributions : DistributionRules) (seri
     sampled = kept.sampled;
   }
 
-  pub gauge_cell_kept : (cell : Shared PromGauge) → IsKept settings distributions (record series { gauges = with_cell_at series.gauges place cell }) counters gauges histograms
+  pub gauge_cell_kept : (cell : SharedGauge) → IsKept settings distributions (record series { gauges = with_cell_at series.gauges place cell }) counters gauges histograms
   gauge_cell_kept cell = record {
     counters = kept.counters;
     gauges = first_stays settings.globals series.gauges place cell gauges kept.gauges;

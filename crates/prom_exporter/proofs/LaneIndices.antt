@@ -14,7 +14,7 @@ use Rattle.series_cells.specs.declared.counter.PromCounter.{PromCounter}
 use Rattle.series_cells.specs.declared.gauge.PromGauge.{PromGauge}
 use Rattle.prom_exporter.specs.Shared.{Shared}
 use Rattle.prom_exporter.specs.Sampled.{Sampled}
-use Rattle.prom_exporter.specs.Exporter.{Exporter}
+use Rattle.prom_exporter.specs.Exporter.{Exporter, SharedCounter, SharedGauge}
 use Rattle.prom_exporter.specs.LanePasses.{counter_thing, gauge_thing, histogram_thing, things_of, ids_of}
 use Rattle.prom_exporter.specs.LaneIndices.{gauge_index, histogram_index, HasIndex, HaveIndices, HaveOneIndex, IsOfOneKind, CounterHas, GaugeHas, HistogramHas}
 use Rattle.prom_exporter.proofs.LaneThings.{SeriesThing, at_behind}
@@ -77,22 +77,22 @@ module _ {X Y Z T : Type 0} (f : X → T) (g : Y → T) (h : Z → T) (xs : List
 -- ---- the series
 
 module _ (e : Exporter) where
-  abbrev counter_id : LiveSeries (Shared PromCounter) → SeriesId
+  abbrev counter_id : LiveSeries SharedCounter → SeriesId
   counter_id s = s.id
 
-  abbrev gauge_id : LiveSeries (Shared PromGauge) → SeriesId
+  abbrev gauge_id : LiveSeries SharedGauge → SeriesId
   gauge_id s = s.id
 
   abbrev histogram_id : LiveSeries Sampled → SeriesId
   histogram_id s = s.id
 
-  pub counter_has : (place : ℕ) (s : LiveSeries (Shared PromCounter)) → get_elem? e.series.counters place ≡ some s → HasIndex e place (counter_thing s) s.id
+  pub counter_has : (place : ℕ) (s : LiveSeries SharedCounter) → get_elem? e.series.counters place ≡ some s → HasIndex e place (counter_thing s) s.id
   counter_has place s at = (
     first_at counter_thing gauge_thing histogram_thing e.series.counters e.series.gauges e.series.histograms place s at,
     first_at counter_id gauge_id histogram_id e.series.counters e.series.gauges e.series.histograms place s at,
   )
 
-  pub gauge_has : (place : ℕ) (s : LiveSeries (Shared PromGauge)) → get_elem? e.series.gauges place ≡ some s → HasIndex e (gauge_index e place) (gauge_thing s) s.id
+  pub gauge_has : (place : ℕ) (s : LiveSeries SharedGauge) → get_elem? e.series.gauges place ≡ some s → HasIndex e (gauge_index e place) (gauge_thing s) s.id
   gauge_has place s at = (
     second_at counter_thing gauge_thing histogram_thing e.series.counters e.series.gauges e.series.histograms place s at,
     second_at counter_id gauge_id histogram_id e.series.counters e.series.gauges e.series.histograms place s at,

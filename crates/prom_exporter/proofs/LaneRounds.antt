@@ -106,7 +106,7 @@ all_themselves : (cs : List SeriesCall) → flat_map itself cs ≡ cs
 all_themselves [] = refl
 all_themselves (c ∷ cs) = ap (λ l. c ∷ l) (all_themselves cs)
 
-counter_image : (cell : PromCounter) (c : SeriesCall) → TakesCall (cells.Counter cell) c → entries_made c ≡ map entry.Value (itself c)
+counter_image : (cell : Option PromCounter) (c : SeriesCall) → TakesCall (cells.Counter cell) c → entries_made c ≡ map entry.Value (itself c)
 counter_image cell (call.Increment n) takes = refl
 counter_image cell (call.Absolute n) takes = refl
 counter_image cell (call.Add v) takes = absurd takes
@@ -114,7 +114,7 @@ counter_image cell (call.Subtract v) takes = absurd takes
 counter_image cell (call.Set v) takes = absurd takes
 counter_image cell (call.Record v moment count) takes = absurd takes
 
-gauge_image : (cell : PromGauge) (c : SeriesCall) → TakesCall (cells.Gauge cell) c → entries_made c ≡ map entry.Value (itself c)
+gauge_image : (cell : Option PromGauge) (c : SeriesCall) → TakesCall (cells.Gauge cell) c → entries_made c ≡ map entry.Value (itself c)
 gauge_image cell (call.Increment n) takes = absurd takes
 gauge_image cell (call.Absolute n) takes = absurd takes
 gauge_image cell (call.Add v) takes = refl

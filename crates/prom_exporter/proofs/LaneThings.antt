@@ -33,11 +33,11 @@ use Rattle.prom_exporter.specs.declared.lanes.SeriesCell.{SeriesCell}
 use Rattle.prom_exporter.specs.declared.lanes.SeriesCell.TheVariants as cells
 use Rattle.prom_exporter.specs.declared.lanes.SeriesEntry.{SeriesEntry}
 use Rattle.prom_exporter.specs.declared.lanes.SeriesEntry.TheVariants as entry
-use Rattle.prom_exporter.specs.Shared.{Shared, Looks, TakesBack, unused, with_one_out}
+use Rattle.prom_exporter.specs.Shared.{Shared, Looks, TakesBack, Makes, unmade, with_lent}
 use Rattle.prom_exporter.specs.Sampled.{Sampled, with_pass_out}
-use Rattle.prom_exporter.specs.Exporter.{Exporter, AllHome}
+use Rattle.prom_exporter.specs.Exporter.{Exporter, AllHome, SharedCounter, SharedGauge}
 use Rattle.prom_exporter.proofs.Home.{looks-home}
-use Rattle.prom_exporter.specs.LanePasses.{IsPassOf, of_counter, of_gauge, of_histogram, counter_thing, gauge_thing, histogram_thing, things_of, ids_of, pass_known, unseen, unheard, unheard_series, frame_of}
+use Rattle.prom_exporter.specs.LanePasses.{IsPassOf, Lasts, lasts_on, of_counter, of_gauge, of_histogram, counter_thing, gauge_thing, histogram_thing, things_of, ids_of, pass_known, unseen, unheard, unheard_series, frame_of}
 
 -- ---- lists, one behind the other
 
@@ -139,16 +139,35 @@ took_back s t known takes = (
   ap (λ (x : Shared _). x.note) takes.2,
 )
 
+-- a cell that is made where there was none lasts
+counter_owns : (made : Option PromCounter) (cell : PromCounter) → Makes made cell → (lent : LanePass) → IsPassOf (cells.Counter made) lent → IsPassOf (cells.Counter (Some cell)) lent
+counter_owns None cell makes (passes.Counter lent) is = absurd (cc is)
+counter_owns (Some made) cell makes (passes.Counter lent) is = ap Some makes ∙ is
+counter_owns made cell makes (passes.Gauge lent) is = is
+counter_owns made cell makes (passes.Histogram lent) is = is
+
+gauge_owns : (made : Option PromGauge) (cell : PromGauge) → Makes made cell → (lent : LanePass) → IsPassOf (cells.Gauge made) lent → IsPassOf (cells.Gauge (Some cell)) lent
+gauge_owns made cell makes (passes.Counter lent) is = is
+gauge_owns None cell makes (passes.Gauge lent) is = absurd (cc is)
+gauge_owns (Some made) cell makes (passes.Gauge lent) is = ap Some makes ∙ is
+gauge_owns made cell makes (passes.Histogram lent) is = is
+
+counter_lasts : (made : Option PromCounter) (cell : PromCounter) → Makes made cell → Lasts (cells.Counter made) (cells.Counter (Some cell))
+counter_lasts made cell makes = (counter_owns made cell makes, λ call takes. takes)
+
+gauge_lasts : (made : Option PromGauge) (cell : PromGauge) → Makes made cell → Lasts (cells.Gauge made) (cells.Gauge (Some cell))
+gauge_lasts made cell makes = (gauge_owns made cell makes, λ call takes. takes)
+
 -- ---- the series of an exporter
 
 abbrev pub SeriesThing : Type 0
 SeriesThing = Thing SeriesEntry SeriesCell
 
 -- the exporter with another cell at a place
-abbrev pub with_counter_at : Exporter → ℕ → Shared PromCounter → Exporter
+abbrev pub with_counter_at : Exporter → ℕ → SharedCounter → Exporter
 with_counter_at e place cell = record e { series = record e.series { counters = with_cell_at e.series.counters place cell } }
 
-abbrev pub with_gauge_at : Exporter → ℕ → Shared PromGauge → Exporter
+abbrev pub with_gauge_at : Exporter → ℕ → SharedGauge → Exporter
 with_gauge_at e place cell = record e { series = record e.series { gauges = with_cell_at e.series.gauges place cell } }
 
 abbrev pub with_histogram_at : Exporter → ℕ → Sampled → Exporter
@@ -180,11 +199,11 @@ module _ (e : Exporter) where
 
   -- ---- what has an index
 
-  pub counter_here : (i place : ℕ) (cell : Shared PromCounter) → i ≡ place → Got e.series.counters place cell → get_elem? (things_of e) i ≡ some (of_counter cell)
+  pub counter_here : (i place : ℕ) (cell : SharedCounter) → i ≡ place → Got e.series.counters place cell → get_elem? (things_of e) i ≡ some (of_counter cell)
   counter_here i place cell at got =
       subst (λ n. get_elem? (things_of e) n ≡ some (of_counter cell)) (sym at) (at_longer counters (gauges ++ histograms) place (of_counter cell) (here of_counter e.series.counters place cell got))
 
-  pub gauge_here : (i place : ℕ) (cell : Shared PromGauge) → i ≡ length e.series.counters + place → Got e.series.gauges place cell → get_elem? (things_of e) i ≡ some (of_gauge cell)
+  pub gauge_here : (i place : ℕ) (cell : SharedGauge) → i ≡ length e.series.counters + place → Got e.series.gauges place cell → get_elem? (things_of e) i ≡ some (of_gauge cell)
   gauge_here i place cell at got =
       subst (λ n. get_elem? (things_of e) n ≡ some (of_gauge cell)) (ap (λ n. n + place) many_counters ∙ sym at)
       (at_behind counters (gauges ++ histograms) place (of_gauge cell) (at_longer gauges histograms place (of_gauge cell) (here of_gauge e.series.gauges place cell got)))
@@ -267,13 +286,13 @@ module _ (e : Exporter) where
 
   -- ---- another cell at an index
 
-  counter_put : (i place : ℕ) (cell : Shared PromCounter) → i ≡ place → place < length e.series.counters → things_of (with_counter_at e place cell) ≡ set (things_of e) i (of_counter cell)
+  counter_put : (i place : ℕ) (cell : SharedCounter) → i ≡ place → place < length e.series.counters → things_of (with_counter_at e place cell) ≡ set (things_of e) i (of_counter cell)
   counter_put i place cell at below =
       ap (λ l. l ++ (gauges ++ histograms)) (put of_counter e.series.counters place cell)
       ∙ sym (set_front counters (gauges ++ histograms) place (of_counter cell) (subst (λ n. place < n) (sym many_counters) below))
       ∙ ap (λ n. set (things_of e) n (of_counter cell)) (sym at)
 
-  gauge_put : (i place : ℕ) (cell : Shared PromGauge) → i ≡ length e.series.counters + place → place < length e.series.gauges → things_of (with_gauge_at e place cell) ≡ set (things_of e) i (of_gauge cell)
+  gauge_put : (i place : ℕ) (cell : SharedGauge) → i ≡ length e.series.counters + place → place < length e.series.gauges → things_of (with_gauge_at e place cell) ≡ set (things_of e) i (of_gauge cell)
   gauge_put i place cell at below =
       ap (λ l. counters ++ (l ++ histograms)) (put of_gauge e.series.gauges place cell)
       ∙ ap (λ l. counters ++ l) (sym (set_front gauges histograms place (of_gauge cell) (subst (λ n. place < n) (sym many_gauges) below)))
@@ -288,10 +307,10 @@ module _ (e : Exporter) where
       ∙ ap (λ n. set (things_of e) n (of_histogram cell)) ((λ j. many_counters j + (many_gauges j + place)) ∙ sym at)
 
   -- the same cell
-  pub counter_kept : (place : ℕ) (cell new : Shared PromCounter) → Got e.series.counters place cell → new ≡ cell → with_counter_at e place new ≡ e
+  pub counter_kept : (place : ℕ) (cell new : SharedCounter) → Got e.series.counters place cell → new ≡ cell → with_counter_at e place new ≡ e
   counter_kept place cell new got is = ap (with_counter_at e place) is ∙ ap (λ l. record e { series = record e.series { counters = l } }) (same e.series.counters place cell got)
 
-  pub gauge_kept : (place : ℕ) (cell new : Shared PromGauge) → Got e.series.gauges place cell → new ≡ cell → with_gauge_at e place new ≡ e
+  pub gauge_kept : (place : ℕ) (cell new : SharedGauge) → Got e.series.gauges place cell → new ≡ cell → with_gauge_at e place new ≡ e
   gauge_kept place cell new got is = ap (with_gauge_at e place) is ∙ ap (λ l. record e { series = record e.series { gauges = l } }) (same e.series.gauges place cell got)
 
   pub histogram_kept : (place : ℕ) (cell new : Sampled) → Got e.series.histograms place cell → new ≡ cell → with_histogram_at e place new ≡ e
@@ -299,13 +318,13 @@ module _ (e : Exporter) where
 
   -- ---- what lanes leave as it is
 
-  abbrev but_known : {F : Type 0} → Shared F → Shared F
-  but_known s = record (unused s.cell) { note = s.note }
+  abbrev but_known : {F : Type 0} → Shared (Option F) → Shared (Option F)
+  but_known s = record unmade { note = s.note }
 
-  counter_frame : (place : ℕ) (cell new : Shared PromCounter) → Got e.series.counters place cell → but_known new ≡ but_known cell → frame_of (with_counter_at e place new) ≡ frame_of e
+  counter_frame : (place : ℕ) (cell new : SharedCounter) → Got e.series.counters place cell → but_known new ≡ but_known cell → frame_of (with_counter_at e place new) ≡ frame_of e
   counter_frame place cell new got left = ap (λ l. record (frame_of e) { series = record (frame_of e).series { counters = l } }) (but_put but_known e.series.counters place cell new got left)
 
-  gauge_frame : (place : ℕ) (cell new : Shared PromGauge) → Got e.series.gauges place cell → but_known new ≡ but_known cell → frame_of (with_gauge_at e place new) ≡ frame_of e
+  gauge_frame : (place : ℕ) (cell new : SharedGauge) → Got e.series.gauges place cell → but_known new ≡ but_known cell → frame_of (with_gauge_at e place new) ≡ frame_of e
   gauge_frame place cell new got left = ap (λ l. record (frame_of e) { series = record (frame_of e).series { gauges = l } }) (but_put but_known e.series.gauges place cell new got left)
 
   histogram_frame : (place : ℕ) (cell new : Sampled) → Got e.series.histograms place cell → unheard new ≡ unheard cell → frame_of (with_histogram_at e place new) ≡ frame_of e
@@ -313,40 +332,37 @@ module _ (e : Exporter) where
 
   -- ---- lending
 
-  -- a pass was lent of what has an index, and one more is out
+  -- a pass was lent of a thing that has an index, and one more is out; the thing lasts
+  abbrev LendsOf : ℕ → LanePass → Exporter → SeriesThing → Type 0
+  LendsOf i lent new t =
+      (u : SeriesThing) × (u.root ≡ lender t.root) × Lasts t.fixed u.fixed × IsPassOf u.fixed lent × (pass_known lent ≡ child t.root) × (things_of new ≡ set (things_of e) i u)
+
   abbrev pub LendsAt : ℕ → LanePass → Exporter → Type 0
-  LendsAt i lent new =
-      ((t : SeriesThing) → get_elem? (things_of e) i ≡ some t → IsPassOf t.fixed lent × (pass_known lent ≡ child t.root))
-      × ((t : SeriesThing) → get_elem? (things_of e) i ≡ some t → things_of new ≡ set (things_of e) i (record t { root = lender t.root }))
-      × (frame_of new ≡ frame_of e)
+  LendsAt i lent new = ((t : SeriesThing) → get_elem? (things_of e) i ≡ some t → LendsOf i lent new t) × (frame_of new ≡ frame_of e)
 
-  lends_at : (i : ℕ) (lent : LanePass) (new : Exporter) (s : SeriesThing) → get_elem? (things_of e) i ≡ some s → IsPassOf s.fixed lent → pass_known lent ≡ child s.root
-      → things_of new ≡ set (things_of e) i (record s { root = lender s.root }) → frame_of new ≡ frame_of e → LendsAt i lent new
-  lends_at i lent new s at owned knows puts frame = (
-    (λ t also. of_each (λ u. IsPassOf u.fixed lent × (pass_known lent ≡ child u.root)) i s t at (owned, knows) also),
-    (λ t also. of_each (λ u. things_of new ≡ set (things_of e) i (record u { root = lender u.root })) i s t at puts also),
-    frame,
-  )
+  lends_at : (i : ℕ) (lent : LanePass) (new : Exporter) (s : SeriesThing) → get_elem? (things_of e) i ≡ some s → LendsOf i lent new s → frame_of new ≡ frame_of e → LendsAt i lent new
+  lends_at i lent new s at lends frame = ((λ t also. of_each (LendsOf i lent new) i s t at lends also), frame)
 
-  pub counter_lends : (i place : ℕ) (cell new : Shared PromCounter) (lent : Lease SeriesCall PromCounter) → (i ≡ place) × (place < length e.series.counters) → Got e.series.counters place cell
-      → (lent.cell ≡ cell.cell) × (lent.knows ≡ child cell.root) → new ≡ with_one_out cell → LendsAt i (passes.Counter lent) (with_counter_at e place new)
-  counter_lends i place cell new lent at got lends out = lends_at i (passes.Counter lent) (with_counter_at e place new) (of_counter cell) (counter_here i place cell at.0 got)
-      lends.0 (ap (mapped_view entry.Value) lends.1)
-      (ap (λ x. things_of (with_counter_at e place x)) out ∙ counter_put i place (with_one_out cell) at.0 at.1)
+  pub counter_lends : (i place : ℕ) (cell new : SharedCounter) (lent : Lease SeriesCall PromCounter) → (i ≡ place) × (place < length e.series.counters) → Got e.series.counters place cell
+      → Makes cell.cell lent.cell × (lent.knows ≡ child cell.root) → new ≡ with_lent lent.cell cell → LendsAt i (passes.Counter lent) (with_counter_at e place new)
+  counter_lends i place cell new lent at got lends out =
+      let left = with_lent lent.cell cell in
+      lends_at i (passes.Counter lent) (with_counter_at e place new) (of_counter cell) (counter_here i place cell at.0 got)
+      (of_counter left, refl, counter_lasts cell.cell lent.cell lends.0, refl, ap (mapped_view entry.Value) lends.1, ap (λ x. things_of (with_counter_at e place x)) out ∙ counter_put i place left at.0 at.1)
       (counter_frame place cell new got (ap but_known out))
 
-  pub gauge_lends : (i place : ℕ) (cell new : Shared PromGauge) (lent : Lease SeriesCall PromGauge) → (i ≡ length e.series.counters + place) × (place < length e.series.gauges) → Got e.series.gauges place cell
-      → (lent.cell ≡ cell.cell) × (lent.knows ≡ child cell.root) → new ≡ with_one_out cell → LendsAt i (passes.Gauge lent) (with_gauge_at e place new)
-  gauge_lends i place cell new lent at got lends out = lends_at i (passes.Gauge lent) (with_gauge_at e place new) (of_gauge cell) (gauge_here i place cell at.0 got)
-      lends.0 (ap (mapped_view entry.Value) lends.1)
-      (ap (λ x. things_of (with_gauge_at e place x)) out ∙ gauge_put i place (with_one_out cell) at.0 at.1)
+  pub gauge_lends : (i place : ℕ) (cell new : SharedGauge) (lent : Lease SeriesCall PromGauge) → (i ≡ length e.series.counters + place) × (place < length e.series.gauges) → Got e.series.gauges place cell
+      → Makes cell.cell lent.cell × (lent.knows ≡ child cell.root) → new ≡ with_lent lent.cell cell → LendsAt i (passes.Gauge lent) (with_gauge_at e place new)
+  gauge_lends i place cell new lent at got lends out =
+      let left = with_lent lent.cell cell in
+      lends_at i (passes.Gauge lent) (with_gauge_at e place new) (of_gauge cell) (gauge_here i place cell at.0 got)
+      (of_gauge left, refl, gauge_lasts cell.cell lent.cell lends.0, refl, ap (mapped_view entry.Value) lends.1, ap (λ x. things_of (with_gauge_at e place x)) out ∙ gauge_put i place left at.0 at.1)
       (gauge_frame place cell new got (ap but_known out))
 
   pub histogram_lends : (i place : ℕ) (cell new : Sampled) (lent : Lease TimedCall TimedQueue) → i ≡ length e.series.counters + (length e.series.gauges + place) → Got e.series.histograms place cell
       → (lent.cell ≡ cell.series.cell) × (lent.knows ≡ child cell.series.root) → new ≡ with_pass_out cell → LendsAt i (passes.Histogram lent) (with_histogram_at e place new)
   histogram_lends i place cell new lent at got lends out = lends_at i (passes.Histogram lent) (with_histogram_at e place new) (of_histogram cell) (histogram_here i place cell at got)
-      lends.0 (ap (mapped_view entry.Queue) lends.1)
-      (ap (λ x. things_of (with_histogram_at e place x)) out ∙ histogram_put i place (with_pass_out cell) at)
+      (of_histogram (with_pass_out cell), refl, lasts_on (cells.Histogram cell.series.cell), lends.0, ap (mapped_view entry.Queue) lends.1, ap (λ x. things_of (with_histogram_at e place x)) out ∙ histogram_put i place (with_pass_out cell) at)
       (histogram_frame place cell new got (ap unheard out))
 
   -- ---- taking back
@@ -364,23 +380,23 @@ module _ (e : Exporter) where
     frame,
   )
 
-  pub counter_takes_back : (i place : ℕ) (cell new : Shared PromCounter) (lent : Lease SeriesCall PromCounter) → (i ≡ place) × (place < length e.series.counters) → Got e.series.counters place cell
+  pub counter_takes_back : (i place : ℕ) (cell new : SharedCounter) (lent : Lease SeriesCall PromCounter) → (i ≡ place) × (place < length e.series.counters) → Got e.series.counters place cell
       → TakesBack lent.knows cell new → TakesAt i (passes.Counter lent) (with_counter_at e place new)
   counter_takes_back i place cell new lent at got takes =
       let took = took_back cell new lent.knows takes in
       takes_at i (passes.Counter lent) (with_counter_at e place new) (of_counter cell) (of_counter new) (counter_here i place cell at.0 got)
       (took_back-mapped entry.Value cell.root lent.knows new.root took.0) (ap cells.Counter took.1)
       (counter_put i place new at.0 at.1)
-      (counter_frame place cell new got (λ j. record (unused (took.1 j)) { note = took.2 j }))
+      (counter_frame place cell new got (ap (λ n. record unmade { note = n }) took.2))
 
-  pub gauge_takes_back : (i place : ℕ) (cell new : Shared PromGauge) (lent : Lease SeriesCall PromGauge) → (i ≡ length e.series.counters + place) × (place < length e.series.gauges) → Got e.series.gauges place cell
+  pub gauge_takes_back : (i place : ℕ) (cell new : SharedGauge) (lent : Lease SeriesCall PromGauge) → (i ≡ length e.series.counters + place) × (place < length e.series.gauges) → Got e.series.gauges place cell
       → TakesBack lent.knows cell new → TakesAt i (passes.Gauge lent) (with_gauge_at e place new)
   gauge_takes_back i place cell new lent at got takes =
       let took = took_back cell new lent.knows takes in
       takes_at i (passes.Gauge lent) (with_gauge_at e place new) (of_gauge cell) (of_gauge new) (gauge_here i place cell at.0 got)
       (took_back-mapped entry.Value cell.root lent.knows new.root took.0) (ap cells.Gauge took.1)
       (gauge_put i place new at.0 at.1)
-      (gauge_frame place cell new got (λ j. record (unused (took.1 j)) { note = took.2 j }))
+      (gauge_frame place cell new got (ap (λ n. record unmade { note = n }) took.2))
 
   pub histogram_takes_back : (i place : ℕ) (cell new : Sampled) (lent : Lease TimedCall TimedQueue) → i ≡ length e.series.counters + (length e.series.gauges + place) → Got e.series.histograms place cell
       → new ≡ record cell { series = with_one_back lent.knows cell.series } → TakesAt i (passes.Histogram lent) (with_histogram_at e place new)
@@ -402,7 +418,7 @@ module _ (e : Exporter) where
   abbrev pub HomeAt : ℕ → Type 0
   HomeAt i = (t : SeriesThing) → get_elem? (things_of e) i ≡ some t → (t.root.number ≡ 0) × (t.root.out ≡ 0)
 
-  pub counter_reads : (i place : ℕ) (cell new : Shared PromCounter) → i ≡ place → Got e.series.counters place cell → HomeAt i → Looks cell new → SettlesAt i (with_counter_at e place new)
+  pub counter_reads : (i place : ℕ) (cell new : SharedCounter) → i ≡ place → Got e.series.counters place cell → HomeAt i → Looks cell new → SettlesAt i (with_counter_at e place new)
   counter_reads i place cell new at got home looks =
       let own = counter_here i place cell at got in
       let back = home (of_counter cell) own in (
@@ -410,7 +426,7 @@ module _ (e : Exporter) where
         (λ t also. of_each (λ (u : SeriesThing). Settled u.root) i (of_counter cell) t own (settled-mapped entry.Value cell.root (looks.1.whole back.0 back.1).1) also),
       )
 
-  pub gauge_reads : (i place : ℕ) (cell new : Shared PromGauge) → i ≡ length e.series.counters + place → Got e.series.gauges place cell → HomeAt i → Looks cell new → SettlesAt i (with_gauge_at e place new)
+  pub gauge_reads : (i place : ℕ) (cell new : SharedGauge) → i ≡ length e.series.counters + place → Got e.series.gauges place cell → HomeAt i → Looks cell new → SettlesAt i (with_gauge_at e place new)
   gauge_reads i place cell new at got home looks =
       let own = gauge_here i place cell at got in
       let back = home (of_gauge cell) own in (
@@ -493,10 +509,10 @@ module _ (id : SeriesId) (e : Exporter) where
 
 -- what is got of the ids at the index of a place
 module _ (e : Exporter) (i place : ℕ) where
-  abbrev id_of_counter : LiveSeries (Shared PromCounter) → SeriesId
+  abbrev id_of_counter : LiveSeries SharedCounter → SeriesId
   id_of_counter series = series.id
 
-  abbrev id_of_gauge : LiveSeries (Shared PromGauge) → SeriesId
+  abbrev id_of_gauge : LiveSeries SharedGauge → SeriesId
   id_of_gauge series = series.id
 
   abbrev id_of_histogram : LiveSeries Sampled → SeriesId

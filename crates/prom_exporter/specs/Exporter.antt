@@ -1,5 +1,5 @@
 -- An exporter as its contracts see it: what it was built with, its live series with their cells, and what is said of metrics.
-use Rattle.std.specs.Prelude.{◌≡◌, ℕ, ◌+◌, List, [], ◌∷◌, ◌++◌, map, pos, None, false, Some, All}
+use Rattle.std.specs.Prelude.{◌≡◌, ℕ, ◌+◌, List, [], ◌∷◌, ◌++◌, map, pos, Option, None, false, Some, All}
 use Rattle.metrics_core.specs.Keys.{LabelText, KeyText}
 use Rattle.metrics_core.specs.declared.kinds.MetricKind.TheVariants as kinds
 use Rattle.metrics_core.specs.declared.kinds.SeriesId.{SeriesId}
@@ -16,9 +16,16 @@ use Rattle.prom_exporter.specs.Shared.{Shared, IsHome, unused}
 use Rattle.prom_exporter.specs.Sampled.{Sampled, IsAtRest, IsTimely, unsampled}
 use Rattle.prom_exporter.specs.Values.{state_seen, state_recorded}
 
--- the live series, each with its cell
+-- a counter and a gauge: its cell, once it was lent, with what the exporter knows of it
+abbrev pub SharedCounter : Type 0
+SharedCounter = Shared (Option PromCounter)
+
+abbrev pub SharedGauge : Type 0
+SharedGauge = Shared (Option PromGauge)
+
+-- the live series
 abbrev pub Cells : Type 0
-Cells = RegistryText (Shared PromCounter) (Shared PromGauge) Sampled
+Cells = RegistryText SharedCounter SharedGauge Sampled
 
 pub record Exporter : Type 0 where
   pub settings : ExporterSettings
@@ -75,7 +82,7 @@ AreTimely moment exporter = All (λ series. IsTimely moment series.cell) exporte
 
 -- a new counter goes last, a new gauge, and a new histogram, whose kind follows from its name: its cell is one that nobody has called
 abbrev pub AddsCounter : KeyText → Exporter → Exporter → Type 0
-AddsCounter key old new = (cell : PromCounter) × (new ≡ record old {
+AddsCounter key old new = (cell : Option PromCounter) × (new ≡ record old {
   series = record old.series {
     counters = old.series.counters ++ record { id = record { kind = kinds.Counter; number = old.series.made }; key = key; cell = unused cell } ∷ [];
     made = old.series.made + 1;
@@ -83,7 +90,7 @@ AddsCounter key old new = (cell : PromCounter) × (new ≡ record old {
 })
 
 abbrev pub AddsGauge : KeyText → Exporter → Exporter → Type 0
-AddsGauge key old new = (cell : PromGauge) × (new ≡ record old {
+AddsGauge key old new = (cell : Option PromGauge) × (new ≡ record old {
   series = record old.series {
     gauges = old.series.gauges ++ record { id = record { kind = kinds.Gauge; number = old.series.made }; key = key; cell = unused cell } ∷ [];
     made = old.series.made + 1;
@@ -101,14 +108,14 @@ AddsHistogram key old new = (queue : TimedQueue) × (new ≡ record old {
 })
 
 -- the counter with the id is live and changes so, a gauge, and a histogram; nothing else does
-abbrev pub ChangesCounter : SeriesId → (Shared PromCounter → Shared PromCounter → Type 0) → Exporter → Exporter → Type 0
+abbrev pub ChangesCounter : SeriesId → (SharedCounter → SharedCounter → Type 0) → Exporter → Exporter → Type 0
 ChangesCounter id changes old new =
-    (s t : Shared PromCounter) × (cell_of id old.series.counters ≡ Some s) × changes s t
+    (s t : SharedCounter) × (cell_of id old.series.counters ≡ Some s) × changes s t
     × (new ≡ record old { series = record old.series { counters = with_cell id old.series.counters t } })
 
-abbrev pub ChangesGauge : SeriesId → (Shared PromGauge → Shared PromGauge → Type 0) → Exporter → Exporter → Type 0
+abbrev pub ChangesGauge : SeriesId → (SharedGauge → SharedGauge → Type 0) → Exporter → Exporter → Type 0
 ChangesGauge id changes old new =
-    (s t : Shared PromGauge) × (cell_of id old.series.gauges ≡ Some s) × changes s t
+    (s t : SharedGauge) × (cell_of id old.series.gauges ≡ Some s) × changes s t
     × (new ≡ record old { series = record old.series { gauges = with_cell id old.series.gauges t } })
 
 abbrev pub ChangesHistogram : SeriesId → (Sampled → Sampled → Type 0) → Exporter → Exporter → Type 0

@@ -5,13 +5,10 @@ use lib.ListN.{get_elem?}
 use Rattle.cell_lanes.specs.Things.{Thing}
 use Rattle.metrics_core.specs.declared.kinds.SeriesId.{SeriesId}
 use Rattle.metrics_registry.specs.Live.{LiveSeries}
-use Rattle.series_cells.specs.declared.counter.PromCounter.{PromCounter}
-use Rattle.series_cells.specs.declared.gauge.PromGauge.{PromGauge}
 use Rattle.prom_exporter.specs.declared.lanes.SeriesCell.{SeriesCell}
 use Rattle.prom_exporter.specs.declared.lanes.SeriesEntry.{SeriesEntry}
-use Rattle.prom_exporter.specs.Shared.{Shared}
 use Rattle.prom_exporter.specs.Sampled.{Sampled}
-use Rattle.prom_exporter.specs.Exporter.{Exporter}
+use Rattle.prom_exporter.specs.Exporter.{Exporter, SharedCounter, SharedGauge}
 use Rattle.prom_exporter.specs.LanePasses.{counter_thing, gauge_thing, histogram_thing, things_of, ids_of}
 
 -- the indices of a gauge and of a histogram, by their places among those of their kind; that of a counter is its place
@@ -27,17 +24,17 @@ HasIndex exporter index thing id = (get_elem? (things_of exporter) index ≡ som
 
 -- each series has the index of its place, and there are as many ids as things
 pub record HaveIndices (exporter : Exporter) : Type 0 where
-  pub counters : (place : ℕ) (s : LiveSeries (Shared PromCounter)) → get_elem? exporter.series.counters place ≡ some s → HasIndex exporter place (counter_thing s) s.id
-  pub gauges : (place : ℕ) (s : LiveSeries (Shared PromGauge)) → get_elem? exporter.series.gauges place ≡ some s → HasIndex exporter (gauge_index exporter place) (gauge_thing s) s.id
+  pub counters : (place : ℕ) (s : LiveSeries SharedCounter) → get_elem? exporter.series.counters place ≡ some s → HasIndex exporter place (counter_thing s) s.id
+  pub gauges : (place : ℕ) (s : LiveSeries SharedGauge) → get_elem? exporter.series.gauges place ≡ some s → HasIndex exporter (gauge_index exporter place) (gauge_thing s) s.id
   pub histograms : (place : ℕ) (s : LiveSeries Sampled) → get_elem? exporter.series.histograms place ≡ some s → HasIndex exporter (histogram_index exporter place) (histogram_thing s) s.id
   pub as_many : length (ids_of exporter) ≡ length (things_of exporter)
 
 -- what has an index is a counter, a gauge or a histogram, at the place of the index
 abbrev pub CounterHas : Exporter → ℕ → Thing SeriesEntry SeriesCell → Type 0
-CounterHas exporter index thing = (s : LiveSeries (Shared PromCounter)) × (get_elem? exporter.series.counters index ≡ some s) × (counter_thing s ≡ thing)
+CounterHas exporter index thing = (s : LiveSeries SharedCounter) × (get_elem? exporter.series.counters index ≡ some s) × (counter_thing s ≡ thing)
 
 abbrev pub GaugeHas : Exporter → ℕ → Thing SeriesEntry SeriesCell → Type 0
-GaugeHas exporter index thing = (place : ℕ) × (index ≡ gauge_index exporter place) × ((s : LiveSeries (Shared PromGauge)) × (get_elem? exporter.series.gauges place ≡ some s) × (gauge_thing s ≡ thing))
+GaugeHas exporter index thing = (place : ℕ) × (index ≡ gauge_index exporter place) × ((s : LiveSeries SharedGauge) × (get_elem? exporter.series.gauges place ≡ some s) × (gauge_thing s ≡ thing))
 
 abbrev pub HistogramHas : Exporter → ℕ → Thing SeriesEntry SeriesCell → Type 0
 HistogramHas exporter index thing = (place : ℕ) × (index ≡ histogram_index exporter place) × ((s : LiveSeries Sampled) × (get_elem? exporter.series.histograms place ≡ some s) × (histogram_thing s ≡ thing))

@@ -22,24 +22,24 @@ use Rattle.prom_exporter.specs.declared.lanes.SeriesCell.{SeriesCell}
 use Rattle.prom_exporter.specs.declared.lanes.SeriesCell.TheVariants as cells
 use Rattle.prom_exporter.specs.declared.lanes.SeriesEntry.{SeriesEntry}
 use Rattle.prom_exporter.specs.declared.lanes.SeriesEntry.TheVariants as entry
-use Rattle.prom_exporter.specs.Shared.{Shared, unused}
+use Rattle.prom_exporter.specs.Shared.{Shared, unmade}
 use Rattle.prom_exporter.specs.Sampled.{Sampled}
-use Rattle.prom_exporter.specs.Exporter.{Exporter}
+use Rattle.prom_exporter.specs.Exporter.{Exporter, SharedCounter, SharedGauge}
 
--- a counter, a gauge and a histogram as a thing: what the exporter's own pass knows, with each call as one of any kind, and the cell
-abbrev pub of_counter : Shared PromCounter → Thing SeriesEntry SeriesCell
+-- a counter, a gauge and a histogram as a thing: what the exporter's own pass knows, with each call as one of any kind, and the cell where it is made
+abbrev pub of_counter : SharedCounter → Thing SeriesEntry SeriesCell
 of_counter s = record { root = mapped_view entry.Value s.root; fixed = cells.Counter s.cell }
 
-abbrev pub of_gauge : Shared PromGauge → Thing SeriesEntry SeriesCell
+abbrev pub of_gauge : SharedGauge → Thing SeriesEntry SeriesCell
 of_gauge s = record { root = mapped_view entry.Value s.root; fixed = cells.Gauge s.cell }
 
 abbrev pub of_histogram : Sampled → Thing SeriesEntry SeriesCell
 of_histogram s = record { root = mapped_view entry.Queue s.series.root; fixed = cells.Histogram s.series.cell }
 
-abbrev pub counter_thing : LiveSeries (Shared PromCounter) → Thing SeriesEntry SeriesCell
+abbrev pub counter_thing : LiveSeries SharedCounter → Thing SeriesEntry SeriesCell
 counter_thing series = of_counter series.cell
 
-abbrev pub gauge_thing : LiveSeries (Shared PromGauge) → Thing SeriesEntry SeriesCell
+abbrev pub gauge_thing : LiveSeries SharedGauge → Thing SeriesEntry SeriesCell
 gauge_thing series = of_gauge series.cell
 
 abbrev pub histogram_thing : LiveSeries Sampled → Thing SeriesEntry SeriesCell
@@ -56,8 +56,8 @@ pass_known (passes.Histogram lent) = mapped_view entry.Queue lent.knows
 
 -- the pass is one of this cell
 abbrev pub IsPassOf : SeriesCell → LanePass → Type 0
-IsPassOf (cells.Counter cell) (passes.Counter lent) = lent.cell ≡ cell
-IsPassOf (cells.Gauge cell) (passes.Gauge lent) = lent.cell ≡ cell
+IsPassOf (cells.Counter cell) (passes.Counter lent) = cell ≡ Some lent.cell
+IsPassOf (cells.Gauge cell) (passes.Gauge lent) = cell ≡ Some lent.cell
 IsPassOf (cells.Histogram cell) (passes.Histogram lent) = lent.cell ≡ cell
 IsPassOf (cells.Counter _) (passes.Gauge _) = ⊥
 IsPassOf (cells.Counter _) (passes.Histogram _) = ⊥
@@ -66,26 +66,52 @@ IsPassOf (cells.Gauge _) (passes.Histogram _) = ⊥
 IsPassOf (cells.Histogram _) (passes.Counter _) = ⊥
 IsPassOf (cells.Histogram _) (passes.Gauge _) = ⊥
 
+-- the call is one on a counter, on a gauge, and on a histogram
+abbrev pub IsCounterCall : SeriesCall → Type 0
+IsCounterCall (calls.Increment _) = ⊤
+IsCounterCall (calls.Absolute _) = ⊤
+IsCounterCall (calls.Add _) = ⊥
+IsCounterCall (calls.Subtract _) = ⊥
+IsCounterCall (calls.Set _) = ⊥
+IsCounterCall (calls.Record _ _ _) = ⊥
+
+abbrev pub IsGaugeCall : SeriesCall → Type 0
+IsGaugeCall (calls.Increment _) = ⊥
+IsGaugeCall (calls.Absolute _) = ⊥
+IsGaugeCall (calls.Add _) = ⊤
+IsGaugeCall (calls.Subtract _) = ⊤
+IsGaugeCall (calls.Set _) = ⊤
+IsGaugeCall (calls.Record _ _ _) = ⊥
+
+abbrev pub IsRecord : SeriesCall → Type 0
+IsRecord (calls.Increment _) = ⊥
+IsRecord (calls.Absolute _) = ⊥
+IsRecord (calls.Add _) = ⊥
+IsRecord (calls.Subtract _) = ⊥
+IsRecord (calls.Set _) = ⊥
+IsRecord (calls.Record _ _ _) = ⊤
+
 -- the call is one on a cell of this kind
 abbrev pub TakesCall : SeriesCell → SeriesCall → Type 0
-TakesCall (cells.Counter _) (calls.Increment _) = ⊤
-TakesCall (cells.Counter _) (calls.Absolute _) = ⊤
-TakesCall (cells.Gauge _) (calls.Add _) = ⊤
-TakesCall (cells.Gauge _) (calls.Subtract _) = ⊤
-TakesCall (cells.Gauge _) (calls.Set _) = ⊤
-TakesCall (cells.Histogram _) (calls.Record _ _ _) = ⊤
-TakesCall (cells.Counter _) (calls.Add _) = ⊥
-TakesCall (cells.Counter _) (calls.Subtract _) = ⊥
-TakesCall (cells.Counter _) (calls.Set _) = ⊥
-TakesCall (cells.Counter _) (calls.Record _ _ _) = ⊥
-TakesCall (cells.Gauge _) (calls.Increment _) = ⊥
-TakesCall (cells.Gauge _) (calls.Absolute _) = ⊥
-TakesCall (cells.Gauge _) (calls.Record _ _ _) = ⊥
-TakesCall (cells.Histogram _) (calls.Increment _) = ⊥
-TakesCall (cells.Histogram _) (calls.Absolute _) = ⊥
-TakesCall (cells.Histogram _) (calls.Add _) = ⊥
-TakesCall (cells.Histogram _) (calls.Subtract _) = ⊥
-TakesCall (cells.Histogram _) (calls.Set _) = ⊥
+TakesCall (cells.Counter _) call = IsCounterCall call
+TakesCall (cells.Gauge _) call = IsGaugeCall call
+TakesCall (cells.Histogram _) call = IsRecord call
+
+-- what was a pass of a cell stays one, and what it took it takes: the cell stays, or one that there wasn't was made
+abbrev pub Lasts : SeriesCell → SeriesCell → Type 0
+Lasts f g = ((lent : LanePass) → IsPassOf f lent → IsPassOf g lent) × ((call : SeriesCall) → TakesCall f call → TakesCall g call)
+
+pub lasts_on : (f : SeriesCell) → Lasts f f
+lasts_on f = (λ lent is. is, λ call takes. takes)
+
+pub lasts_then : (f g h : SeriesCell) → Lasts f g → Lasts g h → Lasts f h
+lasts_then f g h first more = (λ lent is. more.0 lent (first.0 lent is), λ call takes. more.1 call (first.1 call takes))
+
+pub owns_on : (f g : SeriesCell) (lent : LanePass) → Lasts f g → IsPassOf f lent → IsPassOf g lent
+owns_on f g lent lasts is = lasts.0 lent is
+
+pub takes_on : (f g : SeriesCell) (call : SeriesCall) → Lasts f g → TakesCall f call → TakesCall g call
+takes_on f g call lasts takes = lasts.1 call takes
 
 -- the calls that a record makes on the queue of a histogram: one push, and none where it records no sample
 abbrev pub pushes_asked : SeriesCall → List TimedCall
@@ -105,9 +131,9 @@ StandsAsEntries call made = made ≡ entries_made call
 
 -- ---- what lanes leave as it is
 
--- a series, but for what the exporter knows of it
-abbrev pub unseen : {F : Type 0} → LiveSeries (Shared F) → LiveSeries (Shared F)
-unseen series = record series { cell = record (unused series.cell.cell) { note = series.cell.note } }
+-- a series, but for its cell and what the exporter knows of it
+abbrev pub unseen : {F : Type 0} → LiveSeries (Shared (Option F)) → LiveSeries (Shared (Option F))
+unseen series = record series { cell = record unmade { note = series.cell.note } }
 
 -- a histogram, but for what others do with its queue: the calls that the exporter made itself stay
 abbrev pub unheard : Sampled → Sampled

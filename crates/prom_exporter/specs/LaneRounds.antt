@@ -11,11 +11,8 @@ use Rattle.metrics_core.specs.declared.calls.SeriesCall.{SeriesCall}
 use Rattle.metrics_core.specs.declared.calls.SeriesCall.TheVariants as calls
 use Rattle.metrics_core.specs.Series.{call_of}
 use Rattle.metrics_registry.specs.Live.{LiveSeries}
-use Rattle.series_cells.specs.declared.counter.PromCounter.{PromCounter}
-use Rattle.series_cells.specs.declared.gauge.PromGauge.{PromGauge}
-use Rattle.prom_exporter.specs.Shared.{Shared}
 use Rattle.prom_exporter.specs.Sampled.{Sampled, calls_known}
-use Rattle.prom_exporter.specs.Exporter.{Exporter}
+use Rattle.prom_exporter.specs.Exporter.{Exporter, SharedCounter, SharedGauge}
 use Rattle.prom_exporter.specs.LaneIndices.{gauge_index, histogram_index}
 use Rattle.prom_exporter.specs.LanePasses.{TakesCall, StandsAsEntries, things_of, frame_of}
 
@@ -45,9 +42,9 @@ records_on index lanes l = filter records_some (all_calls_on index lanes l)
 -- the history of each counter and of each gauge grew by what all lanes asked for on it, in one order of lanes
 abbrev pub LeavesValues : List (Lane SeriesCall) → Exporter → Exporter → Type 0
 LeavesValues lanes old new =
-    ((place : ℕ) (s t : LiveSeries (Shared PromCounter)) → get_elem? old.series.counters place ≡ some s → get_elem? new.series.counters place ≡ some t
+    ((place : ℕ) (s t : LiveSeries SharedCounter) → get_elem? old.series.counters place ≡ some s → get_elem? new.series.counters place ≡ some t
     → GrewInOrder (all_calls_on place lanes) s.cell.root.seen t.cell.root.seen)
-    × ((place : ℕ) (s t : LiveSeries (Shared PromGauge)) → get_elem? old.series.gauges place ≡ some s → get_elem? new.series.gauges place ≡ some t
+    × ((place : ℕ) (s t : LiveSeries SharedGauge) → get_elem? old.series.gauges place ≡ some s → get_elem? new.series.gauges place ≡ some t
     → GrewInOrder (all_calls_on (gauge_index old place) lanes) s.cell.root.seen t.cell.root.seen)
 
 -- a histogram's calls grew by these calls of lanes, in one order of lanes

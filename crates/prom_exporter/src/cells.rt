@@ -1,10 +1,11 @@
-//! Counters and gauges as the exporter keeps them: the cell that threads share, and the value that was last read of it.
+//! Counters and gauges as the exporter keeps them: the cell that threads share, once it was lent, and the value that was last read
+//! of it.
 
-ghost use Rattle.std.specs.Prelude.{◌≡◌, ◌++◌, [], IfOk, OnOk, OnErr, string_bytes};
+ghost use Rattle.std.specs.Prelude.{◌≡◌, ◌++◌, [], Some, IfOk, OnOk, OnErr, string_bytes};
 ghost use Rattle.std.specs.Arc.{arc_value};
-ghost use Rattle.legal_history.specs.History.{child, first, Settled};
+ghost use Rattle.legal_history.specs.History.{child};
 ghost use Rattle.metrics_core.specs.Numbers.{page_number};
-ghost use Rattle.prom_exporter.specs.Shared.{unused, with_one_out, Looks, TakesBack};
+ghost use Rattle.prom_exporter.specs.Shared.{unmade, with_lent, Looks, Makes, TakesBack};
 
 use cell_lanes::{CountedCell, LentCell, OwnedCell, ValueCell};
 use metrics_core::{Fixed, Memory, MetricKind, SeriesCall};
@@ -36,10 +37,34 @@ pub(crate) trait Shown {
         ensures { OnOk result (string_bytes buffer.new ≡ string_bytes buffer.old ++ page_number (shown self.now)) };
 }
 
-/// A cell of any kind whose calls are those of series. A contract sees it as the cell and what the exporter's own pass knows.
+/// A cell that the exporter makes when it lends it for the first time.
+pub(crate) trait MadeCell: CountedCell {
+    ghost use Rattle.std.specs.Prelude.{◌≡◌, IfOk};
+    ghost use Rattle.legal_history.specs.History.{Settled, first};
+
+    /// A new cell that nobody has called.
+    fn make_cell(alloc: Global) -> Result<OwnedCell<Self>, Memory>
+        ensures { IfOk result (λ made. (made.root ≡ first) × Settled made.root) };
+}
+
+impl MadeCell for PromCounter {
+    fn make_cell(alloc: Global) -> Result<OwnedCell<PromCounter>, Memory> {
+        PromCounter::owned(alloc)
+    }
+}
+
+impl MadeCell for PromGauge {
+    fn make_cell(alloc: Global) -> Result<OwnedCell<PromGauge>, Memory> {
+        PromGauge::owned(alloc)
+    }
+}
+
+/// A series of a kind whose calls are those of series. Its cell is made when it is lent for the first time: nobody can have called
+/// it before. A contract sees it as the cell, if there is one, and what the exporter's own pass knows, which is what that of a new
+/// cell knows where there is none.
 #[derive(Drop)]
 pub(crate) struct KeptCell<C: ValueCell<Call = SeriesCall, Entry = SeriesCall>> {
-    owned: OwnedCell<C>,
+    owned: Option<OwnedCell<C>>,
     /// The value after the calls that the exporter has seen.
     value: C::Reading,
     /// How many updates a page has found, modulo 2^64, and the moment at which a page found so many first.
@@ -47,28 +72,27 @@ pub(crate) struct KeptCell<C: ValueCell<Call = SeriesCall, Entry = SeriesCall>> 
 }
 
 impl<C: ValueCell<Call = SeriesCall, Entry = SeriesCall>> Model for KeptCell<C> {
-    ghost use Rattle.std.specs.Prelude.{◌≡◌};
+    ghost use Rattle.std.specs.Prelude.{◌≡◌, Option};
     ghost use Rattle.legal_history.specs.History.{calls};
-    ghost use Rattle.prom_exporter.specs.Shared.{Shared};
+    ghost use Rattle.prom_exporter.specs.Shared.{Shared, cell_kept, root_kept};
 
-    ghost Value = { Shared C };
+    ghost Value = { Shared (Option C) };
 
-    ghost view = { λ kept. record { cell = kept.owned.fixed; root = kept.owned.root; note = kept.note } };
+    ghost view = { λ kept. record { cell = cell_kept kept.owned; root = root_kept kept.owned; note = kept.note } };
 
     ghost use Rattle.prom_exporter.specs.Shared.{KnowsAll};
 
-    ghost invariant = { λ kept. (kept.value ≡ C.value_of (calls kept.owned.root.seen)) × KnowsAll kept.owned.root };
+    ghost invariant = { λ kept. (kept.value ≡ C.value_of (calls (root_kept kept.owned).seen)) × KnowsAll (root_kept kept.owned) };
 }
 
 impl<C: ValueCell<Call = SeriesCall, Entry = SeriesCall>> KeptCell<C> {
-    /// A cell that nobody has called, with its value at the start.
-    fn new(owned: OwnedCell<C>, value: C::Reading) -> KeptCell<C>
-        requires unused { (owned.root ≡ first) × Settled owned.root }
-        requires value { value ≡ C.value_of [] }
-        ensures { result ≡ unused owned.fixed }
+    /// A series that was never lent, with its value at the start.
+    fn new(value: C::Reading) -> KeptCell<C>
+        requires { value ≡ C.value_of [] }
+        ensures { result ≡ unmade }
     {
         KeptCell {
-            owned,
+            owned: None,
             value,
             note: None,
         }
@@ -78,53 +102,74 @@ impl<C: ValueCell<Call = SeriesCall, Entry = SeriesCall>> KeptCell<C> {
     pub(crate) fn read(&mut self)
         ensures { Looks self.old self.new }
     {
-        if self.owned.is_home() {
-            return;
+        if let Some(owned) = &mut self.owned {
+            if owned.is_home() {
+                return;
+            }
+            self.value = owned.value();
         }
-        self.value = self.owned.value();
-    }
-
-    /// Lends the cell and a new pass of it.
-    pub(crate) fn lend(&mut self, alloc: Global) -> Result<(Arc<C>, C::Pass), Memory>
-        ensures lent { IfOk result (λ lent. (arc_value lent.0 ≡ self.old.cell) × C.is_pass self.old.cell lent.1 × (C.view lent.1 ≡ child self.old.root)) }
-        ensures out { OnOk result (self.new ≡ with_one_out self.old) }
-        ensures refused { OnErr result (self.new ≡ self.old) }
-    {
-        self.owned.lend_pass(alloc)
     }
 
     /// Takes a pass back, and reads the cell.
     pub(crate) fn take_back(&mut self, pass: C::Pass)
-        requires { C.is_pass self.old.cell pass }
+        requires { (cell : C) × (self.old.cell ≡ Some cell) × C.is_pass cell pass }
         ensures { TakesBack (C.view pass) self.old self.new }
     {
-        self.owned.take_pass(pass);
-        self.value = self.owned.value();
-    }
-
-    /// Lends a new pass of the cell to a lane.
-    pub(crate) fn lend_to_lane(&mut self, alloc: Global) -> Result<LentCell<C>, Memory>
-        ensures lent { IfOk result (λ lent. (lent.cell ≡ self.old.cell) × (lent.knows ≡ child self.old.root)) }
-        ensures out { OnOk result (self.new ≡ with_one_out self.old) }
-        ensures refused { OnErr result (self.new ≡ self.old) }
-    {
-        let (cell, pass) = self.owned.lend_pass(alloc)?;
-        Ok(LentCell::new(cell, pass))
+        if let Some(owned) = &mut self.owned {
+            owned.take_pass(pass);
+            self.value = owned.value();
+        }
     }
 
     /// Takes a lane's pass back, and reads the cell.
     pub(crate) fn take_from_lane(&mut self, lent: LentCell<C>)
-        requires lent { lent.cell ≡ self.old.cell }
+        requires lent { self.old.cell ≡ Some lent.cell }
         ensures { TakesBack lent.knows self.old self.new }
     {
-        self.owned.take_pass(lent.into_pass());
-        self.value = self.owned.value();
+        self.take_back(lent.into_pass());
     }
 }
 
-impl<C: CountedCell<Call = SeriesCall, Entry = SeriesCall>> KeptCell<C> {
+impl<C: MadeCell<Call = SeriesCall, Entry = SeriesCall>> KeptCell<C> {
     ghost use Rattle.std.specs.Prelude.{None, unwrap_or};
+    ghost use Rattle.cell_lanes.specs.Calls.{CountsCalls};
     ghost use Rattle.prom_exporter.specs.Stepped.{IsNoted};
+
+    /// Lends the cell and a new pass of it. The cell is made where there is none yet.
+    pub(crate) fn lend(&mut self, alloc: Global) -> Result<(Arc<C>, C::Pass), Memory>
+        ensures lent { IfOk result (λ lent. Makes self.old.cell (arc_value lent.0) × C.is_pass (arc_value lent.0) lent.1 × (C.view lent.1 ≡ child self.old.root)) }
+        ensures out { IfOk result (λ lent. self.new ≡ with_lent (arc_value lent.0) self.old) }
+        ensures refused { OnErr result (self.new ≡ self.old) }
+    {
+        if let Some(owned) = &mut self.owned {
+            return owned.lend_pass(alloc);
+        }
+        let mut made = C::make_cell(alloc)?;
+        let lent = made.lend_pass(alloc)?;
+        self.owned = Some(made);
+        Ok(lent)
+    }
+
+    /// Lends a new pass of the cell to a lane. The cell is made where there is none yet.
+    pub(crate) fn lend_to_lane(&mut self, alloc: Global) -> Result<LentCell<C>, Memory>
+        ensures lent { IfOk result (λ lent. Makes self.old.cell lent.cell × (lent.knows ≡ child self.old.root)) }
+        ensures out { IfOk result (λ lent. self.new ≡ with_lent lent.cell self.old) }
+        ensures refused { OnErr result (self.new ≡ self.old) }
+    {
+        let (cell, pass) = self.lend(alloc)?;
+        Ok(LentCell::new(cell, pass))
+    }
+
+    /// How many updates the cell has, modulo 2^64: none where it isn't made.
+    fn updates(&mut self) -> u64
+        ensures count { CountsCalls self.old.root result }
+        ensures same { self.new ≡ self.old }
+    {
+        match &mut self.owned {
+            Some(owned) => owned.updates(),
+            None => 0,
+        }
+    }
 
     /// Reads the cell for a page at a moment, and where series of its kind may fall idle notes how many updates it has. Answers
     /// whether the cell stays: false exactly where it is idle.
@@ -134,7 +179,7 @@ impl<C: CountedCell<Call = SeriesCall, Entry = SeriesCall>> KeptCell<C> {
         self.read();
         match recency {
             Some(recency) => {
-                let updates = self.owned.updates();
+                let updates = self.updates();
                 recency.should_store(kind, &mut self.note, updates, moment)
             }
             None => true,
@@ -149,17 +194,17 @@ pub(crate) type CounterCell = KeptCell<PromCounter>;
 pub(crate) type GaugeCell = KeptCell<PromGauge>;
 
 /// A counter at 0.
-pub(crate) fn new_counter(alloc: Global) -> Result<CounterCell, Memory>
-    ensures { IfOk result (λ made. made ≡ unused made.cell) }
+pub(crate) fn new_counter() -> CounterCell
+    ensures { result ≡ unmade }
 {
-    Ok(KeptCell::new(PromCounter::owned(alloc)?, 0))
+    KeptCell::new(0)
 }
 
 /// A gauge at 0.
-pub(crate) fn new_gauge(alloc: Global) -> Result<GaugeCell, Memory>
-    ensures { IfOk result (λ made. made ≡ unused made.cell) }
+pub(crate) fn new_gauge() -> GaugeCell
+    ensures { result ≡ unmade }
 {
-    Ok(KeptCell::new(PromGauge::owned(alloc)?, Fixed(0)))
+    KeptCell::new(Fixed(0))
 }
 
 impl Shown for KeptCell<PromCounter> {

@@ -1,6 +1,6 @@
 //! The series by their indices, as lanes find them: counters, then gauges, then histograms, each in order of registration.
 
-ghost use Rattle.std.specs.Prelude.{◌≡◌, ◌+◌, ◌^◌, ◌<◌, length, set, IfOk, OnErr, OnOk, slice_get, true};
+ghost use Rattle.std.specs.Prelude.{◌≡◌, ◌+◌, ◌^◌, ◌<◌, length, set, IfOk, OnErr, slice_get, true};
 ghost use Rattle.metrics_registry.specs.Live.{IsNumbered};
 ghost use mathlib.Core.Option.{some};
 ghost use lib.ListN.{get_elem?};
@@ -9,7 +9,7 @@ ghost use Rattle.cell_lanes.specs.Things.{Thing, TookBack, root_of};
 ghost use Rattle.cell_lanes.specs.Lanes.{SettledAt};
 ghost use Rattle.prom_exporter.specs.declared.lanes.SeriesEntry.{SeriesEntry};
 ghost use Rattle.prom_exporter.specs.declared.lanes.SeriesCell.{SeriesCell};
-ghost use Rattle.prom_exporter.specs.LanePasses.{things_of, frame_of, ids_of, pass_known, IsPassOf, IsIndex, StandsAt};
+ghost use Rattle.prom_exporter.specs.LanePasses.{things_of, frame_of, ids_of, pass_known, IsPassOf, IsIndex, Lasts, StandsAt};
 
 use crate::lanes::LanePass;
 use crate::state::PrometheusState;
@@ -124,11 +124,12 @@ impl PrometheusState {
         self.series.counter_count()
     }
 
-    /// Lends a new pass of the series with this index to a lane.
+    /// Lends a new pass of the series with this index to a lane. A counter's cell, and a gauge's, is made where it wasn't lent before.
     pub(crate) fn lend_to_lane(&mut self, alloc: Global, index: usize) -> Result<LanePass, Memory>
         requires here { index < length (things_of self.old) }
-        ensures lent { IfOk result (λ lent. (t : Thing SeriesEntry SeriesCell) → get_elem? (things_of self.old) index ≡ some t → IsPassOf t.fixed lent × (pass_known lent ≡ child t.root)) }
-        ensures out { OnOk result ((t : Thing SeriesEntry SeriesCell) → get_elem? (things_of self.old) index ≡ some t → things_of self.new ≡ set (things_of self.old) index (record t { root = lender t.root })) }
+        ensures lent { IfOk result (λ lent. (t : Thing SeriesEntry SeriesCell) → get_elem? (things_of self.old) index ≡ some t
+            → (u : Thing SeriesEntry SeriesCell) × (u.root ≡ lender t.root) × Lasts t.fixed u.fixed × IsPassOf u.fixed lent × (pass_known lent ≡ child t.root)
+            × (things_of self.new ≡ set (things_of self.old) index u)) }
         ensures refused { OnErr result (things_of self.new ≡ things_of self.old) }
         ensures frame { frame_of self.new ≡ frame_of self.old }
     {

@@ -24,10 +24,10 @@ pub enum LanePass {
 
 /// The cell of a series, of any kind. Contracts speak of it, and no value of it is made.
 pub enum SeriesCell {
-    /// A counter.
-    Counter(PromCounter),
-    /// A gauge.
-    Gauge(PromGauge),
+    /// A counter, once it was lent.
+    Counter(Option<PromCounter>),
+    /// A gauge, once it was lent.
+    Gauge(Option<PromGauge>),
     /// A histogram.
     Histogram(PromHistogram),
 }
@@ -61,7 +61,7 @@ impl LanePass {
 }
 
 impl Lenders for PrometheusState {
-    ghost use Rattle.prom_exporter.specs.LanePasses.{things_of, frame_of, pass_known, IsPassOf, TakesCall, StandsAsEntries};
+    ghost use Rattle.prom_exporter.specs.LanePasses.{things_of, frame_of, pass_known, IsPassOf, Lasts, TakesCall, StandsAsEntries, lasts_on, lasts_then, owns_on, takes_on};
 
     type Frame = PrometheusState;
 
@@ -80,6 +80,16 @@ impl Lenders for PrometheusState {
     type Call = SeriesCall;
 
     ghost takes = { TakesCall };
+
+    ghost lasts = { Lasts };
+
+    ghost lasts_on = { lasts_on };
+
+    ghost lasts_then = { lasts_then };
+
+    ghost owns_on = { owns_on };
+
+    ghost takes_on = { takes_on };
 
     type Entry = SeriesEntry;
 

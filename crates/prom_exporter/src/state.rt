@@ -32,8 +32,8 @@ use std::marker::Model;
 use std::sync::Wait;
 
 /// The exporter: what it was built with, its series, and what is said of metrics. Each counter and each gauge is a cell that threads
-/// share, and each histogram a queue; the exporter has the root pass of each, lends passes of it and takes them back. It can't be let
-/// go: end it by `end`.
+/// share, which is made when the series is lent for the first time, and each histogram a queue; the exporter has the root pass of each,
+/// lends passes of it and takes them back. It can't be let go: end it by `end`.
 pub struct PrometheusState {
     pub(crate) globals: IndexMap<String, String, HashStart>,
     pub(crate) settings: Settings,
@@ -95,7 +95,7 @@ impl PrometheusState {
     }
 
     /// Registers a counter. Where one with an equal key is live its id is given, no memory is taken, and nothing changes;
-    /// otherwise a new one at 0 goes last. Past 2^64 - 1 series none is made, and the id names none.
+    /// otherwise a new one at 0 goes last, whose cell is made when it is first lent. Past 2^64 - 1 series none is made, and the id names none.
     pub fn register_counter(&mut self, alloc: Global, key: &Key) -> Result<SeriesId, Memory>
         ensures registered { OnOk result (state_of self.new ≡ register Counter key.now (state_of self.old)) }
         ensures cells { OnOk result ((self.new ≡ self.old) ⊎ AddsCounter key.now self.old self.new) }
@@ -126,7 +126,7 @@ impl PrometheusState {
     {
         let number = self.series.made();
         if number < u64::MAX {
-            return self.series.register_counter(key, || new_counter(alloc));
+            return self.series.register_counter(key, || Ok(new_counter()));
         }
         match self.series.find_counter(&key) {
             Some(id) => Ok(id),
@@ -168,7 +168,7 @@ impl PrometheusState {
     {
         let number = self.series.made();
         if number < u64::MAX {
-            return self.series.register_gauge(key, || new_gauge(alloc));
+            return self.series.register_gauge(key, || Ok(new_gauge()));
         }
         match self.series.find_gauge(&key) {
             Some(id) => Ok(id),
@@ -179,8 +179,8 @@ impl PrometheusState {
         }
     }
 
-    /// Lends a counter: its handle, and a new pass that has seen what the exporter has seen and has made no call. Answers
-    /// `None` exactly where no counter with the id is live.
+    /// Lends a counter: its handle, and a new pass that has seen what the exporter has seen and has made no call. The counter's
+    /// cell is made where it was never lent before. Answers `None` exactly where no counter with the id is live.
     pub fn lend_counter(
         &mut self,
         alloc: Global,

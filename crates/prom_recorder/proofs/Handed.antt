@@ -24,11 +24,11 @@ pub lent_counter : (id : SeriesId) (lent : CounterLent) (old new : Exporter) →
 lent_counter id lent old new kind lends =
     let it = lends.3.0 in
     record {
-      cell = lends.0.cell;
+      cell = it.made;
       root = lends.0.root;
       kind = ap (λ (i : SeriesId). i.kind) it.id_is ∙ kind;
       handle = it.handle;
-      fits = counter_fits lent.handle lends.0.cell lent.pass it.handle it.pass;
+      fits = counter_fits lent.handle it.made lent.pass it.handle it.pass;
       knows = it.knows;
     }
 
@@ -49,11 +49,11 @@ pub lent_gauge : (id : SeriesId) (lent : GaugeLent) (old new : Exporter) → id.
 lent_gauge id lent old new kind lends =
     let it = lends.3.0 in
     record {
-      cell = lends.0.cell;
+      cell = it.made;
       root = lends.0.root;
       kind = ap (λ (i : SeriesId). i.kind) it.id_is ∙ kind;
       handle = it.handle;
-      fits = gauge_fits lent.handle lends.0.cell lent.pass it.handle it.pass;
+      fits = gauge_fits lent.handle it.made lent.pass it.handle it.pass;
       knows = it.knows;
     }
 

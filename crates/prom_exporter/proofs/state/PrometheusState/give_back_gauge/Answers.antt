@@ -1,6 +1,12 @@
-use Rattle.std.proofs.Common.{refl, sym, inr}
+use Rattle.std.proofs.Common.{refl, sym, subst, inr}
+use Rattle.prom_exporter.specs.Lending.{LentGauge}
 use Rattle.prom_exporter.proofs.KeptRows.{keys-with_cell, kept_same}
 use Rattle.prom_exporter.proofs.state.PrometheusState.give_back_gauge.Goals as goal
+
+pub take_back-requires-after_bounds : goal.take_back-requires-after_bounds
+take_back-requires-after_bounds c κs =
+    let lent = subst (λ e. LentGauge e c.args.lent) (sym c.self.view_is) c.requires.lent in
+    lent c.in-Some.gauge.now (sym c.in-Some.ensures.value)
 
 pub returns-in-Some : goal.returns-in-Some
 returns-in-Some c = record { taken = rw (← c.self.view_is) (inr (c.in-Some.gauge.now, c.take_back.new.self, sym c.in-Some.ensures.value, c.take_back.ensures, refl)) }

@@ -7,6 +7,7 @@ use Rattle.prom_exporter.specs.Shared.{Shared}
 use Rattle.prom_exporter.specs.Sampled.{Sampled}
 use Rattle.prom_exporter.specs.LanePasses.{StandsAt}
 use Rattle.prom_exporter.specs.contracts.state.PrometheusState.{the_view}
+use Rattle.prom_exporter.specs.Exporter.{SharedGauge}
 use Rattle.prom_exporter.proofs.LaneThings.{gauge_id_got, histogram_id_got}
 use Rattle.prom_exporter.proofs.state.PrometheusState.id_at.Goals as goal
 
@@ -15,7 +16,7 @@ returns-in-Gauge c =
     let at = subst (λ e. StandsAt c.args.index e (places.Gauge c.in-Gauge.place)) (sym c.self.view_is) c.in-Gauge.ensures in
     rw (← c.self.view_is)
     (c.id-in-Gauge.ensures
-    ∙ ap (λ (l : List (LiveSeries (Shared PromGauge))). option_map (λ (s : LiveSeries (Shared PromGauge)). s.id) (slice_get l c.in-Gauge.place)) c.gauges.ensures
+    ∙ ap (λ (l : List (LiveSeries SharedGauge)). option_map (λ (s : LiveSeries SharedGauge). s.id) (slice_get l c.in-Gauge.place)) c.gauges.ensures
     ∙ gauge_id_got (the_view c.self.inside) c.args.index c.in-Gauge.place at)
 
 pub returns-in-Histogram : goal.returns-in-Histogram

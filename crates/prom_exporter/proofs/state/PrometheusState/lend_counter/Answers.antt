@@ -1,5 +1,6 @@
 use Rattle.std.proofs.Common.{Some, refl, sym, ap, ◌∙◌}
 use Rattle.std.proofs.lemmas.Result.{err_from_is_err_and}
+use Rattle.std.specs.Arc.{arc_value}
 use Rattle.prom_format.specs.LabelSets.{labels_of}
 use Rattle.metrics_registry.specs.Live.{with_cell}
 use Rattle.prom_exporter.specs.Builder.{with_globals}
@@ -25,7 +26,7 @@ returns-clause-lent c =
       c.in-Some.counter.now,
       c.lend.new.self,
       sym c.in-Some.ensures.value,
-      (record { id_is = refl; handle = c.from_arc.ensures ∙ ap Some c.in_ok-cell.ensures.lent.0; pass = c.in_ok-cell.ensures.lent.1; knows = c.in_ok-cell.ensures.lent.2 }, c.in_ok-cell.ensures.out),
+      (record { id_is = refl; made = arc_value c.in_ok-cell.cell; cell = c.in_ok-cell.ensures.lent.0; handle = c.from_arc.ensures; pass = c.in_ok-cell.ensures.lent.1; knows = c.in_ok-cell.ensures.lent.2 }, c.in_ok-cell.ensures.out),
       refl,
     )
 

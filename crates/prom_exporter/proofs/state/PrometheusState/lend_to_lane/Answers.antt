@@ -27,15 +27,10 @@ returns-in_ok-counter-in-Counter-clause-lent c =
     let at = subst (λ e. StandsAt c.args.index e (places.Counter c.in-Counter.place)) (sym c.self.view_is) c.in-Counter.ensures in
     rw (← c.self.view_is) (counter_lends (the_view c.self.inside) c.args.index c.in-Counter.place c.counter_at.result.now c.lend_to_lane.new.self c.in_ok-counter-in-Counter.counter at c.counter_at.ensures.value c.in_ok-counter-in-Counter.ensures.lent c.in_ok-counter-in-Counter.ensures.out).0
 
-pub returns-in_ok-counter-in-Counter-clause-out : goal.returns-in_ok-counter-in-Counter-clause-out
-returns-in_ok-counter-in-Counter-clause-out c =
-    let at = subst (λ e. StandsAt c.args.index e (places.Counter c.in-Counter.place)) (sym c.self.view_is) c.in-Counter.ensures in
-    rw (← c.self.view_is) (counter_lends (the_view c.self.inside) c.args.index c.in-Counter.place c.counter_at.result.now c.lend_to_lane.new.self c.in_ok-counter-in-Counter.counter at c.counter_at.ensures.value c.in_ok-counter-in-Counter.ensures.lent c.in_ok-counter-in-Counter.ensures.out).1
-
 pub returns-in_ok-counter-in-Counter-clause-frame : goal.returns-in_ok-counter-in-Counter-clause-frame
 returns-in_ok-counter-in-Counter-clause-frame c =
     let at = subst (λ e. StandsAt c.args.index e (places.Counter c.in-Counter.place)) (sym c.self.view_is) c.in-Counter.ensures in
-    rw (← c.self.view_is) (counter_lends (the_view c.self.inside) c.args.index c.in-Counter.place c.counter_at.result.now c.lend_to_lane.new.self c.in_ok-counter-in-Counter.counter at c.counter_at.ensures.value c.in_ok-counter-in-Counter.ensures.lent c.in_ok-counter-in-Counter.ensures.out).2
+    rw (← c.self.view_is) (counter_lends (the_view c.self.inside) c.args.index c.in-Counter.place c.counter_at.result.now c.lend_to_lane.new.self c.in_ok-counter-in-Counter.counter at c.counter_at.ensures.value c.in_ok-counter-in-Counter.ensures.lent c.in_ok-counter-in-Counter.ensures.out).1
 
 pub invariant_of-self-in_err-gauge-in-Gauge : goal.invariant_of-self-in_err-gauge-in-Gauge
 invariant_of-self-in_err-gauge-in-Gauge c = gauge_cell_kept _ _ c.self.inside.series _ _ _ c.self.invariant c.in-Gauge.place c.lend_to_lane-in-Gauge.new.self
@@ -56,15 +51,10 @@ returns-in_ok-gauge-in-Gauge-clause-lent c =
     let at = subst (λ e. StandsAt c.args.index e (places.Gauge c.in-Gauge.place)) (sym c.self.view_is) c.in-Gauge.ensures in
     rw (← c.self.view_is) (gauge_lends (the_view c.self.inside) c.args.index c.in-Gauge.place c.gauge_at.result.now c.lend_to_lane-in-Gauge.new.self c.in_ok-gauge-in-Gauge.gauge at c.gauge_at.ensures.value c.in_ok-gauge-in-Gauge.ensures.lent c.in_ok-gauge-in-Gauge.ensures.out).0
 
-pub returns-in_ok-gauge-in-Gauge-clause-out : goal.returns-in_ok-gauge-in-Gauge-clause-out
-returns-in_ok-gauge-in-Gauge-clause-out c =
-    let at = subst (λ e. StandsAt c.args.index e (places.Gauge c.in-Gauge.place)) (sym c.self.view_is) c.in-Gauge.ensures in
-    rw (← c.self.view_is) (gauge_lends (the_view c.self.inside) c.args.index c.in-Gauge.place c.gauge_at.result.now c.lend_to_lane-in-Gauge.new.self c.in_ok-gauge-in-Gauge.gauge at c.gauge_at.ensures.value c.in_ok-gauge-in-Gauge.ensures.lent c.in_ok-gauge-in-Gauge.ensures.out).1
-
 pub returns-in_ok-gauge-in-Gauge-clause-frame : goal.returns-in_ok-gauge-in-Gauge-clause-frame
 returns-in_ok-gauge-in-Gauge-clause-frame c =
     let at = subst (λ e. StandsAt c.args.index e (places.Gauge c.in-Gauge.place)) (sym c.self.view_is) c.in-Gauge.ensures in
-    rw (← c.self.view_is) (gauge_lends (the_view c.self.inside) c.args.index c.in-Gauge.place c.gauge_at.result.now c.lend_to_lane-in-Gauge.new.self c.in_ok-gauge-in-Gauge.gauge at c.gauge_at.ensures.value c.in_ok-gauge-in-Gauge.ensures.lent c.in_ok-gauge-in-Gauge.ensures.out).2
+    rw (← c.self.view_is) (gauge_lends (the_view c.self.inside) c.args.index c.in-Gauge.place c.gauge_at.result.now c.lend_to_lane-in-Gauge.new.self c.in_ok-gauge-in-Gauge.gauge at c.gauge_at.ensures.value c.in_ok-gauge-in-Gauge.ensures.lent c.in_ok-gauge-in-Gauge.ensures.out).1
 
 pub invariant_of-self-in_err-histogram-in-Histogram : goal.invariant_of-self-in_err-histogram-in-Histogram
 invariant_of-self-in_err-histogram-in-Histogram c = histogram_cell_kept _ _ c.self.inside.series _ _ _ c.self.invariant c.in-Histogram.place c.histogram_at.result.now c.lend_to_lane-in-Histogram.new.self c.histogram_at.ensures.value (ap (λ (x : Sampled). x.series.kind) c.in_err-histogram-in-Histogram.ensures.refused)
@@ -85,12 +75,7 @@ returns-in_ok-histogram-in-Histogram-clause-lent c =
     let at = subst (λ e. StandsAt c.args.index e (places.Histogram c.in-Histogram.place)) (sym c.self.view_is) c.in-Histogram.ensures in
     rw (← c.self.view_is) (histogram_lends (the_view c.self.inside) c.args.index c.in-Histogram.place c.histogram_at.result.now c.lend_to_lane-in-Histogram.new.self c.in_ok-histogram-in-Histogram.histogram at c.histogram_at.ensures.value c.in_ok-histogram-in-Histogram.ensures.lent c.in_ok-histogram-in-Histogram.ensures.out).0
 
-pub returns-in_ok-histogram-in-Histogram-clause-out : goal.returns-in_ok-histogram-in-Histogram-clause-out
-returns-in_ok-histogram-in-Histogram-clause-out c =
-    let at = subst (λ e. StandsAt c.args.index e (places.Histogram c.in-Histogram.place)) (sym c.self.view_is) c.in-Histogram.ensures in
-    rw (← c.self.view_is) (histogram_lends (the_view c.self.inside) c.args.index c.in-Histogram.place c.histogram_at.result.now c.lend_to_lane-in-Histogram.new.self c.in_ok-histogram-in-Histogram.histogram at c.histogram_at.ensures.value c.in_ok-histogram-in-Histogram.ensures.lent c.in_ok-histogram-in-Histogram.ensures.out).1
-
 pub returns-in_ok-histogram-in-Histogram-clause-frame : goal.returns-in_ok-histogram-in-Histogram-clause-frame
 returns-in_ok-histogram-in-Histogram-clause-frame c =
     let at = subst (λ e. StandsAt c.args.index e (places.Histogram c.in-Histogram.place)) (sym c.self.view_is) c.in-Histogram.ensures in
-    rw (← c.self.view_is) (histogram_lends (the_view c.self.inside) c.args.index c.in-Histogram.place c.histogram_at.result.now c.lend_to_lane-in-Histogram.new.self c.in_ok-histogram-in-Histogram.histogram at c.histogram_at.ensures.value c.in_ok-histogram-in-Histogram.ensures.lent c.in_ok-histogram-in-Histogram.ensures.out).2
+    rw (← c.self.view_is) (histogram_lends (the_view c.self.inside) c.args.index c.in-Histogram.place c.histogram_at.result.now c.lend_to_lane-in-Histogram.new.self c.in_ok-histogram-in-Histogram.histogram at c.histogram_at.ensures.value c.in_ok-histogram-in-Histogram.ensures.lent c.in_ok-histogram-in-Histogram.ensures.out).1

@@ -18,7 +18,7 @@ use Rattle.metric_descriptions.specs.Descriptions.{DescribedText}
 use Rattle.prom_exporter.specs.Naming.{NamingText}
 use Rattle.prom_exporter.specs.Families.{ExporterSettings, counter_suffix}
 use Rattle.prom_exporter.specs.Kept.{FitsSettings, HaveKinds}
-use Rattle.prom_exporter.specs.Exporter.{Exporter, Cells, AreTimely, shown_body}
+use Rattle.prom_exporter.specs.Exporter.{Exporter, Cells, AreTimely, shown_body, SharedCounter, SharedGauge}
 use Rattle.prom_exporter.specs.Rows.{RowsText, kept_block, keys_of, rows_of}
 use Rattle.prom_exporter.specs.Sampled.{Sampled, IsTimely}
 use Rattle.prom_exporter.specs.SampledRows.{sampled_block, HasRowsOf, AreShown}
@@ -39,12 +39,12 @@ page_is : (moment : ℕ) (settings : ExporterSettings) (series : Cells) (said : 
 page_is moment settings series said exporter counters gauges sampled is counted gauged drawn =
     ap (shown_body moment) (sym is) ∙ body-values settings moment said series ∙ sym (λ j. (counted j ++ gauged j) ++ drawn j)
 
-counter_blocks : (naming used : NamingText) (suffix lent : Option (List ℕ)) (globals : List LabelText) (rows : RowsText) (live found : List (LiveSeries (Shared PromCounter))) → used ≡ naming → lent ≡ suffix → rows ≡ rows_of globals (keys_of live) → found ≡ live
+counter_blocks : (naming used : NamingText) (suffix lent : Option (List ℕ)) (globals : List LabelText) (rows : RowsText) (live found : List (LiveSeries SharedCounter)) → used ≡ naming → lent ≡ suffix → rows ≡ rows_of globals (keys_of live) → found ≡ live
     → flat_map (kept_block counter_shown used lent types.Counter rows.label_sets found) rows.families ≡ body_text (value_families naming suffix types.Counter counter_shown globals live)
 counter_blocks naming used suffix lent globals rows live found named given kept same =
     (λ j. flat_map (kept_block counter_shown (named j) (given j) types.Counter (kept j).label_sets (same j)) (kept j).families) ∙ blocks-kept naming suffix counter_shown globals types.Counter live
 
-gauge_blocks : (naming used : NamingText) (globals : List LabelText) (rows : RowsText) (live found : List (LiveSeries (Shared PromGauge))) → used ≡ naming → rows ≡ rows_of globals (keys_of live) → found ≡ live
+gauge_blocks : (naming used : NamingText) (globals : List LabelText) (rows : RowsText) (live found : List (LiveSeries SharedGauge)) → used ≡ naming → rows ≡ rows_of globals (keys_of live) → found ≡ live
     → flat_map (kept_block gauge_shown used None types.Gauge rows.label_sets found) rows.families ≡ body_text (value_families naming None types.Gauge gauge_shown globals live)
 gauge_blocks naming used globals rows live found named kept same =
     (λ j. flat_map (kept_block gauge_shown (named j) None types.Gauge (kept j).label_sets (same j)) (kept j).families) ∙ blocks-kept naming None gauge_shown globals types.Gauge live
