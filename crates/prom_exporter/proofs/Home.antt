@@ -17,8 +17,6 @@ use Rattle.metrics_core.specs.declared.kinds.MetricKind.TheVariants.{Counter, Ga
 use Rattle.prom_format.specs.Names.{sanitized_metric_name}
 use Rattle.prom_exporter.specs.Families.{ExporterSettings, distribution_of}
 use Rattle.prom_exporter.specs.Sampled.{Sampled, IsAtRest, unsampled}
-use Rattle.series_cells.specs.declared.counter.PromCounter.{PromCounter}
-use Rattle.series_cells.specs.declared.gauge.PromGauge.{PromGauge}
 use Rattle.std.proofs.Common.{◌+◌}
 use Rattle.prom_exporter.specs.Exporter.{Cells, Exporter, AllHome, AddsCounter, AddsGauge, AddsHistogram, SharedCounter, SharedGauge}
 

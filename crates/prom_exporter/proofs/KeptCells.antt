@@ -8,11 +8,8 @@ use Rattle.metrics_registry.specs.Live.{LiveSeries}
 use Rattle.metrics_registry.specs.Places.{with_cell_at}
 use Rattle.distributions.specs.Kinds.{DistributionRules}
 use Rattle.prom_format.specs.Names.{sanitized_metric_name}
-use Rattle.series_cells.specs.declared.counter.PromCounter.{PromCounter}
-use Rattle.series_cells.specs.declared.gauge.PromGauge.{PromGauge}
 use Rattle.prom_exporter.specs.Families.{ExporterSettings, distribution_of}
 use Rattle.prom_exporter.specs.Rows.{RowsText, rows_of, keys_of}
-use Rattle.prom_exporter.specs.Shared.{Shared}
 use Rattle.prom_exporter.specs.Sampled.{Sampled}
 use Rattle.prom_exporter.specs.Kept.{KeepsFirst, HaveKinds, IsKept}
 use Rattle.prom_exporter.specs.Exporter.{Cells, SharedCounter, SharedGauge}

@@ -10,9 +10,6 @@ use Rattle.metrics_core.specs.declared.kinds.MetricKind.TheVariants as kinds
 use Rattle.metrics_core.specs.declared.kinds.SeriesId.{SeriesId}
 use Rattle.metrics_core.specs.Kinds.{kind_eq}
 use Rattle.metrics_registry.specs.Live.{LiveSeries, IsBelowAll, Rises, AreOf, IsNumbered}
-use Rattle.series_cells.specs.declared.counter.PromCounter.{PromCounter}
-use Rattle.series_cells.specs.declared.gauge.PromGauge.{PromGauge}
-use Rattle.prom_exporter.specs.Shared.{Shared}
 use Rattle.prom_exporter.specs.Sampled.{Sampled}
 use Rattle.prom_exporter.specs.Exporter.{Exporter, SharedCounter, SharedGauge}
 use Rattle.prom_exporter.specs.LanePasses.{counter_thing, gauge_thing, histogram_thing, things_of, ids_of}

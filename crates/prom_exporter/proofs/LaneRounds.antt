@@ -35,7 +35,6 @@ use Rattle.prom_exporter.specs.declared.lanes.SeriesCell.{SeriesCell}
 use Rattle.prom_exporter.specs.declared.lanes.SeriesCell.TheVariants as cells
 use Rattle.prom_exporter.specs.declared.lanes.SeriesEntry.{SeriesEntry}
 use Rattle.prom_exporter.specs.declared.lanes.SeriesEntry.TheVariants as entry
-use Rattle.prom_exporter.specs.Shared.{Shared}
 use Rattle.prom_exporter.specs.Sampled.{Sampled, calls_known}
 use Rattle.prom_exporter.specs.Exporter.{Exporter}
 use Rattle.prom_exporter.specs.LanePasses.{TakesCall, StandsAsEntries, counter_thing, gauge_thing, histogram_thing, entries_made, pushes_asked, things_of, unseen, unheard_series}

@@ -10,8 +10,6 @@ use Rattle.metrics_core.specs.declared.calls.SeriesCall.{SeriesCall}
 use Rattle.metrics_core.specs.declared.calls.SeriesCall.TheVariants as calls
 use Rattle.metrics_core.specs.declared.kinds.SeriesId.{SeriesId}
 use Rattle.metrics_registry.specs.Live.{LiveSeries}
-use Rattle.series_cells.specs.declared.counter.PromCounter.{PromCounter}
-use Rattle.series_cells.specs.declared.gauge.PromGauge.{PromGauge}
 use Rattle.sample_queue.specs.Series.{pushes, sample_of_call}
 use Rattle.histogram_series.specs.Entries.{TimedCall}
 use Rattle.prom_exporter.specs.declared.indices.Place.{Place}

@@ -59,9 +59,9 @@ impl MadeCell for PromGauge {
     }
 }
 
-/// A series of a kind whose calls are those of series. Its cell is made when it is lent for the first time: nobody can have called
-/// it before. A contract sees it as the cell, if there is one, and what the exporter's own pass knows, which is what that of a new
-/// cell knows where there is none.
+/// A series with a cell of any kind whose calls are those of series. The cell is made when the series is lent for the first time:
+/// nobody can have called it before. A contract sees it as the cell, if it is made, and what the exporter's own pass knows; where it
+/// isn't made that is what the pass of a new cell knows.
 #[derive(Drop)]
 pub(crate) struct KeptCell<C: ValueCell<Call = SeriesCall, Entry = SeriesCall>> {
     owned: Option<OwnedCell<C>>,

@@ -95,7 +95,8 @@ impl PrometheusState {
     }
 
     /// Registers a counter. Where one with an equal key is live its id is given, no memory is taken, and nothing changes;
-    /// otherwise a new one at 0 goes last, whose cell is made when it is first lent. Past 2^64 - 1 series none is made, and the id names none.
+    /// otherwise a new one at 0 goes last, whose cell is made when it is first lent. Past 2^64 - 1 series none is made, and the id
+    /// names none.
     pub fn register_counter(&mut self, alloc: Global, key: &Key) -> Result<SeriesId, Memory>
         ensures registered { OnOk result (state_of self.new ≡ register Counter key.now (state_of self.old)) }
         ensures cells { OnOk result ((self.new ≡ self.old) ⊎ AddsCounter key.now self.old self.new) }

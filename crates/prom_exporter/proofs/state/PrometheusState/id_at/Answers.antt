@@ -1,9 +1,7 @@
 use Rattle.std.proofs.Common.{List, sym, ap, subst, ◌∙◌}
 use Rattle.std.specs.Prelude.{option_map, slice_get}
 use Rattle.metrics_registry.specs.Live.{LiveSeries}
-use Rattle.series_cells.specs.declared.gauge.PromGauge.{PromGauge}
 use Rattle.prom_exporter.specs.declared.indices.Place.TheVariants as places
-use Rattle.prom_exporter.specs.Shared.{Shared}
 use Rattle.prom_exporter.specs.Sampled.{Sampled}
 use Rattle.prom_exporter.specs.LanePasses.{StandsAt}
 use Rattle.prom_exporter.specs.contracts.state.PrometheusState.{the_view}

@@ -9,8 +9,6 @@ use Rattle.metrics_core.proofs.Grown.{grew_none}
 use Rattle.prom_format.specs.LabelSets.{labels_of}
 use Rattle.prom_format.specs.Pages.{body_text}
 use Rattle.metrics_registry.specs.Live.{LiveSeries}
-use Rattle.series_cells.specs.declared.counter.PromCounter.{PromCounter}
-use Rattle.series_cells.specs.declared.gauge.PromGauge.{PromGauge}
 use Rattle.prom_format.specs.declared.families.FamilyType.TheVariants as types
 use Rattle.distributions.specs.Kinds.{DistributionRules}
 use Rattle.prom_exporter.specs.Builder.{with_globals}
@@ -23,7 +21,6 @@ use Rattle.prom_exporter.specs.Rows.{RowsText, kept_block, keys_of, rows_of}
 use Rattle.prom_exporter.specs.Sampled.{Sampled, IsTimely}
 use Rattle.prom_exporter.specs.SampledRows.{sampled_block, HasRowsOf, AreShown}
 use Rattle.prom_exporter.specs.Sending.{IsSent}
-use Rattle.prom_exporter.specs.Shared.{Shared}
 use Rattle.prom_exporter.specs.Values.{counter_shown, gauge_shown, value_families}
 use Rattle.prom_exporter.proofs.KeptRows.{blocks-kept}
 use Rattle.prom_exporter.proofs.Progress.{sent_none, sent_all, sent_prefix}
