@@ -1,13 +1,13 @@
 -- What is read from the front of a line is what stands there, and what stands there is read.
 use Rattle.std.proofs.Common.{◌≡◌, ◌≢◌, ℕ, suc, ◌+◌, ◌-◌, ◌*◌, ◌^◌, ◌<◌, ◌≤◌, Bool, true, false, cond, not, ◌&&◌, leb, List, [], ◌∷◌, ◌++◌, length, get_or, take, drop, Option, Some, None, Result, Ok, Err, refl, sym, ap, subst, ◌∙◌, arith, inl, inr, lit<}
-use Rattle.std.specs.Prelude.{decimal, bytes_eq, position, unwrap_or, MatchOption, MatchResult, IsUtf8}
+use Rattle.std.specs.Prelude.{decimal, bytes_eq, nat_eq, position, unwrap_or, MatchOption, MatchResult, IsUtf8}
 use Rattle.std.specs.Result.{result_ok, OkIff}
 use Rattle.std.specs.Char.{is_ascii_digit, digit_value}
 use Rattle.std.specs.List.{position_or_len}
 use Rattle.std.specs.Str.Parse.{AllDigits, digits_value, digits_value_after, ParsesUnsigned}
 use Rattle.std.proofs.Math.Numerals.{one-add}
 use Rattle.std.proofs.lemmas.Bool.{cases_lt, cases_eq, lt-ltb, le-ltb, le-leb, lt-leb, leb-true, and_parts}
-use Rattle.std.proofs.lemmas.Bool.Decides.{nat_tests}
+use Rattle.std.proofs.lemmas.Bool.Decides.{nat_tests, Decides-eqb}
 use Rattle.std.proofs.lemmas.Fmt.{decimal_is_IsNumeral, decimal_digit, decimal_nonempty, first_decimal, decimal-digits_value, IsAscii-from_digits}
 use Rattle.std.proofs.lemmas.List.{take_at, drop_at, take-append-drop}
 use Rattle.std.proofs.lemmas.List.Sums.{prefix_len-le-length}
@@ -45,6 +45,55 @@ unfolding behind
 behind_again literal rest =
     let same : bytes_eq literal literal ≡ true = (bytes_eq-Decides literal literal).1 refl in
     rw (take_at literal rest (length literal) refl, drop_at literal rest (length literal) refl, same) refl
+
+-- ---- a literal that is held to the bytes one by one
+
+-- all but the first
+abbrev others : List ℕ → List ℕ
+others xs = take (length xs - 1) (drop 1 xs)
+
+others_are : (x : ℕ) (xs : List ℕ) → others (x ∷ xs) ≡ xs
+others_are x xs =
+    let count : length (x ∷ xs) - 1 ≡ length xs = omega arith in
+    ap (λ n. take n xs) count ∙ take_own xs
+  where
+    take_own : (ys : List ℕ) → take (length ys) ys ≡ ys
+    take_own [] = refl
+    take_own (y ∷ ys) = ap (λ l. y ∷ l) (take_own ys)
+
+-- it goes on as the bytes do
+pub behind_goes : (literal bytes : List ℕ) → 0 < length literal → 0 < length bytes → get_or bytes 0 0 ≡ get_or literal 0 0 → behind (others literal) (others bytes) ≡ behind literal bytes
+unfolding behind
+behind_goes [] bytes some more same = absurd (omega (arith, some))
+behind_goes (b ∷ literal) [] some more same = absurd (omega (arith, more))
+behind_goes (b ∷ literal) (c ∷ bytes) some more same = (λ j. behind (others_are b literal j) (others_are c bytes j)) ∙ sym (goes b c literal bytes (sym same))
+  where
+    goes : (x y : ℕ) (xs ys : List ℕ) → x ≡ y → behind (x ∷ xs) (y ∷ ys) ≡ behind xs ys
+    goes x y xs ys same = rw ((Decides-eqb x y).1 same) refl
+
+-- it goes on differently
+pub behind_differs : (literal bytes : List ℕ) → 0 < length literal → 0 < length bytes → (get_or bytes 0 0 ≡ get_or literal 0 0 → ⊥) → behind literal bytes ≡ None
+unfolding behind
+behind_differs [] bytes some more differ = absurd (omega (arith, some))
+behind_differs (b ∷ literal) [] some more differ = absurd (omega (arith, more))
+behind_differs (b ∷ literal) (c ∷ bytes) some more differ = by (nat_eq b c) refl
+  where
+    by : (t : Bool) → nat_eq b c ≡ t → behind (b ∷ literal) (c ∷ bytes) ≡ None
+    by true e = absurd (differ (sym ((Decides-eqb b c).0 e)))
+    by false e = rw e refl
+
+-- the bytes end before it
+pub behind_ends : (literal bytes : List ℕ) → 0 < length literal → length bytes < 1 → behind literal bytes ≡ None
+unfolding behind
+behind_ends [] bytes some none = absurd (omega (arith, some))
+behind_ends (b ∷ literal) [] some none = refl
+behind_ends (b ∷ literal) (c ∷ bytes) some none = absurd (omega (arith, none))
+
+-- it ends
+pub behind_over : (literal bytes : List ℕ) → length literal < 1 → behind literal bytes ≡ Some bytes
+unfolding behind
+behind_over [] bytes none = refl
+behind_over (b ∷ literal) bytes none = absurd (omega (arith, none))
 
 -- ---- numbers
 

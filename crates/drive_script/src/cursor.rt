@@ -110,13 +110,12 @@ impl<'a> Cursor<'a> {
     }
 
     /// Takes a literal.
-    #[tactic(auto, unfolding(crate::specs::Reading::behind))]
     pub(crate) fn literal(&mut self, literal: &[u8]) -> Option<()>
         ensures taken { MatchOption result (behind literal.now self.old.rest.now ≡ None)
             (λ _. behind literal.now self.old.rest.now ≡ Some self.new.rest.now) }
         ensures stays { IfNone result (self.new ≡ self.old) }
     {
-        self.rest = self.rest.strip_prefix(literal)?;
+        self.rest = behind(literal, self.rest)?;
         Some(())
     }
 
@@ -642,6 +641,26 @@ fn digits_behind(begun: u64, bytes: &[u8]) -> Option<(u64, &[u8])>
         rest = behind;
     }
     Some((value, rest))
+}
+
+/// The bytes behind a literal that stands at the front. Literals are short: they are held to the bytes one by one, up to the first
+/// that differs.
+fn behind<'a>(literal: &[u8], bytes: &'a [u8]) -> Option<&'a [u8]>
+    ensures { MatchOption result (behind literal.now bytes.now ≡ None) (λ rest. behind literal.now bytes.now ≡ Some rest.now) }
+{
+    let mut wanted = literal;
+    let mut rest = bytes;
+    while let [byte, others @ ..] = wanted {
+        let [first, past @ ..] = rest else {
+            return None;
+        };
+        if *first != *byte {
+            return None;
+        }
+        wanted = others;
+        rest = past;
+    }
+    Some(rest)
 }
 
 /// The number that the digits are the decimal form of.
