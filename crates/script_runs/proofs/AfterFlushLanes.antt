@@ -1,5 +1,5 @@
 -- What a round of lanes leaves of the DogStatsD exporter: each series after its calls in one order.
-use Rattle.std.proofs.Common.{◌≡◌, ℕ, zero, suc, ◌+◌, ◌<◌, Bool, true, false, List, [], ◌∷◌, ◌++◌, length, map, refl, sym, ap, subst, ◌∙◌, arith}
+use Rattle.std.proofs.Common.{Option, ◌≡◌, ℕ, zero, suc, ◌+◌, ◌<◌, Bool, true, false, List, [], ◌∷◌, ◌++◌, length, map, refl, sym, ap, subst, ◌∙◌, arith}
 use Rattle.std.specs.Prelude.{All, filter, flat_map, option_map, slice_get, unwrap_or}
 use Rattle.std.specs.List.{AllByRecursion, AllZip}
 use Rattle.std.proofs.lemmas.List.{length-map}
@@ -155,8 +155,8 @@ pub its_kind : {X : Type 0} (kind : MetricKind) (n : ℕ) (es : List (LiveSeries
 its_kind kind n es are i s at = kind_at kind n es are i s.id (at_map its_id es i s at)
 
 -- a cell or a gauge stays the series that it was, and so does a histogram
-same_series : {M F : Type 0} (s t : LiveSeries (Thing M F)) → unseen t ≡ unseen s → (t.id ≡ s.id) × (t.key ≡ s.key)
-same_series {M} {F} s t e = (ap (λ (x : LiveSeries (Thing M F)). x.id) e, ap (λ (x : LiveSeries (Thing M F)). x.key) e)
+same_series : {M F : Type 0} (s t : LiveSeries (Thing M (Option F))) → unseen t ≡ unseen s → (t.id ≡ s.id) × (t.key ≡ s.key)
+same_series {M} {F} s t e = (ap (λ (x : LiveSeries (Thing M (Option F))). x.id) e, ap (λ (x : LiveSeries (Thing M (Option F))). x.key) e)
 
 same_histogram : (s t : LiveSeries Queued) → unheard_series t ≡ unheard_series s → (t.id ≡ s.id) × (t.key ≡ s.key)
 same_histogram s t e = (ap (λ (x : LiveSeries Queued). x.id) e, ap (λ (x : LiveSeries Queued). x.key) e)

@@ -273,12 +273,12 @@ made_each one (k ∷ ks) made = (λ i. made.0 i ++ made_each one ks made.1 i)
 -- ---- what a page shows of a series, and what a round of lanes leaves
 
 -- counters and gauges
-abbrev pub value_shows : {F : Type 0} → Shows (Shared F)
+abbrev pub value_shows : {F : Type 0} → Shows (Shared (Option F))
 value_shows {F} = record {
   told = calls_seen;
-  note = λ (cell : Shared F). cell.note;
+  note = λ (cell : Shared (Option F)). cell.note;
   left = unseen;
-  same = λ s t e. (ap (λ (x : LiveSeries (Shared F)). x.id) e, ap (λ (x : LiveSeries (Shared F)). x.key) e, ap (λ (x : LiveSeries (Shared F)). x.cell.note) e);
+  same = λ s t e. (ap (λ (x : LiveSeries (Shared (Option F))). x.id) e, ap (λ (x : LiveSeries (Shared (Option F))). x.key) e, ap (λ (x : LiveSeries (Shared (Option F))). x.cell.note) e);
 }
 
 -- histograms
@@ -325,7 +325,7 @@ module _ (moment : ℕ) (ids handles : List SeriesId) (lines : List CallValue) (
   abbrev own_calls : ℕ → List SeriesCall
   own_calls l = calls_at moment ids handles l j lines
 
-  value_grew : {F : Type 0} (kind : MetricKind) (s t : LiveSeries (Shared F)) (order : List ℕ) → IsOrder order own_calls
+  value_grew : {F : Type 0} (kind : MetricKind) (s t : LiveSeries (Shared (Option F))) (order : List ℕ) → IsOrder order own_calls
       → calls (mapped_log entries.Value t.cell.root.seen) ≡ calls (mapped_log entries.Value s.cell.root.seen) ++ map entries.Value (taken order own_calls) → GrewAt value_shows kind ids handles lines moment j s t
   value_grew kind s t order is grew =
       let images : map entries.Value (calls t.cell.root.seen) ≡ map entries.Value (calls s.cell.root.seen ++ taken order own_calls)
