@@ -29,7 +29,7 @@ fn add_all(bag: &mut Bag, values: &[i64]) -> Result<(), Memory> {
     Ok(())
 }
 
-/// The quantiles of a bag at these numbers of billionths, in one walk.
+/// The quantiles of a bag at these numbers of billionths, in one call.
 fn answers(alloc: Global, bag: &Bag, asked: &[Fixed]) -> Result<Vec<Option<Fixed>>, Memory> {
     let asked = parse_quantiles(alloc, asked)?;
     bag.quantiles(alloc, asked.as_slice())
@@ -62,7 +62,25 @@ fn quantiles_are_the_nearest_ranks(rt: HostRuntime) -> Result<(), Fail> {
     Ok(())
 }
 
-/// The quantiles of a bag at these numbers of billionths, each in a walk of its own.
+/// The numbers from -500 to 499, in an order that neither rises nor falls.
+fn scattered(alloc: Global) -> Result<Vec<i64>, Memory> {
+    let mut values = Vec::new(alloc);
+    for place in 0..1_000u32 {
+        values.push(i64::from(place * 389 % 1_000) - 500)?;
+    }
+    Ok(values)
+}
+
+#[test]
+fn quantiles_of_a_thousand_values_are_the_nearest_ranks(rt: HostRuntime) -> Result<(), Fail> {
+    let values = scattered(rt.alloc())?;
+    let answers = quantiles_of(rt.alloc(), values.as_slice())?;
+    let expected = [-500, -1, 399, 499].map(|value| Some(Fixed(value)));
+    assert_eq!(rt; answers.as_slice(), expected.as_slice());
+    Ok(())
+}
+
+/// The quantiles of a bag at these numbers of billionths, each in a call of its own.
 fn single_answers(alloc: Global, bag: &Bag, asked: &[Fixed]) -> Result<Vec<Option<Fixed>>, Memory> {
     let mut answers = Vec::new(alloc);
     for quantile in parse_quantiles(alloc, asked)? {
@@ -71,7 +89,7 @@ fn single_answers(alloc: Global, bag: &Bag, asked: &[Fixed]) -> Result<Vec<Optio
     Ok(answers)
 }
 
-/// The quantiles 1, 0, 0.9, 0.5 and 0.9 of values, in one walk, and whether they are those in a walk of each.
+/// The quantiles 1, 0, 0.9, 0.5 and 0.9 of values, in one call, and whether they are those in a call of each.
 fn mixed(alloc: Global, values: &[i64]) -> Result<(Vec<Option<Fixed>>, bool), Memory> {
     let mut bag = Bag::new(alloc);
     add_all(&mut bag, values)?;
@@ -83,7 +101,7 @@ fn mixed(alloc: Global, values: &[i64]) -> Result<(Vec<Option<Fixed>>, bool), Me
 }
 
 #[test]
-fn quantiles_in_any_order_are_those_of_single_walks(rt: HostRuntime) -> Result<(), Fail> {
+fn quantiles_in_any_order_are_those_of_single_calls(rt: HostRuntime) -> Result<(), Fail> {
     for (values, expected) in [
         ([].as_slice(), [None, None, None, None, None]),
         (

@@ -91,7 +91,7 @@ fn push_last_bucket(buffer: &mut String, name: &str, labels: &str, count: u64) -
 }
 
 /// Appends the rows of a summary: its quantiles over the window at a moment, and the sum and the number of all samples. The
-/// values of the window are walked once for all quantiles.
+/// values of the window are gathered once for all quantiles.
 fn push_summary(
     buffer: &mut String,
     name: &str,

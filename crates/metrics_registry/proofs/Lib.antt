@@ -5,7 +5,7 @@ pub mod NumberedKeys
 pub mod StoredSeries
 pub mod Observed
 pub mod Bagged
-pub mod Ranked
+pub mod Chunked
 pub mod Registered
 pub mod RetainedSeries
 pub mod IdTests

@@ -15,8 +15,8 @@ pub mod Quantiles
 pub mod Cumulative
 pub mod Buckets
 pub mod Bags
+pub mod Chunks
 pub mod Reservoirs
-pub mod Ranks
 pub mod QuantileLaws
 pub mod RetainedLaws
 pub mod Vectors

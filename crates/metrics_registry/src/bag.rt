@@ -1,19 +1,14 @@
 //! Bags of values, for quantiles.
 
-ghost use Rattle.std.specs.Prelude.{◌≡◌, ℤ, ◌+◌, ◌-◌, ◌^◌, ◌≤◌, ◌<◌, [], ◌++◌, length, map, replicate, slice_get, option_map, IsErr, IfOk, OnOk, OnErr, if◌then◌else◌};
-ghost use Rattle.std.specs.List.{All};
-ghost use Rattle.std.specs.Ordering.{int_cmp, int_eq};
-ghost use Rattle.std.specs.BTreeMap.{IsOrdered};
+ghost use Rattle.std.specs.Prelude.{◌≡◌, ◌+◌, ◌^◌, ◌≤◌, [], ◌++◌, length, map, replicate, option_map, IsErr, IfOk, OnOk, OnErr};
 ghost use Rattle.metrics_core.specs.Fixed.{of_billionths};
 ghost use Rattle.metrics_core.specs.Numbers.{one};
 ghost use Rattle.metrics_registry.specs.Quantiles.{ascending, rank, nearest_rank};
-ghost use Rattle.metrics_registry.specs.Bags.{copies, repeated};
 
 use crate::Quantile;
-use crate::ranks::values_at;
+use crate::chunks::{Chunk, add_all, raise, value_at};
 use metrics_core::{BILLIONTHS, Fixed, Memory};
 use std::alloc::Global;
-use std::collections::BTreeMap;
 use std::marker::Model;
 
 const ONE: u128 = BILLIONTHS as u128;
@@ -22,23 +17,24 @@ const ONE: u128 = BILLIONTHS as u128;
 /// each distinct value once, however often the value is there.
 #[derive(Drop)]
 pub struct Bag {
-    /// From each value, in billionths, to how often it is there.
-    counts: BTreeMap<i64, u64>,
+    /// How often each value is there.
+    chunks: Vec<Chunk>,
     /// How many values there are.
     count: u64,
     alloc: Global,
 }
 
 impl Model for Bag {
-    ghost use Rattle.std.specs.Prelude.{◌≡◌, List, ℤ, length};
+    ghost use Rattle.std.specs.Prelude.{List, ℤ};
     ghost use Rattle.metrics_registry.specs.Quantiles.{ascending};
     ghost use Rattle.metrics_registry.specs.Bags.{repeated};
+    ghost use Rattle.metrics_registry.specs.Chunks.{HasValues, entries_of};
 
     ghost Value = { List ℤ };
 
-    ghost view = { λ bag. ascending (repeated bag.counts.entries) };
+    ghost view = { λ bag. ascending (repeated (entries_of bag.chunks.items)) };
 
-    ghost invariant = { λ bag. bag.count ≡ length (repeated bag.counts.entries) };
+    ghost invariant = { λ bag. HasValues bag.count bag.chunks.items };
 }
 
 impl Bag {
@@ -47,7 +43,7 @@ impl Bag {
         ensures { result ≡ [] }
     {
         Bag {
-            counts: BTreeMap::new(alloc),
+            chunks: Vec::new(alloc),
             count: 0,
             alloc,
         }
@@ -62,7 +58,7 @@ impl Bag {
         let Some(total) = self.count.checked_add(count) else {
             return Err(Memory);
         };
-        raise(&mut self.counts, value.0, count)?;
+        raise(self.alloc, &mut self.chunks, value.0, count)?;
         self.count = total;
         Ok(())
     }
@@ -77,32 +73,32 @@ impl Bag {
         let Some(total) = self.count.checked_add(other.count) else {
             return Err(Memory);
         };
-        let mut merged = BTreeMap::new(self.alloc);
-        add_all(&mut merged, &self.counts)?;
-        add_all(&mut merged, &other.counts)?;
-        self.counts = merged;
+        let mut merged = Vec::new(self.alloc);
+        add_all(self.alloc, &mut merged, self.chunks.as_slice())?;
+        add_all(self.alloc, &mut merged, other.chunks.as_slice())?;
+        self.chunks = merged;
         self.count = total;
         Ok(())
     }
 
     /// The bag with all values of another bag added in place. It takes time linear in the other bag's distinct values, each
-    /// with one descent of the tree, and memory for those that are new. It is refused, and the bag is gone, also where it
-    /// would hold 2^64 values or more.
+    /// with one search, and memory for those that are new. It is refused, and the bag is gone, also where it would hold 2^64
+    /// values or more.
     pub fn merged_with(self, other: &Bag) -> Result<Bag, Memory>
         ensures merged { IfOk result (λ bag. bag ≡ ascending (self ++ other.now)) }
         ensures full { 2 ^ 64 ≤ length self + length other.now → IsErr result }
     {
         let Bag {
-            mut counts,
+            mut chunks,
             count,
             alloc,
         } = self;
         let Some(total) = count.checked_add(other.count) else {
             return Err(Memory);
         };
-        add_all(&mut counts, &other.counts)?;
+        add_all(alloc, &mut chunks, other.chunks.as_slice())?;
         Ok(Bag {
-            counts,
+            chunks,
             count: total,
             alloc,
         })
@@ -116,15 +112,14 @@ impl Bag {
     }
 
     /// The value at a quantile by the nearest rank: that of rank q * n rounded up, at least 1, among the n values in
-    /// ascending order. It is `None` exactly where the bag is empty. It takes time linear in the distinct values.
+    /// ascending order. It is `None` exactly where the bag is empty. It goes over the chunks, and over the values of one chunk.
     pub fn quantile(&self, q: &Quantile) -> Option<Fixed>
         ensures { result ≡ option_map of_billionths (nearest_rank q.now self.now) }
     {
-        value_at(&self.counts, rank_of(q.billionths(), self.count))
+        value_at(self.chunks.as_slice(), rank_of(q.billionths(), self.count))
     }
 
-    /// The values at several quantiles, in any order, each as `quantile` answers it, in one walk over the distinct values. It
-    /// takes time linear in these, and in the quantiles with their logarithm, and memory for the quantiles alone.
+    /// The values at several quantiles, in any order, each as `quantile` answers it.
     pub fn quantiles(
         &self,
         alloc: Global,
@@ -133,8 +128,7 @@ impl Bag {
         ensures { IfOk result (λ values. values.items
             ≡ map (λ q. option_map of_billionths (nearest_rank q self.now)) quantiles.now) }
     {
-        let ranks = ranks_of(alloc, quantiles, self.count)?;
-        values_at(alloc, &self.counts, ranks.as_slice())
+        Ok(quantiles.iter().map(|q| self.quantile(q)).collect(alloc)?)
     }
 }
 
@@ -145,58 +139,4 @@ fn rank_of(billionths: u32, count: u64) -> u64
 {
     let rounded = (u128::from(billionths) * u128::from(count) + ONE - 1) / ONE;
     (rounded as u64).max(1)
-}
-
-/// The ranks of quantiles among so many values.
-fn ranks_of(alloc: Global, quantiles: &[Quantile], count: u64) -> Result<Vec<u64>, Memory>
-    ensures ranks { IfOk result (λ ranks. ranks.items ≡ map (λ q. rank q count) quantiles.now) }
-    ensures least { IfOk result (λ ranks. All (λ rank. 1 ≤ rank) ranks.items) }
-{
-    Ok(
-        quantiles
-            .iter()
-            .map(|q| rank_of(q.billionths(), count))
-            .collect(alloc)?,
-    )
-}
-
-/// Raises the count of a value, in one descent of the tree.
-fn raise(counts: &mut BTreeMap<i64, u64>, value: i64, count: u64) -> Result<(), Memory>
-    requires { copies value counts.old.entries + count < 2 ^ 64 }
-    ensures raised { OnOk result ((v : ℤ) → copies v counts.new.entries
-        ≡ copies v counts.old.entries + (if int_eq v value then count else 0)) }
-    ensures refused { OnErr result (counts.new.entries ≡ counts.old.entries) }
-{
-    *counts.entry(value)?.or_insert(0) += count;
-    Ok(())
-}
-
-/// Adds all counts of one map to those of another. After a refusal some of them were added.
-fn add_all(counts: &mut BTreeMap<i64, u64>, others: &BTreeMap<i64, u64>) -> Result<(), Memory>
-    requires { (v : ℤ) → copies v counts.old.entries + copies v others.now.entries < 2 ^ 64 }
-    ensures { OnOk result ((v : ℤ) → copies v counts.new.entries
-        ≡ copies v counts.old.entries + copies v others.now.entries) }
-{
-    for (value, count) in others {
-        raise(counts, *value, *count)?;
-    }
-    Ok(())
-}
-
-/// The value at a rank, counted from 1, among all values in ascending order.
-fn value_at(counts: &BTreeMap<i64, u64>, rank: u64) -> Option<Fixed>
-    requires { 1 ≤ rank }
-    ensures value { result ≡ option_map of_billionths (slice_get (repeated counts.now.entries) (rank - 1)) }
-    ensures ordered { IsOrdered int_cmp counts.now }
-{
-    // `len` is called for its clause that the map is in order.
-    let _len = counts.len();
-    let mut left = rank;
-    for (value, count) in counts {
-        if left <= *count {
-            return Some(Fixed(*value));
-        }
-        left -= *count;
-    }
-    None
 }

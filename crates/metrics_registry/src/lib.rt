@@ -8,6 +8,7 @@
 #![tactic(auto)]
 
 mod bag;
+mod chunks;
 mod columns;
 mod cumulative;
 mod key_list;
@@ -15,7 +16,6 @@ mod key_runs;
 mod laws;
 mod numbered_keys;
 mod quantiles;
-mod ranks;
 mod recency;
 mod registry;
 mod reservoir;

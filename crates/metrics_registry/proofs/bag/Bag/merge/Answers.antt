@@ -1,36 +1,63 @@
-use Rattle.std.proofs.Common.{◌≡◌, ◌++◌, length, ap, ◌∙◌, arith, length-append}
+use Rattle.std.proofs.Common.{◌≡◌, ◌+◌, ◌++◌, length, ap, ◌∙◌, arith}
+use Rattle.std.specs.Prelude.{ℤ}
 use Rattle.metrics_registry.specs.Quantiles.{ascending}
-use Rattle.metrics_registry.specs.Bags.{repeated}
+use Rattle.metrics_registry.specs.Bags.{repeated, copies}
+use Rattle.metrics_registry.specs.Chunks.{entries_of}
 use Rattle.metrics_registry.specs.QuantileLaws.{length-ascending}
-use Rattle.metrics_registry.proofs.Bagged.{ascending-both, copies-own, length-from, copies-length}
+use Rattle.metrics_registry.proofs.Bagged.{ascending-merged, length-merged}
 use Rattle.metrics_registry.proofs.bag.Bag.merge.Goals as goal
+use Rattle.metrics_registry.proofs.bag.Bag.merge.Goals.{In_ok-add_all, In_ok-add_all-2}
 
-pub add_all-requires-2 : goal.add_all-requires-2
-add_all-requires-2 c = λ v.
+-- the bag's own values, added to none
+own : (c : In_ok-add_all) → (v : ℤ) → copies v (entries_of c.add_all.new.chunks.items) ≡ copies v (entries_of c.self.inside.chunks.items)
+own c v =
+    omega (arith, c.in_ok-add_all.ensures.added v, ap (λ l. copies v (entries_of l)) c.new-merged.ensures.items, ap (λ l. copies v (entries_of l)) c.as_slice.ensures.value)
+
+-- and then those of the other bag
+both : (c : In_ok-add_all-2) → ((v : ℤ) → copies v (entries_of c.add_all.new.chunks.items) ≡ copies v (entries_of c.self.inside.chunks.items))
+    → (v : ℤ) → copies v (entries_of c.add_all-2.new.chunks.items) ≡ copies v (entries_of c.self.inside.chunks.items) + copies v (entries_of c.other.inside.chunks.items)
+both c first v =
+    omega (arith, c.in_ok-add_all-2.ensures.added v, first v, ap (λ l. copies v (entries_of l)) c.as_slice-2.ensures.value)
+
+pub add_all-requires-2-clause-fits : goal.add_all-requires-2-clause-fits
+add_all-requires-2-clause-fits c =
     omega (
       arith,
-      copies-own c.self.inside.counts.entries c.new-merged.result.entries c.add_all.new.counts.entries c.new-merged.ensures.empty c.in_ok-add_all.ensures v,
-      copies-length v c.self.inside.counts.entries,
-      copies-length v c.other.inside.counts.entries,
-      c.self.invariant,
-      c.other.invariant,
+      length-merged (entries_of c.new-merged.result.items) (entries_of c.as_slice.result.now) (entries_of c.add_all.new.chunks.items) c.in_ok-add_all.ensures.added,
+      ap (λ l. length (repeated (entries_of l))) c.new-merged.ensures.items,
+      ap (λ l. length (repeated (entries_of l))) c.as_slice.ensures.value,
+      ap (λ l. length (repeated (entries_of l))) c.as_slice-2.ensures.value,
+      c.self.invariant.counted,
+      c.other.invariant.counted,
       c.in-Some.ensures,
     )
 
 pub invariant_of-self : goal.invariant_of-self
 invariant_of-self c =
-    let mine = repeated c.self.inside.counts.entries in
-    let others = repeated c.other.inside.counts.entries in
-    let new = repeated c.add_all-2.new.counts.entries in
-    let both = ascending-both c.self.inside.counts.entries c.other.inside.counts.entries c.new-merged.result.entries c.add_all.new.counts.entries c.add_all-2.new.counts.entries c.new-merged.ensures.empty c.in_ok-add_all.ensures c.in_ok-add_all-2.ensures in
-    let long : length new ≡ length (ascending mine ++ ascending others) = length-from new (ascending mine ++ ascending others) both in
-    omega (arith, long, length-append (ascending mine) (ascending others), length-ascending mine, length-ascending others, c.self.invariant, c.other.invariant, c.in-Some.ensures)
+    let at = goal.at.invariant_of-self c in
+    record {
+      ordered = c.add_all-2.ensures.ordered;
+      counted = omega (arith, length-merged (entries_of c.self.inside.chunks.items) (entries_of c.other.inside.chunks.items) (entries_of c.add_all-2.new.chunks.items) (both at.In_ok-add_all-2 (own at.In_ok-add_all)), c.self.invariant.counted, c.other.invariant.counted, c.in-Some.ensures);
+    }
 
 pub returns-clause-merged : goal.returns-clause-merged
 returns-clause-merged c =
-    ascending-both c.self.inside.counts.entries c.other.inside.counts.entries c.new-merged.result.entries c.add_all.new.counts.entries c.add_all-2.new.counts.entries c.new-merged.ensures.empty c.in_ok-add_all.ensures c.in_ok-add_all-2.ensures
+    let at = goal.at.returns-clause-merged c in
+    ascending-merged (entries_of c.self.inside.chunks.items) (entries_of c.other.inside.chunks.items) (entries_of c.add_all-2.new.chunks.items) (both at.In_ok-add_all-2 (own at.In_ok-add_all))
     ∙ (λ j. ascending (c.self.view_is j ++ c.other.view_is j))
 
 pub returns-clause-full : goal.returns-clause-full
 returns-clause-full c full =
-    absurd (omega (arith, full, ap length c.self.view_is, length-ascending (repeated c.self.inside.counts.entries), c.self.invariant, ap length c.other.view_is, length-ascending (repeated c.other.inside.counts.entries), c.other.invariant, c.in-Some.ensures))
+    absurd (
+    omega (
+      arith,
+      full,
+      ap length c.self.view_is,
+      length-ascending (repeated (entries_of c.self.inside.chunks.items)),
+      c.self.invariant.counted,
+      ap length c.other.view_is,
+      length-ascending (repeated (entries_of c.other.inside.chunks.items)),
+      c.other.invariant.counted,
+      c.in-Some.ensures,
+    )
+    )
