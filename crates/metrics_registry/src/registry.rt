@@ -7,13 +7,15 @@ ghost use Rattle.metrics_core.specs.declared.kinds.MetricKind.TheVariants.{Count
 ghost use Rattle.metrics_registry.specs.Live.{RegistryText, IsNumbered, MadeCounterLast, MadeGaugeLast, MadeHistogramLast, RegistersCounter, RegistersGauge, RegistersHistogram, id_of_key, cell_of, is_live, with_last, without};
 ghost use Rattle.metrics_registry.specs.Places.{IsPlace};
 ghost use Rattle.metrics_registry.specs.Retained.{Retains};
+ghost use Rattle.metrics_registry.specs.Changed.{TakesCells, ChangesCells};
 
 use crate::columns::{Column, SeriesIter};
 use crate::key_list::KeyList;
 use hash_starts::HashStart;
 use metrics_core::{Key, Memory, MetricKind, SeriesId};
 use std::alloc::Global;
-use std::marker::Model;
+use std::marker::{Model, Send, Sync};
+use std::thread::Threads;
 
 /// The live series of a state: those of each kind in order of registration, each with its id, its key and its cell.
 /// Numbers of ids count all series that were ever made in it, whatever their kind. Look-ups by a key take constant time,
@@ -499,6 +501,24 @@ impl<C: Drop, G: Drop, H: Drop> Registry<C, G, H> {
         ensures others { self.new ≡ record self.old { histograms = self.new.histograms } }
     {
         self.histograms.retain(&mut self.histogram_keys, keep);
+    }
+
+    /// Calls a function with the cell of each histogram, side by side in at most so many threads. Each keeps its place, its
+    /// id and its key.
+    pub fn change_histograms<R: Threads + Sync, F: Fn(&mut H) + Sync>(
+        &mut self,
+        rt: &R,
+        threads: usize,
+        change: &F,
+    )
+    where
+        H: Send,
+        requires threads { 0 < threads }
+        requires callable { TakesCells F.Fn change.now self.old.histograms }
+        ensures changed { ChangesCells F.Fn change.now self.old.histograms self.new.histograms }
+        ensures others { self.new ≡ record self.old { histograms = self.new.histograms } }
+    {
+        self.histograms.change_cells(rt, threads, change);
     }
 
     /// The live histograms, in order of registration.
