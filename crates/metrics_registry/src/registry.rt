@@ -1,6 +1,6 @@
 //! The live series of one state, by kind, and how many were ever made.
 
-ghost use Rattle.std.specs.Prelude.{◌≡◌, ◌+◌, ◌-◌, ◌^◌, ◌<◌, [], length, slice_get, option_map, Some, None, Ok, IsOk, OnOk, IfOk, OnErr, IfErr};
+ghost use Rattle.std.specs.Prelude.{◌≡◌, ◌+◌, ◌-◌, ◌^◌, ◌<◌, [], length, slice_get, option_map, map, Some, None, Ok, IsOk, OnOk, IfOk, OnErr, IfErr};
 ghost use Rattle.std.specs.Option.{option_copied, option_copied_mut};
 ghost use Rattle.std.specs.Borrow.{sem};
 ghost use Rattle.metrics_core.specs.declared.kinds.MetricKind.TheVariants.{Counter, Gauge, Histogram};
@@ -237,6 +237,13 @@ impl<C: Drop, G: Drop, H: Drop> Registry<C, G, H> {
         self.counters.retain(&mut self.counter_keys, keep);
     }
 
+    /// The keys of the live counters, in order of registration.
+    pub fn counter_keys(&self) -> &[Key]
+        ensures { result.now ≡ map (λ series. series.key) self.now.counters }
+    {
+        self.counter_keys.as_slice()
+    }
+
     /// The live counters, in order of registration.
     pub fn counters(&self) -> SeriesIter<'_, C>
         ensures { result ≡ self.now.counters }
@@ -367,6 +374,13 @@ impl<C: Drop, G: Drop, H: Drop> Registry<C, G, H> {
         ensures others { self.new ≡ record self.old { gauges = self.new.gauges } }
     {
         self.gauges.retain(&mut self.gauge_keys, keep);
+    }
+
+    /// The keys of the live gauges, in order of registration.
+    pub fn gauge_keys(&self) -> &[Key]
+        ensures { result.now ≡ map (λ series. series.key) self.now.gauges }
+    {
+        self.gauge_keys.as_slice()
     }
 
     /// The live gauges, in order of registration.

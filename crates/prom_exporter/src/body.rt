@@ -13,8 +13,22 @@ use crate::state::PrometheusState;
 use metrics_core::{Sink, write_whole};
 use prom_format::FamilyType;
 use std::alloc::Global;
+use std::thread::Threads;
 
 impl PrometheusState {
+    /// Prepares the rows of counters and gauges that were registered since the last page, each kind's label sets beside its
+    /// families.
+    pub(crate) fn prepare_rows<R: Threads + Sync>(&mut self, rt: &R, alloc: Global)
+        ensures same { self.new ≡ self.old }
+    {
+        let keys = self.series.counter_keys();
+        self.counter_rows
+            .catch_up_beside(rt, alloc, keys, &self.globals);
+        let keys = self.series.gauge_keys();
+        self.gauge_rows
+            .catch_up_beside(rt, alloc, keys, &self.globals);
+    }
+
     /// Writes the body of the families that the exporter shows at a moment, as it is.
     pub(crate) fn write_body<K: Sink>(
         &mut self,
