@@ -15,6 +15,7 @@ mod driving;
 mod examples;
 mod flushes;
 mod gates;
+mod guesses;
 mod lane_tasks;
 mod lanes;
 mod page;

@@ -14,6 +14,7 @@ ghost use Rattle.script_runs.specs.Timely.{RiseFrom};
 
 use crate::flushes::{Flushes, lines_exporter};
 use crate::gates::GateHook;
+use crate::guesses::Guesses;
 use crate::lanes::{LineRoom, keep_rooms, lanes_of};
 use crate::page::write_both;
 use crate::set_up::{SetupCounts, lines_for_flushes, set_up_both};
@@ -81,11 +82,11 @@ pub struct Player {
     /// The series on the pages.
     pub handles: Vec<SeriesId>,
     /// For each handle, where to look for its series first.
-    pub guesses: Vec<u32>,
+    pub guesses: Guesses,
     /// The series in the flushes.
     pub line_handles: Vec<SeriesId>,
     /// For each of these handles, where to look for its series first.
-    pub line_guesses: Vec<u32>,
+    pub line_guesses: Guesses,
     pub flushes: Flushes,
     /// What the lanes of the next round put their lines in.
     pub rooms: Vec<LineRoom>,
@@ -144,9 +145,9 @@ impl Player {
                     dogstatsd,
                 },
                 handles: Vec::new(alloc),
-                guesses: Vec::new(alloc),
+                guesses: Guesses::new(alloc),
                 line_handles: Vec::new(alloc),
-                line_guesses: Vec::new(alloc),
+                line_guesses: Guesses::new(alloc),
                 flushes,
                 rooms: Vec::new(alloc),
             }),
@@ -352,9 +353,9 @@ impl Player {
             alloc,
             &self.exporters,
             &self.handles,
-            &mut self.guesses,
+            &mut self.guesses.places,
             &self.line_handles,
-            &mut self.line_guesses,
+            &mut self.line_guesses.places,
             moment,
             &calls,
             &mut self.rooms,

@@ -9,6 +9,7 @@ ghost use Rattle.script_runs.specs.Play.{setup_step};
 ghost use Rattle.script_runs.specs.Player.{lines_state, rows_state};
 ghost use Rattle.script_runs.specs.Resting.{AllRest};
 
+use crate::guesses::Guesses;
 use drive_script::Setup;
 use dsd_exporter::State;
 use exporter_lanes::Exporters;
@@ -56,10 +57,10 @@ pub(crate) fn set_up_both<R: Threads + Wait + Sync>(
     alloc: Global,
     exporters: &mut Exporters,
     line_handles: &mut Vec<SeriesId>,
-    line_guesses: &mut Vec<u32>,
+    line_guesses: &mut Guesses,
     copies: &mut Vec<Setup>,
     handles: &mut Vec<SeriesId>,
-    guesses: &mut Vec<u32>,
+    guesses: &mut Guesses,
     setup: &mut Vec<Setup>,
 ) -> Result<(), Memory>
     ensures settings { exporters.new.prometheus.settings ≡ exporters.old.prometheus.settings }
@@ -99,11 +100,11 @@ fn set_up_beside<R: Threads + Wait + Sync>(
     alloc: Global,
     lines: &mut State,
     line_handles: &mut Vec<SeriesId>,
-    line_guesses: &mut Vec<u32>,
+    line_guesses: &mut Guesses,
     copies: &mut Vec<Setup>,
     pages: &mut PrometheusState,
     handles: &mut Vec<SeriesId>,
-    guesses: &mut Vec<u32>,
+    guesses: &mut Guesses,
     setup: &mut Vec<Setup>,
 ) -> Result<(), Memory>
     ensures settings { pages.new.settings ≡ pages.old.settings }
@@ -131,7 +132,7 @@ pub(crate) fn set_up_lines<R>(
     alloc: Global,
     lines: &mut State,
     handles: &mut Vec<SeriesId>,
-    guesses: &mut Vec<u32>,
+    guesses: &mut Guesses,
     setup: &mut Vec<Setup>,
 ) -> Result<(), Memory>
     ensures settings { lines.new.settings ≡ lines.old.settings }
@@ -152,7 +153,7 @@ fn set_up_line(
     alloc: Global,
     lines: &mut State,
     handles: &mut Vec<SeriesId>,
-    guesses: &mut Vec<u32>,
+    guesses: &mut Guesses,
     line: Setup,
 ) -> Result<(), Memory>
     ensures settings { lines.new.settings ≡ lines.old.settings }
@@ -171,7 +172,7 @@ fn register_line(
     alloc: Global,
     lines: &mut State,
     handles: &mut Vec<SeriesId>,
-    guesses: &mut Vec<u32>,
+    guesses: &mut Guesses,
     kind: MetricKind,
     key: Key,
 ) -> Result<(), Memory>
@@ -186,7 +187,7 @@ fn register_line(
         MetricKind::Histogram => lines.register_owned_histogram(alloc, key)?,
     };
     handles.push(id)?;
-    guesses.push(0)?;
+    guesses.push(kind)?;
     Ok(())
 }
 
@@ -196,7 +197,7 @@ pub(crate) fn set_up_rows<R: Wait>(
     alloc: Global,
     pages: &mut PrometheusState,
     handles: &mut Vec<SeriesId>,
-    guesses: &mut Vec<u32>,
+    guesses: &mut Guesses,
     setup: &mut Vec<Setup>,
 ) -> Result<(), Memory>
     ensures settings { pages.new.settings ≡ pages.old.settings }
@@ -217,7 +218,7 @@ fn set_up_row<R: Wait>(
     alloc: Global,
     pages: &mut PrometheusState,
     handles: &mut Vec<SeriesId>,
-    guesses: &mut Vec<u32>,
+    guesses: &mut Guesses,
     line: Setup,
 ) -> Result<(), Memory>
     ensures settings { pages.new.settings ≡ pages.old.settings }
@@ -263,7 +264,7 @@ fn register_row(
     alloc: Global,
     pages: &mut PrometheusState,
     handles: &mut Vec<SeriesId>,
-    guesses: &mut Vec<u32>,
+    guesses: &mut Guesses,
     kind: MetricKind,
     key: Key,
 ) -> Result<(), Memory>
@@ -277,7 +278,7 @@ fn register_row(
         MetricKind::Histogram => pages.register_owned_histogram(alloc, key)?,
     };
     handles.push(id)?;
-    guesses.push(0)?;
+    guesses.push(kind)?;
     Ok(())
 }
 

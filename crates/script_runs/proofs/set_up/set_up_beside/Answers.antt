@@ -1,10 +1,10 @@
-use denote.Builtin.{u32}
 use denote.Exit.{no}
-use denote.Param.Send.{arg_send, mut_send, param_send, sendable, shr_send}
+use denote.Param.Send.{arg_send, mut_send, param_send, shr_send}
 use Rattle.std.proofs.Common.{[], ◌∷◌}
 use Rattle.std.proofs.Crossing.{Vec-send}
 use Rattle.metrics_core.proofs.kinds.SeriesId.TheSendSync as ids
 use Rattle.drive_script.proofs.script.Setup.TheSendSync as setups
+use Rattle.script_runs.proofs.guesses.Guesses.TheSendSync as guesses
 use Rattle.script_runs.proofs.Crossing.{alloc-lent, closure-send, lines-lent}
 use Rattle.script_runs.proofs.set_up.set_up_beside.Lts.{arg-0-1}
 use Rattle.script_runs.proofs.set_up.set_up_beside.Goals as goal
@@ -15,6 +15,6 @@ join_mut-first-requires-send-F g c κs within =
       shr_send _ _ _ c.type_bounds.sync-R,
       (
         alloc-lent _ _,
-        (lines-lent _ _, (mut_send _ _ _ (Vec-send _ ids.the_send), (mut_send _ _ _ (Vec-send u32 (search sendable)), (mut_send _ _ _ (Vec-send _ setups.the_send), tt)))),
+        (lines-lent _ _, (mut_send _ _ _ (Vec-send _ ids.the_send), (mut_send _ _ _ guesses.the_send, (mut_send _ _ _ (Vec-send _ setups.the_send), tt)))),
       ),
     )))
