@@ -149,7 +149,7 @@ impl PrometheusState {
 
     /// Drains all histograms side by side, in up to four threads, so that a page that follows has little to drain. What it was
     /// refused memory for waits for the next drain, in the same order.
-    pub fn drain_beside<R: Threads + Wait + Sync>(&mut self, rt: &R, alloc: Global)
+    pub(crate) fn drain_beside<R: Threads + Wait + Sync>(&mut self, rt: &R, alloc: Global)
         ensures drained { DrainsEach DrainsInPart self.old self.new }
         ensures settings { self.new.settings ≡ self.old.settings }
         ensures home { AllHome self.old → AllHome self.new }
