@@ -8,5 +8,4 @@ pub mod Bagged
 pub mod Chunked
 pub mod Registered
 pub mod RetainedSeries
-pub mod ChangedSeries
 pub mod IdTests

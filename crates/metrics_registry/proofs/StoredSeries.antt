@@ -1,5 +1,5 @@
 -- The live series that keys and what is stored beside them make.
-use Rattle.std.proofs.Common.{◌≡◌, ℕ, zero, suc, ◌+◌, ◌<◌, ◌≤◌, Bool, true, false, cond, not, List, [], ◌∷◌, ◌++◌, length, map, get_or, Option, None, Some, refl, sym, ap, subst, ◌∙◌, arith}
+use Rattle.std.proofs.Common.{◌≡◌, ℕ, zero, suc, ◌+◌, ◌<◌, ◌≤◌, Bool, true, false, cond, not, List, [], ◌∷◌, ◌++◌, length, get_or, Option, None, Some, refl, sym, ap, subst, ◌∙◌, arith}
 use Rattle.std.specs.Prelude.{find, is_some, slice_get, slice_set, remove, option_map, position, nat_lt, Ok, Err}
 use Rattle.std.specs.List.{list_any, position_or_len, All}
 use Rattle.std.proofs.Common.{length-append, ◌-◌, take, length-take}
@@ -50,13 +50,6 @@ module _ {X : Type 0} where
   length-live_of [] (s ∷ ss) long = cc
   length-live_of (k ∷ ks) [] long = cc
   length-live_of (k ∷ ks) (s ∷ ss) long = ap suc (length-live_of ks ss (omega arith))
-
-  -- the live series have the keys that are stored
-  pub keys-live_of : (ks : List KeyText) (ss : List (Series X)) → length ks ≡ length ss → map (λ (series : LiveSeries X). series.key) (live_of ks ss) ≡ ks
-  keys-live_of [] [] long = refl
-  keys-live_of [] (s ∷ ss) long = refl
-  keys-live_of (k ∷ ks) [] long = cc
-  keys-live_of (k ∷ ks) (s ∷ ss) long = ap (λ l. k ∷ l) (keys-live_of ks ss (omega arith))
 
   -- the live series at a place
   pub record IsLiveAt (live : List (LiveSeries X)) (i : ℕ) (s : Series X) : Type 0 where

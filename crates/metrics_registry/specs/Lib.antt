@@ -5,7 +5,6 @@ pub mod KeyRuns
 pub mod NumberedKeys
 pub mod Places
 pub mod Retained
-pub mod Changed
 pub mod Stored
 pub mod ColumnLends
 pub mod StoredRegistry

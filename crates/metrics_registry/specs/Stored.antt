@@ -1,11 +1,8 @@
 -- How the series of one kind are stored: their keys, and beside them their ids and cells.
 use Rattle.std.specs.Prelude.{◌≡◌, ℕ, List, [], ◌∷◌, length, slice_get, Option, Some, None}
 use Rattle.std.specs.Vec.{with_item}
-use Rattle.std.specs.Borrow.{MutBor}
-use Rattle.std.specs.Fn.{Shared}
 use Rattle.metrics_core.specs.Keys.{KeyText}
 use Rattle.metrics_registry.specs.Live.{LiveSeries, Rises}
-use Rattle.metrics_registry.specs.Changed.{ChangesCell}
 use Rattle.metrics_registry.specs.declared.columns.Series.{Series}
 use Rattle.metrics_registry.specs.declared.columns.Column.{Column}
 
@@ -28,7 +25,3 @@ module _ {X : Type 0} where
 
   abbrev pub with_stored_cell : Column X → ℕ → X → Column X
   with_stored_cell column i cell = with_stored column i cell (slice_get column.items.items i)
-
--- the id of a stored series stays, and its cell is what a call of f left of it
-abbrev pub IsChanged : {F X : Type 0} → Shared F (MutBor X × Unit {0}) (Unit {0} × (MutBor X × Unit {0})) → F → Series X → Series X → Type 0
-IsChanged g f s t = (t.id ≡ s.id) × ChangesCell g f s.cell t.cell

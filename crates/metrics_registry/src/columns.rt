@@ -1,21 +1,16 @@
 //! How the series of one kind are stored: their keys in a set, and in the same order their ids and cells in a column.
 
 ghost use Rattle.std.specs.Prelude.{◌≡◌, ◌<◌, ◌≤◌, List, [], ◌∷◌, ◌++◌, length, slice_get, swap, remove, take, ◌-◌, option_map, Some, None, Ok, All, OnOk, IfOk, IfErr, OnErr};
-ghost use Rattle.std.specs.List.{AllZip};
 ghost use Rattle.std.specs.Option.{option_copied};
 ghost use Rattle.std.specs.Borrow.{sem};
 ghost use Rattle.metrics_core.specs.Keys.{KeyText};
 ghost use Rattle.metrics_registry.specs.Live.{LiveSeries, Registers, id_of_key, cell_of, is_live, with_last, without};
 ghost use Rattle.metrics_registry.specs.Retained.{AskedAt, Retains};
-ghost use Rattle.metrics_registry.specs.Changed.{TakesCell};
-ghost use Rattle.metrics_registry.specs.Stored.{IsChanged};
 
 use crate::key_list::KeyList;
 use metrics_core::{Key, Memory, SeriesId};
 use std::alloc::Global;
-use std::marker::{Model, Send, Sync};
-use std::thread;
-use std::thread::Threads;
+use std::marker::Model;
 
 /// What is stored of a series beside its key.
 #[derive(Drop)]
@@ -259,30 +254,6 @@ impl<T> Column<T> {
         keys.truncate(kept);
     }
 
-    /// Calls a function with the cell of each series, side by side in at most so many threads. Ids stay.
-    pub(crate) fn change_cells<R: Threads + Sync, F: Fn(&mut T) + Sync>(
-        &mut self,
-        rt: &R,
-        threads: usize,
-        change: &F,
-    )
-    where
-        T: Send,
-        requires threads { 0 < threads }
-        requires callable { All (λ series. TakesCell F.Fn change.now series.cell) self.old.items.items }
-        ensures { AllZip (IsChanged F.Fn change.now) self.old.items.items self.new.items.items }
-    {
-        thread::for_each_mut(
-            rt,
-            self.items.as_mut_slice(),
-            threads,
-            &|_: usize, series: &mut Series<T>|
-                requires { TakesCell F.Fn change.now series.now.cell }
-                ensures { IsChanged F.Fn change.entry.now series.entry.now series.exit.now }
-            { change_cell(change, series) },
-        );
-    }
-
     /// Takes the last series away, as if it had never been added.
     pub(crate) fn take_back(&mut self, keys: &mut KeyList)
     where
@@ -317,14 +288,6 @@ fn ask<T, F: FnMut(SeriesId, &mut T) -> bool>(keep: &mut F, series: &mut Series<
     ensures callable { F.IsAlwaysCallable keep.new }
 {
     keep(series.id, &mut series.cell)
-}
-
-/// Calls the function with the cell of one series.
-fn change_cell<T, F: Fn(&mut T)>(change: &F, series: &mut Series<T>)
-    requires { TakesCell F.Fn change.now series.old.cell }
-    ensures { IsChanged F.Fn change.now series.old series.new }
-{
-    change(&mut series.cell);
 }
 
 /// Exchanges the series at a place with one that stands before it; at the same place nothing moves.

@@ -1,21 +1,19 @@
 //! The live series of one state, by kind, and how many were ever made.
 
-ghost use Rattle.std.specs.Prelude.{◌≡◌, ◌+◌, ◌-◌, ◌^◌, ◌<◌, [], length, slice_get, option_map, map, Some, None, Ok, IsOk, OnOk, IfOk, OnErr, IfErr};
+ghost use Rattle.std.specs.Prelude.{◌≡◌, ◌+◌, ◌-◌, ◌^◌, ◌<◌, [], length, slice_get, option_map, Some, None, Ok, IsOk, OnOk, IfOk, OnErr, IfErr};
 ghost use Rattle.std.specs.Option.{option_copied, option_copied_mut};
 ghost use Rattle.std.specs.Borrow.{sem};
 ghost use Rattle.metrics_core.specs.declared.kinds.MetricKind.TheVariants.{Counter, Gauge, Histogram};
 ghost use Rattle.metrics_registry.specs.Live.{RegistryText, IsNumbered, MadeCounterLast, MadeGaugeLast, MadeHistogramLast, RegistersCounter, RegistersGauge, RegistersHistogram, id_of_key, cell_of, is_live, with_last, without};
 ghost use Rattle.metrics_registry.specs.Places.{IsPlace};
 ghost use Rattle.metrics_registry.specs.Retained.{Retains};
-ghost use Rattle.metrics_registry.specs.Changed.{TakesCells, ChangesCells};
 
 use crate::columns::{Column, SeriesIter};
 use crate::key_list::KeyList;
 use hash_starts::HashStart;
 use metrics_core::{Key, Memory, MetricKind, SeriesId};
 use std::alloc::Global;
-use std::marker::{Model, Send, Sync};
-use std::thread::Threads;
+use std::marker::Model;
 
 /// The live series of a state: those of each kind in order of registration, each with its id, its key and its cell.
 /// Numbers of ids count all series that were ever made in it, whatever their kind. Look-ups by a key take constant time,
@@ -237,13 +235,6 @@ impl<C: Drop, G: Drop, H: Drop> Registry<C, G, H> {
         self.counters.retain(&mut self.counter_keys, keep);
     }
 
-    /// The keys of the live counters, in order of registration.
-    pub fn counter_keys(&self) -> &[Key]
-        ensures { result.now ≡ map (λ series. series.key) self.now.counters }
-    {
-        self.counter_keys.as_slice()
-    }
-
     /// The live counters, in order of registration.
     pub fn counters(&self) -> SeriesIter<'_, C>
         ensures { result ≡ self.now.counters }
@@ -374,13 +365,6 @@ impl<C: Drop, G: Drop, H: Drop> Registry<C, G, H> {
         ensures others { self.new ≡ record self.old { gauges = self.new.gauges } }
     {
         self.gauges.retain(&mut self.gauge_keys, keep);
-    }
-
-    /// The keys of the live gauges, in order of registration.
-    pub fn gauge_keys(&self) -> &[Key]
-        ensures { result.now ≡ map (λ series. series.key) self.now.gauges }
-    {
-        self.gauge_keys.as_slice()
     }
 
     /// The live gauges, in order of registration.
@@ -515,24 +499,6 @@ impl<C: Drop, G: Drop, H: Drop> Registry<C, G, H> {
         ensures others { self.new ≡ record self.old { histograms = self.new.histograms } }
     {
         self.histograms.retain(&mut self.histogram_keys, keep);
-    }
-
-    /// Calls a function with the cell of each histogram, side by side in at most so many threads. Each keeps its place, its
-    /// id and its key.
-    pub fn change_histograms<R: Threads + Sync, F: Fn(&mut H) + Sync>(
-        &mut self,
-        rt: &R,
-        threads: usize,
-        change: &F,
-    )
-    where
-        H: Send,
-        requires threads { 0 < threads }
-        requires callable { TakesCells F.Fn change.now self.old.histograms }
-        ensures changed { ChangesCells F.Fn change.now self.old.histograms self.new.histograms }
-        ensures others { self.new ≡ record self.old { histograms = self.new.histograms } }
-    {
-        self.histograms.change_cells(rt, threads, change);
     }
 
     /// The live histograms, in order of registration.

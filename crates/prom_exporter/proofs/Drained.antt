@@ -1,13 +1,10 @@
 -- Histograms that were drained: where no pass is out, the calls that the exporter knows of stay, and all their samples are recorded.
 use Rattle.std.proofs.Common.{◌≡◌, ℕ, zero, suc, ◌+◌, List, [], ◌∷◌, map, length, Some, refl, sym, ap, subst, ◌∙◌, append-nil, add-one, arith}
 use Rattle.std.specs.Prelude.{All, slice_get, option_map}
-use Rattle.std.specs.Borrow.{MutBor}
-use Rattle.std.specs.Fn.{Shared}
 use Rattle.std.proofs.lemmas.List.Elements.{All-nil, All-head, All-tail, All-cons}
 use Rattle.std.proofs.lemmas.Option.{same_Some}
 use Rattle.legal_history.specs.declared.history.View.{View}
 use Rattle.metrics_core.specs.Calls.{Call}
-use Rattle.metrics_registry.specs.Changed.{ChangesCells}
 use Rattle.metrics_registry.specs.Live.{LiveSeries}
 use Rattle.metrics_registry.specs.Places.{with_cell_at}
 use Rattle.rolling_summaries.specs.Standing.{NeverFall, NoneAfter}
@@ -202,16 +199,3 @@ drained_to-many zero old new drained = ap length drained
 drained_to-many (suc n) [] new drained = ap length drained
 drained_to-many (suc n) (s ∷ old) [] drained = absurd drained
 drained_to-many (suc n) (s ∷ old) (t ∷ new) drained = ap suc (drained_to-many n old new drained.3)
-
--- ---- side by side
-
--- they were drained so by a function that drains each so
-module _ {F : Type 0} (g : Shared F (MutBor Sampled × Unit {0}) (Unit {0} × (MutBor Sampled × Unit {0}))) (f : F) (changes : Sampled → Sampled → Type 0)
-    (each : (lent left : MutBor Sampled) → g.post f (lent, tt) (tt, (left, tt)) → changes lent.now left.now) where
-  pub drained-changed : (old new : List (LiveSeries Sampled)) → ChangesCells g f old new → AreDrained changes old new
-  drained-changed [] [] changed = tt
-  drained-changed [] (t ∷ new) changed = absurd changed
-  drained-changed (s ∷ old) [] changed = absurd changed
-  drained-changed (s ∷ old) (t ∷ new) changed =
-      let own = changed.0.2 in
-      ((changed.0.0, changed.0.1, subst (λ c. changes c t.cell) own.shows (subst (changes own.lent.now) own.leaves (each own.lent own.left own.met))), drained-changed old new changed.1)

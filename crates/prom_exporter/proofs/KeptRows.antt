@@ -1,8 +1,8 @@
 -- What is kept for rows: one more series, what leaves it as it is, and the text that it makes.
-use Rattle.std.proofs.Common.{◌≡◌, ℕ, zero, suc, ◌+◌, Bool, true, false, cond, List, [], ◌∷◌, ◌++◌, map, take, get_or, length, length-append, ◌≤◌, ◌<◌, None, Some, refl, sym, ap, ◌∙◌, arith, add-zero, add-one, zero-add}
+use Rattle.std.proofs.Common.{◌≡◌, ℕ, zero, suc, ◌+◌, Bool, true, false, cond, List, [], ◌∷◌, ◌++◌, map, take, length, length-append, ◌≤◌, ◌<◌, None, Some, refl, sym, ap, ◌∙◌, arith, add-zero, add-one, zero-add}
 use Rattle.std.specs.Prelude.{Option, slice_get, option_map, flat_map, ℤ, bytes_eq}
 use Rattle.std.specs.List.{enumerate_from}
-use Rattle.std.proofs.lemmas.List.{map-append, map_more, length-map, length-take, take_all, take_more, take-append-le}
+use Rattle.std.proofs.lemmas.List.{map-append, length-map, length-take, take_all, take-append-le}
 use Rattle.std.proofs.lemmas.Option.{slice_get-map, same_Some}
 use Rattle.std.proofs.lemmas.Slice.Eq.{bytes_eq-Decides}
 use Rattle.metrics_core.specs.Keys.{KeyText, LabelText}
@@ -15,10 +15,10 @@ use Rattle.prom_format.specs.Pages.{row_text, body_text, type_text}
 use Rattle.prom_format.specs.declared.families.FamilyType.{FamilyType}
 use Rattle.distributions.specs.Kinds.{DistributionRules}
 use Rattle.prom_exporter.specs.Exporter.{Cells}
-use Rattle.prom_exporter.specs.Kept.{KeepsFirst, KeepsFirstOf, HaveKinds, IsKept}
+use Rattle.prom_exporter.specs.Kept.{KeepsFirst, HaveKinds, IsKept}
 use Rattle.prom_exporter.specs.Families.{ExporterSettings, distinct}
 use Rattle.prom_exporter.specs.Naming.{NamingText, shown_name, title_text}
-use Rattle.prom_exporter.specs.Rows.{RowsText, label_set_of, name_at, places_of, families_of, rows_of, keys_of, row_at, kept_block}
+use Rattle.prom_exporter.specs.Rows.{RowsText, label_set_of, name_at, places_of, rows_of, keys_of, row_at, kept_block}
 use Rattle.prom_exporter.specs.Values.{named, grouped, with_member, member_of, metric_name, value_row, value_family, value_families}
 use Rattle.prom_exporter.proofs.Groups.{grouped-push}
 
@@ -103,38 +103,6 @@ module _ {X : Type 0} where
   -- they stay the first of series with the same keys
   pub first_same : (globals : List LabelText) (old new : List (LiveSeries X)) (rows : RowsText) → KeepsFirst globals old rows → keys_of new ≡ keys_of old → KeepsFirst globals new rows
   first_same globals old new rows first same = first ∙ ap (λ keys. rows_of globals (take (length rows.label_sets) keys)) (sym same)
-
--- ---- label sets and families that are made apart
-
--- the label set of one more series
-pub label_sets-more : (globals : List LabelText) (keys : List KeyText) (place : ℕ) (key : KeyText) (old new : List (List ℕ)) → place < length keys → key ≡ get_or keys place key
-    → new ≡ old ++ label_set_of globals key ∷ [] → old ≡ map (label_set_of globals) (take place keys) → new ≡ map (label_set_of globals) (take (place + 1) keys)
-label_sets-more globals keys place key old new within at more is =
-    more ∙ ap (λ l. l ++ label_set_of globals key ∷ []) is
-    ∙ ap (λ k. map (label_set_of globals) (take place keys) ++ label_set_of globals k ∷ []) at
-    ∙ sym (map_more (label_set_of globals) keys place key within)
-
--- the place of one more series
-pub families-more : (keys : List KeyText) (place : ℕ) (key : KeyText) (name : List ℕ) (old new : List (List ℕ × List ℕ)) → place < length keys → key ≡ get_or keys place key → name ≡ key.name
-    → new ≡ with_member old (sanitized_metric_name name) place → old ≡ families_of (take place keys) → new ≡ families_of (take (place + 1) keys)
-families-more keys place key name old new within at names more is =
-    let long : length (take place keys) ≡ place = omega (arith, within, length-take place keys) in
-    more ∙ (λ j. with_member (is j) (sanitized_metric_name (names j)) (sym long j))
-    ∙ sym (ap (λ (r : RowsText). r.families) (rows-push [] (take place keys) key))
-    ∙ ap families_of (ap (λ k. take place keys ++ k ∷ []) at ∙ sym (take_more keys place key within))
-
--- those of all, where the loop is past the end
-pub label_sets-all : (globals : List LabelText) (keys : List KeyText) (place : ℕ) (new : List (List ℕ)) → length keys ≤ place → new ≡ map (label_set_of globals) (take place keys) → new ≡ map (label_set_of globals) keys
-label_sets-all globals keys place new past is = is ∙ ap (map (label_set_of globals)) (take_all place keys past)
-
-pub families-all : (keys : List KeyText) (place : ℕ) (new : List (List ℕ × List ℕ)) → length keys ≤ place → new ≡ families_of (take place keys) → new ≡ families_of keys
-families-all keys place new past is = is ∙ ap families_of (take_all place keys past)
-
--- all of them are the first of themselves
-pub all_first : (globals : List LabelText) (keys : List KeyText) (rows : RowsText) → rows ≡ rows_of globals keys → KeepsFirstOf globals keys rows
-all_first globals keys rows is =
-    let many : length rows.label_sets ≡ length keys = ap (λ (r : RowsText). length r.label_sets) is ∙ length-map keys (label_set_of globals) in
-    is ∙ ap (rows_of globals) (sym (take_all (length rows.label_sets) keys (omega (arith, many))))
 
 -- ---- what leaves the keys as they are
 

@@ -4,11 +4,7 @@ use Rattle.std.specs.Prelude.{min, nat_lt, slice_get, option_map, flat_map, ℤ,
 use Rattle.std.proofs.lemmas.Option.{same_Some, none-some}
 use Rattle.std.proofs.lemmas.List.{take-append-drop, drop-drop, drop_all}
 use Rattle.metrics_registry.specs.Live.{LiveSeries}
-use Rattle.metrics_core.specs.Keys.{KeyText, LabelText}
-use Rattle.prom_format.specs.Names.{sanitized_metric_name}
-use Rattle.prom_exporter.specs.Kept.{KeepsFirstOf}
-use Rattle.prom_exporter.specs.Rows.{RowsText, families_of, label_set_of, row_at, row_if, value_line}
-use Rattle.prom_exporter.proofs.KeptRows.{rows-push}
+use Rattle.prom_exporter.specs.Rows.{row_at, row_if, value_line}
 use Rattle.prom_exporter.specs.Values.{with_member}
 use Rattle.prom_exporter.specs.Printed.{AreKept, AreRows, ArePrinted, ShowValues, together}
 use Rattle.prom_exporter.proofs.PieceTexts.{beyond, take-everything, within}
@@ -229,24 +225,3 @@ module _ (sets : List (List ℕ)) where
 
     pub printed-after : (new : PrintedFamily) → (AreKept (string_bytes rows.name) sets places rows.rows.items → AreKept (string_bytes new.name) sets places new.rows.items) → ArePrinted sets families (set printed index new)
     printed-after new keeps = printed-set families printed index family new at are (subst (λ l. AreKept (string_bytes new.name) sets l new.rows.items) same (keeps kept-before))
-
--- ---- what is kept of many more series
-
-module _ (globals : List LabelText) where
-  printed-behind : (front more : List KeyText) (printed : List PrintedFamily) → ArePrinted (map (label_set_of globals) front) (families_of front) printed
-      → ArePrinted (map (label_set_of globals) (front ++ more)) (families_of (front ++ more)) printed
-  printed-behind front [] printed are = subst (λ ks. ArePrinted (map (label_set_of globals) ks) (families_of ks) printed) (sym (append-nil front)) are
-  printed-behind front (key ∷ more) printed are =
-      let one = printed-longer (map (label_set_of globals) front) (label_set_of globals key ∷ []) (families_of front) (sanitized_metric_name key.name) (length front) printed are in
-      let next = subst (λ (r : RowsText). ArePrinted r.label_sets r.families printed) (sym (rows-push globals front key)) one in
-      subst (λ ks. ArePrinted (map (label_set_of globals) ks) (families_of ks) printed) (append_assoc front (key ∷ []) more) (printed-behind (front ++ key ∷ []) more printed next)
-
-  -- rows that were printed stay when all series have their label sets and places
-  pub printed-all : (keys : List KeyText) (sets all_sets : List (List ℕ)) (families all_families : List (List ℕ × List ℕ)) (printed : List PrintedFamily)
-      → KeepsFirstOf globals keys (record { label_sets = sets; families = families }) → all_sets ≡ map (label_set_of globals) keys → all_families ≡ families_of keys
-      → ArePrinted sets families printed → ArePrinted all_sets all_families printed
-  printed-all keys sets all_sets families all_families printed first labelled placed are =
-      let n = length sets in
-      let start = subst (λ (r : RowsText). ArePrinted r.label_sets r.families printed) first are in
-      let all = subst (λ ks. ArePrinted (map (label_set_of globals) ks) (families_of ks) printed) (take-append-drop n keys) (printed-behind (take n keys) (drop n keys) printed start) in
-      subst (λ (r : RowsText). ArePrinted r.label_sets r.families printed) (sym (λ j. record { label_sets = labelled j; families = placed j })) all

@@ -1,6 +1,6 @@
 -- That what the exporter keeps for its rows is what its series want, and what it keeps of its settings.
 use Rattle.std.specs.Prelude.{◌≡◌, ℕ, List, take, length, All}
-use Rattle.metrics_core.specs.Keys.{KeyText, LabelText}
+use Rattle.metrics_core.specs.Keys.{LabelText}
 use Rattle.metrics_registry.specs.Live.{LiveSeries, RegistryText}
 use Rattle.distributions.specs.Kinds.{DistributionRules, kind_for}
 use Rattle.prom_exporter.specs.Families.{ExporterSettings, distribution_of}
@@ -11,10 +11,6 @@ use Rattle.prom_exporter.specs.Sampled.{Sampled}
 -- what is kept for the rows of some series is what the first of them want: how many these are the kept label sets tell. A page keeps the rest
 abbrev pub KeepsFirst : {X : Type 0} → List LabelText → List (LiveSeries X) → RowsText → Type 0
 KeepsFirst globals live rows = rows ≡ rows_of globals (take (length rows.label_sets) (keys_of live))
-
--- the same of series that have these keys
-abbrev pub KeepsFirstOf : List LabelText → List KeyText → RowsText → Type 0
-KeepsFirstOf globals keys rows = rows ≡ rows_of globals (take (length rows.label_sets) keys)
 
 -- distributions are of the kinds that follow from the settings
 abbrev pub FitsSettings : ExporterSettings → DistributionRules → Type 0

@@ -32,10 +32,6 @@ name_at placed = sanitized_metric_name placed.1.name
 abbrev pub places_of : {X : Type 0} → List ℕ × List (ℕ × X) → List ℕ × List ℕ
 places_of group = (group.0, map (λ placed. placed.0) group.1)
 
--- what is kept of the families of series with these keys
-abbrev pub families_of : List KeyText → List (List ℕ × List ℕ)
-families_of keys = map places_of (grouped name_at (enumerate_from 0 keys))
-
 -- what is kept of series with these keys
 abbrev pub rows_of : List LabelText → List KeyText → RowsText
 rows_of globals keys = record {

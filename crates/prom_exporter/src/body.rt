@@ -1,10 +1,9 @@
 //! The body of a page, of all that the exporter keeps.
 
-ghost use Rattle.std.specs.Prelude.{◌≡◌, ℕ, ◌-◌, ◌<◌, ◌≤◌, ◌⊎◌, IfErr, OnErr, OnOk};
+ghost use Rattle.std.specs.Prelude.{◌≡◌, ◌-◌, ◌<◌, ◌≤◌, ◌⊎◌, IfErr, OnErr, OnOk};
 ghost use Rattle.metrics_core.specs.declared.kinds.MetricKind.TheVariants.{Counter, Gauge};
 ghost use Rattle.metrics_core.specs.Outside.{Rose, GrewBy, GrewByPrefix};
-ghost use Rattle.prom_exporter.specs.Stepped.{DrainsEach, DrainsInPart};
-ghost use Rattle.prom_exporter.specs.Exporter.{state_of, AllHome, AreTimely, shown_body};
+ghost use Rattle.prom_exporter.specs.Exporter.{AreTimely, shown_body};
 
 use crate::BuildError;
 use crate::distribution_pages::write_distributions;
@@ -14,37 +13,8 @@ use crate::state::PrometheusState;
 use metrics_core::{Sink, write_whole};
 use prom_format::FamilyType;
 use std::alloc::Global;
-use std::sync::Wait;
-use std::thread::Threads;
 
 impl PrometheusState {
-    /// Makes in several threads what the next page wants of the series, so that the page itself has little to do: drains the
-    /// histograms, and prepares the rows of counters and gauges that were registered since the last page. What it was refused
-    /// memory for is left to the page; no sample is lost, and none counts twice.
-    pub fn prepare_page<R: Threads + Wait + Sync>(&mut self, rt: &R, alloc: Global)
-        ensures drained { DrainsEach DrainsInPart self.old self.new }
-        ensures settings { self.new.settings ≡ self.old.settings }
-        ensures home { AllHome self.old → AllHome self.new }
-        ensures same { AllHome self.old → state_of self.new ≡ state_of self.old }
-        ensures timely { (t : ℕ) → AllHome self.old → AreTimely t self.old → AreTimely t self.new }
-    {
-        self.drain_beside(rt, alloc);
-        self.prepare_rows(rt, alloc);
-    }
-
-    /// Prepares the rows of counters and gauges that were registered since the last page, each kind's label sets beside its
-    /// families.
-    pub(crate) fn prepare_rows<R: Threads + Sync>(&mut self, rt: &R, alloc: Global)
-        ensures same { self.new ≡ self.old }
-    {
-        let keys = self.series.counter_keys();
-        self.counter_rows
-            .catch_up_beside(rt, alloc, keys, &self.globals);
-        let keys = self.series.gauge_keys();
-        self.gauge_rows
-            .catch_up_beside(rt, alloc, keys, &self.globals);
-    }
-
     /// Writes the body of the families that the exporter shows at a moment, as it is.
     pub(crate) fn write_body<K: Sink>(
         &mut self,

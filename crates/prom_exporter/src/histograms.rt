@@ -1,6 +1,6 @@
 //! What the exporter does with its histograms: it registers, lends and drains them.
 
-ghost use Rattle.std.specs.Prelude.{◌≡◌, ℕ, ◌⊎◌, [], IfOk, OnErr, OnOk, None, unwrap_or};
+ghost use Rattle.std.specs.Prelude.{◌≡◌, ◌⊎◌, [], IfOk, OnErr, OnOk, None, unwrap_or};
 ghost use Rattle.metrics_core.specs.declared.kinds.MetricKind.TheVariants.{Histogram};
 ghost use Rattle.distributions.specs.Recording.{StandsFor};
 ghost use Rattle.prom_format.specs.Names.{sanitized_metric_name};
@@ -10,7 +10,7 @@ ghost use Rattle.prom_exporter.specs.State.{register, live_series, number_given}
 ghost use Rattle.prom_exporter.specs.Stepped.{AreCounted, DrainsEach, DrainsInPart, DrainsWhole, IsCounted};
 ghost use Rattle.prom_exporter.specs.Families.{distribution_of};
 ghost use Rattle.prom_exporter.specs.Sampled.{unsampled};
-ghost use Rattle.prom_exporter.specs.Exporter.{state_of, AllHome, AreTimely, AddsHistogram, ChangesHistogram};
+ghost use Rattle.prom_exporter.specs.Exporter.{state_of, AllHome, AddsHistogram, ChangesHistogram};
 ghost use Rattle.prom_exporter.specs.Lending.{LendsHistogram, LentHistogram, HasNoHistogram};
 
 use crate::lent::Lent;
@@ -23,10 +23,6 @@ use prom_format::{is_metric_name, sanitize_metric_name};
 use sample_queue::{PromHistogram, SamplePass};
 use std::alloc::Global;
 use std::sync::Wait;
-use std::thread::Threads;
-
-/// How many threads drain histograms at most. With more histograms than this some are drained one after another.
-const MAX_DRAINS: usize = 4;
 
 impl PrometheusState {
     /// Registers a histogram. Where one with an equal key is live its id is given, no memory is taken, and nothing changes;
@@ -145,24 +141,6 @@ impl PrometheusState {
             self.series.histogram_at(place).drain(rt, alloc)?;
         }
         Ok(())
-    }
-
-    /// Drains all histograms side by side, in up to four threads, so that a page that follows has little to drain. What it was
-    /// refused memory for waits for the next drain, in the same order.
-    pub(crate) fn drain_beside<R: Threads + Wait + Sync>(&mut self, rt: &R, alloc: Global)
-        ensures drained { DrainsEach DrainsInPart self.old self.new }
-        ensures settings { self.new.settings ≡ self.old.settings }
-        ensures home { AllHome self.old → AllHome self.new }
-        ensures same { AllHome self.old → state_of self.new ≡ state_of self.old }
-        ensures timely { (t : ℕ) → AllHome self.old → AreTimely t self.old → AreTimely t self.new }
-    {
-        self.series.change_histograms(
-            rt,
-            MAX_DRAINS,
-            &move |cell: &mut HistogramCell|
-                ensures { DrainsInPart cell.entry.now cell.exit.now }
-            { cell.drain_what_fits(rt, alloc) },
-        );
     }
 
     /// Makes the page step of the histograms, which were drained.

@@ -1,11 +1,11 @@
 //! What is kept of the series of one kind for the rows of pages. It is made once, by the first page after a series was registered,
 //! and anew where a page removed series.
 
-ghost use Rattle.std.specs.Prelude.{◌≡◌, ◌<◌, ◌++◌, [], ◌∷◌, ℕ, List, length, map, take, OnOk, OnErr, IfOk, IfSome, string_bytes};
+ghost use Rattle.std.specs.Prelude.{◌≡◌, ◌<◌, ◌++◌, [], ◌∷◌, ℕ, List, length, map, OnOk, OnErr, IfOk, IfSome, string_bytes};
 ghost use Rattle.metrics_core.specs.Keys.{KeyText};
 ghost use Rattle.prom_format.specs.LabelSets.{labels_of};
-ghost use Rattle.prom_exporter.specs.Kept.{KeepsFirst, KeepsFirstOf};
-ghost use Rattle.prom_exporter.specs.Rows.{HasNameAt, families_of, family_kept, keys_of, label_set_of, rows_of};
+ghost use Rattle.prom_exporter.specs.Kept.{KeepsFirst};
+ghost use Rattle.prom_exporter.specs.Rows.{HasNameAt, family_kept, keys_of, rows_of};
 ghost use Rattle.prom_format.specs.Names.{sanitized_metric_name};
 ghost use Rattle.prom_exporter.specs.Values.{with_member};
 
@@ -18,10 +18,6 @@ use metrics_registry::SeriesIter;
 use prom_format::{is_metric_name, sanitize_metric_name};
 use std::alloc::Global;
 use std::marker::Model;
-use std::thread::{Threads, join_mut};
-
-/// From how many new series on their label sets are made beside their families. Fewer aren't worth a thread.
-const MANY: usize = 16_384;
 
 /// Of each series of a kind, in order of registration, its printed label set; by metric name the places of the series of each
 /// family; and of the first of these families the rows as they were printed last.
@@ -79,33 +75,6 @@ impl Rows {
         Ok(())
     }
 
-    /// Keeps what all of so many series want, as `catch_up` does, the label sets beside the families. Where fewer than `MANY` of them
-    /// are new nothing is done; where memory is refused all is let go.
-    pub(crate) fn catch_up_beside<R: Threads + Sync>(
-        &mut self,
-        rt: &R,
-        alloc: Global,
-        keys: &[Key],
-        globals: &IndexMap<String, String, HashStart>,
-    )
-        requires { KeepsFirstOf (labels_of globals.now.entries) keys.now self.old }
-        ensures { KeepsFirstOf (labels_of globals.now.entries) keys.now self.new }
-    {
-        let first = self.label_sets.len();
-        if keys.len().saturating_sub(first) < MANY {
-            return;
-        }
-        let (label_sets, families) = (&mut self.label_sets, &mut self.families);
-        match keep_beside(rt, alloc, keys, first, globals, label_sets, families) {
-            Ok(()) => {}
-            Err(Memory) => {
-                // The rows that were printed needn't fit what was made of the others.
-                self.printed.clear();
-                self.clear();
-            }
-        }
-    }
-
     /// Lets all go.
     pub(crate) fn clear(&mut self)
         ensures { self.new ≡ record { label_sets = []; families = [] } }
@@ -134,65 +103,6 @@ impl Rows {
         }
         Ok(())
     }
-}
-
-/// Makes the label sets of all series with these keys beside the families, each behind those of the first so many. Both calls borrow
-/// the runtime: the borrow checker doesn't cover two closures side by side of which only one does.
-fn keep_beside<R: Threads + Sync>(
-    rt: &R,
-    alloc: Global,
-    keys: &[Key],
-    first: usize,
-    globals: &IndexMap<String, String, HashStart>,
-    label_sets: &mut LabelSets,
-    families: &mut IndexMap<String, Vec<usize>, HashStart>,
-) -> Result<(), Memory>
-    ensures label_sets { OnOk result (label_sets.old ≡ map (label_set_of (labels_of globals.now.entries)) (take (length label_sets.old) keys.now)
-        → label_sets.new ≡ map (label_set_of (labels_of globals.now.entries)) keys.now) }
-    ensures families { OnOk result (map family_kept families.old.entries ≡ families_of (take first keys.now)
-        → map family_kept families.new.entries ≡ families_of keys.now) }
-{
-    let (labelled, placed) = join_mut(
-        rt,
-        &mut || push_others(rt, keys, globals, label_sets),
-        &mut || place_others(rt, alloc, keys, first, families),
-    );
-    labelled?;
-    placed?;
-    Ok(())
-}
-
-/// Makes the label sets of all series with these keys, behind those of the first of them.
-fn push_others<R>(
-    _rt: &R,
-    keys: &[Key],
-    globals: &IndexMap<String, String, HashStart>,
-    label_sets: &mut LabelSets,
-) -> Result<(), Memory>
-    ensures { OnOk result (label_sets.old ≡ map (label_set_of (labels_of globals.now.entries)) (take (length label_sets.old) keys.now)
-        → label_sets.new ≡ map (label_set_of (labels_of globals.now.entries)) keys.now) }
-{
-    for place in label_sets.len()..keys.len() {
-        label_sets.push(&keys[place], globals)?;
-    }
-    Ok(())
-}
-
-/// Puts the places of all series with these keys in their families, where those of the first so many are there.
-fn place_others<R>(
-    _rt: &R,
-    alloc: Global,
-    keys: &[Key],
-    first: usize,
-    families: &mut IndexMap<String, Vec<usize>, HashStart>,
-) -> Result<(), Memory>
-    ensures { OnOk result (map family_kept families.old.entries ≡ families_of (take first keys.now)
-        → map family_kept families.new.entries ≡ families_of keys.now) }
-{
-    for place in first..keys.len() {
-        add_place(alloc, families, keys[place].name(), place)?;
-    }
-    Ok(())
 }
 
 /// Puts a place last in the family of the metric name that is made of a name.

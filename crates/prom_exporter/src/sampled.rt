@@ -104,13 +104,6 @@ impl HistogramCell {
         self.series.drain(rt, alloc)
     }
 
-    /// Drains as `drain` does, without word of whether memory was refused: what is not recorded then waits for a later drain.
-    pub(crate) fn drain_what_fits<R: Wait>(&mut self, rt: &R, alloc: Global)
-        ensures { DrainsInPart self.old self.new }
-    {
-        let _drained = self.drain(rt, alloc);
-    }
-
     /// Where histograms may fall idle, notes how many updates this one has. Answers whether it stays: false exactly where it is
     /// idle.
     pub(crate) fn stays(&mut self, recency: &Option<Recency>, moment: u64) -> bool
