@@ -13,13 +13,10 @@ use crate::hook::LaneHook;
 use crate::lane::{Job, Lane, Line, Slot};
 use crate::lenders::Lenders;
 use metrics_core::Memory;
+use side_by_side::for_each_beside;
 use std::alloc::Global;
 use std::sync::Wait;
-use std::thread;
 use std::thread::Threads;
-
-/// How many threads run lanes at most. With more lanes than this some run one after another.
-const MAX_LANES: usize = 8;
 
 /// Lends a pass of each thing that a lane names, until one is refused.
 fn lend_lane<S: Lenders>(
@@ -144,7 +141,7 @@ fn run_job<R: Wait, H: LaneHook, S: Lenders>(
     job.done = run_slots::<R, H, S>(rt, alloc, hook, lane, job.slots.as_mut_slice(), lines);
 }
 
-/// Runs all lanes side by side, each with the passes of its job.
+/// Runs all lanes side by side, each in a thread of its own with the passes of its job.
 fn run_all<R: Threads + Wait + Sync, H: LaneHook + Sync, S: Lenders>(
     rt: &R,
     alloc: Global,
@@ -156,10 +153,9 @@ fn run_all<R: Threads + Wait + Sync, H: LaneHook + Sync, S: Lenders>(
     requires ready { (l : ℕ) (a : Lane S.Call) (x : Job S.Lent) → get_elem? lanes.now l ≡ some a → get_elem? jobs.old l ≡ some x → LaneReady S.knows S.owns S.takes a x }
     ensures ran { (l : ℕ) (a : Lane S.Call) (x y : Job S.Lent) → get_elem? lanes.now l ≡ some a → get_elem? jobs.old l ≡ some x → get_elem? jobs.new l ≡ some y → LaneRan S.knows S.stands_as S.owns a x y }
 {
-    thread::for_each_mut(
+    for_each_beside(
         rt,
         jobs,
-        MAX_LANES,
         &|l: usize, job: &mut Job<S::Lent>|
             requires { (l < length lanes.now) × ((a : Lane S.Call) → get_elem? lanes.now l ≡ some a → LaneReady S.knows S.owns S.takes a job.now) }
             ensures { (a : Lane S.Call) → get_elem? lanes.entry.now l ≡ some a → LaneRan S.knows S.stands_as S.owns a job.entry.now job.exit.now }
@@ -269,7 +265,7 @@ fn settle_named<R: Wait, S: Lenders>(rt: &R, shared: &mut S, lanes: &[Lane<S::Ca
     }
 }
 
-/// Runs lanes side by side, in up to eight threads. Each history grows by the calls that the lanes made on it, in one order
+/// Runs lanes side by side, each in a thread of its own. Each history grows by the calls that the lanes made on it, in one order
 /// in which each lane's calls stand as the lane made them; the orders of two histories have nothing to do with each other.
 /// All passes are back at the end.
 ///

@@ -16,10 +16,11 @@ use crate::{CallLine, Script};
 use hash_starts::HashStart;
 use memchr::memchr;
 use metrics_core::Memory;
+use side_by_side::for_each_beside;
 use std::alloc::Global;
 use std::marker::Model;
 use std::mem;
-use std::thread::{Threads, for_each_mut, join_mut};
+use std::thread::{Threads, join_mut};
 
 /// How many pieces are read side by side.
 const PIECES: usize = 4;
@@ -176,10 +177,9 @@ fn end_of_piece(bytes: &[u8], least: usize) -> Option<usize>
 fn read_beside<R: Threads + Sync>(rt: &R, alloc: Global, pieces: &mut Vec<Piece<'_>>)
     ensures { pieces.new.items ≡ pieces.old.items }
 {
-    for_each_mut(
+    for_each_beside(
         rt,
         pieces.as_mut_slice(),
-        PIECES,
         &|_: usize, piece: &mut Piece<'_>|
             ensures { piece.exit.now ≡ piece.entry.now }
         { piece.read(alloc) },
@@ -253,10 +253,10 @@ fn take_beside<R: Threads + Sync>(
     ensures next { next.new.items ≡ next.old.items }
     ensures taken { AreTaken (flat_map (λ lines. lines) read.old.items) progress.old progress.new result }
 {
-    let ((), taken) = join_mut(
+    let (taken, ()) = join_mut(
         rt,
-        &mut || read_beside(rt, alloc, next),
         &mut || take_pieces(rt, alloc, progress, read, rooms),
+        &mut || read_beside(rt, alloc, next),
     );
     taken
 }

@@ -15,12 +15,10 @@ use crate::lanes::{
 use drive_script::CallLine;
 use exporter_lanes::Exporters;
 use metrics_core::{Memory, SeriesId};
+use side_by_side::for_each_beside;
 use std::alloc::Global;
 use std::marker::Model;
-use std::thread::{Threads, for_each_mut};
-
-/// How many threads gather lanes side by side.
-const THREADS: usize = 4;
+use std::thread::Threads;
 
 /// A lane that is to take its calls, and then the lane with them, unless memory was refused. A contract sees what it takes them from.
 #[derive(Drop)]
@@ -171,10 +169,9 @@ fn tasks_of<'a>(
 fn take_beside<R: Threads + Sync>(rt: &R, alloc: Global, tasks: &mut Vec<LaneTask<'_>>)
     ensures { tasks.new.items ≡ tasks.old.items }
 {
-    for_each_mut(
+    for_each_beside(
         rt,
         tasks.as_mut_slice(),
-        THREADS,
         &|_: usize, task: &mut LaneTask<'_>|
             ensures { task.exit.now ≡ task.entry.now }
         { task.take_calls(alloc) },

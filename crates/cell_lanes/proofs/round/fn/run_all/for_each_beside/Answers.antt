@@ -5,7 +5,7 @@ use Rattle.legal_history.proofs.Steps.{one_at}
 use Rattle.cell_lanes.specs.declared.lane.Lane.{Lane}
 use Rattle.cell_lanes.specs.Lanes.{SlotsMade, LaneRan}
 use Rattle.atomic_table.proofs.Lists.{at_index}
-use Rattle.cell_lanes.proofs.round.fn.run_all.for_each_mut.Goals as goal
+use Rattle.cell_lanes.proofs.round.fn.run_all.for_each_beside.Goals as goal
 
 pub run_job-requires-clause-fresh : goal.run_job-requires-clause-fresh
 run_job-requires-clause-fresh g c κs within =
