@@ -29,6 +29,7 @@ pub mod BenchSteps
 pub mod SendSteps
 pub mod LineSteps
 pub mod SetupSteps
+pub mod Copies
 pub mod PayloadLimits
 pub mod CommandSteps
 pub mod Crossing

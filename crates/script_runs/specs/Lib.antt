@@ -22,3 +22,4 @@ pub mod Fitting
 pub mod LaneCalls
 pub mod LaneTables
 pub mod Vectors
+pub mod Copies

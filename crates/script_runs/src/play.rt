@@ -287,7 +287,7 @@ impl Player {
         ensures registered { OnOk result (flush_state_of self.new ≡ fold register_step (flush_state_of self.old) (map setup_of setup.items)) }
     {
         self.make_room(&setup)?;
-        let mut copies = lines_for_flushes(alloc, &setup)?;
+        let mut copies = lines_for_flushes(rt, alloc, &setup)?;
         set_up_both(
             rt,
             alloc,

@@ -1,9 +1,11 @@
 //! The setup lines of a round: what each does to an exporter, for the flushes and for the pages.
 
-ghost use Rattle.std.specs.Prelude.{◌≡◌, Bool, List, fold, map, string_bytes, vec_len, IfOk, OnOk};
+ghost use Rattle.std.specs.Prelude.{◌≡◌, ◌<◌, Bool, List, fold, map, string_bytes, vec_len, IfOk, OnOk};
+ghost use Rattle.std.specs.List.{AllZip};
 ghost use Rattle.dsd_exporter.specs.Resting.{AllRest as LinesRest};
 ghost use Rattle.drive_script.specs.Script.{Describe, Register};
 ghost use Rattle.drive_script.specs.Texts.{setup_of};
+ghost use Rattle.script_runs.specs.Copies.{AreForFlushes, IsMade, in_parts};
 ghost use Rattle.script_runs.specs.Flushes.{FlushPlay, register_step};
 ghost use Rattle.script_runs.specs.Play.{setup_step};
 ghost use Rattle.script_runs.specs.Player.{lines_state, rows_state};
@@ -17,14 +19,63 @@ use metrics_core::{Key, KeyName, Memory, MetricKind, SeriesId, SharedString, Uni
 use prom_exporter::PrometheusState;
 use std::alloc::Global;
 use std::sync::Wait;
-use std::thread::{Threads, join_mut};
+use std::thread::{Threads, join_mut, map_chunks};
 
 /// From how many setup lines on those for the flushes are done beside those for the pages. Fewer aren't worth a thread.
 const MANY: usize = 4096;
 
-/// The setup lines that are for the flushes, in order: those that register. A copy of a key shares its texts and its labels.
-pub(crate) fn lines_for_flushes(alloc: Global, setup: &[Setup]) -> Result<Vec<Setup>, Memory>
-    ensures { IfOk result (λ copies. (p : FlushPlay) → fold register_step p (map setup_of copies.items) ≡ fold register_step p (map setup_of setup.now)) }
+/// In how many parts many setup lines are copied: the thread that copies one of them starts the threads of the others.
+const PARTS: usize = 3;
+
+/// The setup lines that are for the flushes, in order and in parts, of which many are made side by side: those that register. A copy
+/// of a key shares its texts and its labels.
+pub(crate) fn lines_for_flushes<R: Threads + Sync>(
+    rt: &R,
+    alloc: Global,
+    setup: &[Setup],
+) -> Result<Vec<Vec<Setup>>, Memory>
+    ensures { IfOk result (λ parts. AreForFlushes setup.now (in_parts parts.items)) }
+{
+    let parts = map_chunks(
+        rt,
+        alloc,
+        setup,
+        part_size(setup.len()),
+        &|_: usize, part: &[Setup]| -> Result<Vec<Setup>, Memory>
+            ensures { IfOk result (λ copies. AreForFlushes part.entry.now copies.items) }
+        { copies_for_flushes(alloc, part) },
+    )?;
+    all_made(alloc, parts)
+}
+
+/// How many of so many setup lines are in a part of them, the last of which may have fewer.
+fn part_size(count: usize) -> usize
+    ensures { 0 < result }
+{
+    if count < MANY {
+        MANY
+    } else {
+        count.div_ceil(PARTS)
+    }
+}
+
+/// The parts, if all of them were made.
+fn all_made(
+    alloc: Global,
+    parts: Vec<Result<Vec<Setup>, Memory>>,
+) -> Result<Vec<Vec<Setup>>, Memory>
+    ensures { IfOk result (λ made. AllZip IsMade parts.items made.items) }
+{
+    let mut made = Vec::with_capacity(alloc, parts.len())?;
+    for part in parts {
+        made.push(part?)?;
+    }
+    Ok(made)
+}
+
+/// Copies of the setup lines that are for the flushes, in order.
+fn copies_for_flushes(alloc: Global, setup: &[Setup]) -> Result<Vec<Setup>, Memory>
+    ensures { IfOk result (λ copies. AreForFlushes setup.now copies.items) }
 {
     let mut copies = Vec::with_capacity(alloc, setup.len())?;
     for line in setup {
@@ -58,7 +109,7 @@ pub(crate) fn set_up_both<R: Threads + Wait + Sync>(
     exporters: &mut Exporters,
     line_handles: &mut Vec<SeriesId>,
     line_guesses: &mut Guesses,
-    copies: &mut Vec<Setup>,
+    copies: &mut Vec<Vec<Setup>>,
     handles: &mut Vec<SeriesId>,
     guesses: &mut Guesses,
     setup: &mut Vec<Setup>,
@@ -70,7 +121,7 @@ pub(crate) fn set_up_both<R: Threads + Wait + Sync>(
     ensures stepped { OnOk result (rows_state exporters.new.prometheus handles.new.items
         ≡ fold setup_step (rows_state exporters.old.prometheus handles.old.items) (map setup_of setup.old.items)) }
     ensures registered { OnOk result ((marks : List Bool) → lines_state marks exporters.new.dogstatsd line_handles.new.items
-        ≡ fold register_step (lines_state marks exporters.old.dogstatsd line_handles.old.items) (map setup_of copies.old.items)) }
+        ≡ fold register_step (lines_state marks exporters.old.dogstatsd line_handles.old.items) (map setup_of (in_parts copies.old.items))) }
 {
     if setup.len() < MANY {
         let lines = &mut exporters.dogstatsd;
@@ -101,7 +152,7 @@ fn set_up_beside<R: Threads + Wait + Sync>(
     lines: &mut State,
     line_handles: &mut Vec<SeriesId>,
     line_guesses: &mut Guesses,
-    copies: &mut Vec<Setup>,
+    copies: &mut Vec<Vec<Setup>>,
     pages: &mut PrometheusState,
     handles: &mut Vec<SeriesId>,
     guesses: &mut Guesses,
@@ -113,7 +164,7 @@ fn set_up_beside<R: Threads + Wait + Sync>(
     ensures lines_rest { LinesRest lines.old → LinesRest lines.new }
     ensures stepped { OnOk result (rows_state pages.new handles.new.items ≡ fold setup_step (rows_state pages.old handles.old.items) (map setup_of setup.old.items)) }
     ensures registered { OnOk result ((marks : List Bool) → lines_state marks lines.new line_handles.new.items
-        ≡ fold register_step (lines_state marks lines.old line_handles.old.items) (map setup_of copies.old.items)) }
+        ≡ fold register_step (lines_state marks lines.old line_handles.old.items) (map setup_of (in_parts copies.old.items))) }
 {
     let (first, second) = join_mut(
         rt,
@@ -125,10 +176,29 @@ fn set_up_beside<R: Threads + Wait + Sync>(
     Ok(())
 }
 
-/// Does setup lines for the flushes, in order. They are taken from the end of a list that is turned round, so that the room of
-/// those which are done is given back on the way.
+/// Does the setup lines of parts for the flushes, in order.
 pub(crate) fn set_up_lines<R>(
     _rt: &R,
+    alloc: Global,
+    lines: &mut State,
+    handles: &mut Vec<SeriesId>,
+    guesses: &mut Guesses,
+    parts: &mut Vec<Vec<Setup>>,
+) -> Result<(), Memory>
+    ensures settings { lines.new.settings ≡ lines.old.settings }
+    ensures rest { LinesRest lines.old → LinesRest lines.new }
+    ensures registered { OnOk result ((marks : List Bool) → lines_state marks lines.new handles.new.items
+        ≡ fold register_step (lines_state marks lines.old handles.old.items) (map setup_of (in_parts parts.old.items))) }
+{
+    for mut part in parts.drain(..) {
+        set_up_part(alloc, lines, handles, guesses, &mut part)?;
+    }
+    Ok(())
+}
+
+/// Does setup lines for the flushes, in order. They are taken from the end of a list that is turned round, so that the room of
+/// those which are done is given back on the way.
+fn set_up_part(
     alloc: Global,
     lines: &mut State,
     handles: &mut Vec<SeriesId>,

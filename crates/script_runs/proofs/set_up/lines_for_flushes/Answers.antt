@@ -1,16 +1,24 @@
-use Rattle.std.proofs.Common.{◌∷◌, [], ◌++◌, ap, sym, ◌∙◌, fold, map, take}
-use Rattle.std.proofs.lemmas.List.{map_more}
-use Rattle.std.proofs.lemmas.List.Sums.{fold_push}
-use Rattle.drive_script.specs.Texts.{setup_of}
-use Rattle.script_runs.specs.Flushes.{register_step}
+use Rattle.std.proofs.Common.{◌≡◌, ◌<◌, ℕ, List, Result, subst, ◌∙◌, length, arith}
+use Rattle.std.specs.Prelude.{IfOk, slice_index_or, vec_len}
+use Rattle.std.specs.Fork.{slice_chunk}
+use Rattle.std.specs.declared.vec.Vec.{Vec}
+use Rattle.std.specs.declared.alloc.Global.{Global}
+use Rattle.std.proofs.lemmas.Result.{IfOk-weaker}
+use Rattle.metrics_core.specs.declared.memory.Memory.{Memory}
+use Rattle.script_runs.specs.Copies.{AreForFlushes}
+use Rattle.script_runs.proofs.Copies.{chunks_copied, enough}
 use Rattle.script_runs.proofs.set_up.lines_for_flushes.Goals as goal
 
-pub loop-line-preserved : goal.loop-line-preserved
-loop-line-preserved c = λ p.
-    let line = c.line-item.result in
-    let done = map setup_of (take c.loop-line.line-index c.args.setup.now) in
-    let more = map_more setup_of c.args.setup.now c.loop-line.line-index line c.loop-line-test.true ∙ ap (λ l. done ++ setup_of l ∷ []) (sym c.line-item.is) in
-    c.in_ok-push_for_flushes.ensures p
-    ∙ ap (λ q. register_step q (setup_of line)) (c.loop-line.invariant p)
-    ∙ sym (fold_push register_step p done (setup_of line))
-    ∙ ap (fold register_step p) (sym more)
+pub returns : goal.returns
+returns g c =
+    let setup = c.args.setup.now in
+    let results = c.in_ok-parts.parts.items in
+    let size = c.part_size.result in
+    let count = length results in
+    let all : count ≡ vec_len c.in_ok-parts.parts = omega (arith, c.in_ok-parts.parts.ok.0) in
+    let each : (n : ℕ) (d : Result (Vec _ Global) Memory) → n < count → IfOk (slice_index_or results n d) (λ copies. AreForFlushes (slice_chunk setup size n) copies.items)
+    = λ n d less.
+    let gives = (c.in_ok-parts.ensures.each n d less).1 in
+    subst (λ chunk. IfOk (slice_index_or results n d) (λ copies. AreForFlushes chunk copies.items)) gives.argument_is.value gives.call in
+    IfOk-weaker c.all_made.result _ _ (λ made zip. chunks_copied size setup results made.items zip each
+    (enough count (length setup) size c.part_size.ensures (all ∙ c.in_ok-parts.ensures.len))) c.all_made.ensures

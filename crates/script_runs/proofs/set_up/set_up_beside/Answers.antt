@@ -15,6 +15,6 @@ join_mut-first-requires-send-F g c κs within =
       shr_send _ _ _ c.type_bounds.sync-R,
       (
         alloc-lent _ _,
-        (lines-lent _ _, (mut_send _ _ _ (Vec-send _ ids.the_send), (mut_send _ _ _ guesses.the_send, (mut_send _ _ _ (Vec-send _ setups.the_send), tt)))),
+        (lines-lent _ _, (mut_send _ _ _ (Vec-send _ ids.the_send), (mut_send _ _ _ guesses.the_send, (mut_send _ _ _ (Vec-send _ (Vec-send _ setups.the_send)), tt)))),
       ),
     )))

@@ -1,17 +1,16 @@
-use Rattle.std.proofs.Common.{◌≡◌, Bool, List, fold, map, reverse, vec_len}
+use Rattle.std.proofs.Common.{◌≡◌, Bool, List, fold, map}
+use Rattle.std.specs.Vec.Iter.{drain_items}
 use Rattle.drive_script.specs.Texts.{setup_of}
 use Rattle.dsd_exporter.specs.Resting.{AllRest}
+use Rattle.script_runs.specs.Copies.{in_parts}
 use Rattle.script_runs.specs.Flushes.{register_step}
 use Rattle.script_runs.specs.Player.{lines_state}
 use Rattle.script_runs.proofs.set_up.set_up_lines.Given as goal
 
-abbrev pub invariant-loop-line : goal.invariant-loop-line
-invariant-loop-line g l = record {
+abbrev pub invariant-loop-part : goal.invariant-loop-part
+invariant-loop-part g l = record {
   settings : l.lines.settings ≡ l.initial.lines.settings;
   rest : AllRest l.initial.lines → AllRest l.lines;
-  registered : (marks : List Bool) → fold register_step (lines_state marks l.lines l.handles.items) (map setup_of (reverse l.setup.items))
-      ≡ fold register_step (lines_state marks l.initial.lines l.initial.handles.items) (map setup_of l.fn.setup.items);
+  registered : (marks : List Bool) → fold register_step (lines_state marks l.lines l.handles.items) (map setup_of (in_parts (drain_items l.part-iterator)))
+      ≡ fold register_step (lines_state marks l.initial.lines l.initial.handles.items) (map setup_of (in_parts (drain_items l.initial.part-iterator)));
 }
-
-abbrev pub decreases-loop-line : goal.decreases-loop-line
-decreases-loop-line g l = vec_len l.setup
