@@ -17,6 +17,7 @@ use std::random::RandomSource;
 use std::rt::Env;
 use std::sync::Wait;
 use std::thread::Threads;
+use std::time::Clock;
 
 /// Makes the real source, sinks, link and listener, calls `run`, and ends with its status.
 fn main(rt: HostRuntime) -> ExitCode {
@@ -40,6 +41,7 @@ fn run_words<
         + Net<Listener = TcpListener, Stream = TcpStream>
         + RandomSource
         + Threads
+        + Clock
         + Wait
         + Sync,
     S: Source,
@@ -56,7 +58,7 @@ fn run_words<
         views.push(word.as_str())?;
     }
     let mut link = SocketLink::new(rt);
-    let mut listener = SocketListener::new(page_address());
+    let mut listener = SocketListener::new(rt, page_address());
     Ok(run(
         rt,
         alloc,

@@ -1,28 +1,36 @@
-//! The listener and the connections of the program's real edge: TCP, with counts of their failures. They tell nothing of what
-//! is read and written.
+//! The listener and the connections of the program's real edge: TCP, with counts of their failures, and with limits on how long a
+//! peer may take. They tell nothing of what is read and written.
 
 ghost use Rattle.std.specs.Prelude.{◌≡◌, Some, None, IfOk};
 
 use crate::{Conn, Listener};
 use metrics_core::Failed;
 use std::io;
-use std::io::{Read, Write};
+use std::io::{ErrorKind, Read, Write};
 use std::marker::Model;
 use std::net::{IpAddr, Net, SocketAddr, TcpListener, TcpStream};
-use std::time::Duration;
+use std::time::{Clock, Duration, Instant};
 
 /// How many seconds a peer may send nothing, or take nothing, before its connection fails.
 const PATIENCE: u64 = 5;
 
-/// A TCP connection. A contract sees it as its peer and its count of failures.
+/// How many seconds after a connection was accepted its peer may still be sending.
+const SECONDS_FOR_HEAD: u64 = 10;
+
+/// How many seconds after a connection was accepted its peer may still be taking its answer.
+const SECONDS_IN_ALL: u64 = 60;
+
+/// A TCP connection, with a clock. A contract sees it as its peer and its count of failures.
 #[derive(Drop)]
-pub struct SocketConn {
+pub struct SocketConn<'a, R: Clock> {
+    clock: &'a R,
     stream: TcpStream,
     peer: IpAddr,
+    accepted: Instant,
     faults: u64,
 }
 
-impl Model for SocketConn {
+impl<'a, R: Clock> Model for SocketConn<'a, R> {
     ghost use Rattle.prom_serve.specs.Sockets.{SocketText};
 
     ghost Value = { SocketText };
@@ -30,23 +38,47 @@ impl Model for SocketConn {
     ghost view = { λ conn. record { peer = conn.peer; faults = conn.faults } };
 }
 
-impl SocketConn {
-    /// A connection that has not failed yet, and fails where its peer sends or takes nothing for five seconds.
-    fn new(stream: TcpStream, peer: IpAddr) -> io::Result<SocketConn>
+impl<'a, R: Clock> SocketConn<'a, R> {
+    /// A connection that was accepted just now and has not failed yet.
+    fn new(clock: &'a R, stream: TcpStream, peer: IpAddr) -> io::Result<SocketConn<'a, R>>
         ensures { IfOk result (λ conn. conn ≡ record { peer = peer; faults = 0 }) }
     {
-        let patience = Some(Duration::from_secs(PATIENCE));
-        stream.set_read_timeout(patience)?;
-        stream.set_write_timeout(patience)?;
         Ok(SocketConn {
+            clock,
             stream,
             peer,
+            accepted: Instant::now(clock)?,
             faults: 0,
         })
     }
+
+    /// How long the peer may take now, where so many seconds after it was accepted are the end: what is left until then, and five
+    /// seconds at most.
+    fn patience(&self, end: u64) -> io::Result<Duration> {
+        let spent = self.accepted.elapsed(self.clock)?;
+        let left = Duration::from_secs(end).saturating_sub(spent);
+        if left.is_zero() {
+            return Err(io::Error::from(ErrorKind::TimedOut));
+        }
+        Ok(left.min(Duration::from_secs(PATIENCE)))
+    }
+
+    /// Reads what the peer sends in time.
+    fn read_in_time(&mut self, buf: &mut [u8]) -> io::Result<usize> {
+        let patience = self.patience(SECONDS_FOR_HEAD)?;
+        self.stream.set_read_timeout(Some(patience))?;
+        self.stream.read(buf)
+    }
+
+    /// Writes what the peer takes in time.
+    fn write_in_time(&mut self, piece: &[u8]) -> io::Result<usize> {
+        let patience = self.patience(SECONDS_IN_ALL)?;
+        self.stream.set_write_timeout(Some(patience))?;
+        self.stream.write(piece)
+    }
 }
 
-impl Conn for SocketConn {
+impl<'a, R: Clock> Conn for SocketConn<'a, R> {
     ghost who = { λ conn. Some conn.peer };
 
     ghost told = { λ _. None };
@@ -58,7 +90,7 @@ impl Conn for SocketConn {
     }
 
     fn read(&mut self, buf: &mut [u8]) -> Result<usize, Failed> {
-        match self.stream.read(buf) {
+        match self.read_in_time(buf) {
             Ok(count) => Ok(count),
             Err(_) => {
                 self.faults = self.faults.saturating_add(1);
@@ -68,7 +100,7 @@ impl Conn for SocketConn {
     }
 
     fn write(&mut self, piece: &[u8]) -> Result<usize, Failed> {
-        match self.stream.write(piece) {
+        match self.write_in_time(piece) {
             Ok(count) if count > 0 || piece.is_empty() => Ok(count),
             _ => {
                 self.faults = self.faults.saturating_add(1);
@@ -78,9 +110,12 @@ impl Conn for SocketConn {
     }
 }
 
-/// A TCP listener, which binds its address at its first `accept`. A contract sees it as its counts.
+/// A TCP listener, which binds its address at its first `accept`. A peer of its connections that sends or takes nothing for five
+/// seconds fails, as does one whose head takes ten seconds in all, or whose connection takes a minute. A contract sees it as its
+/// counts.
 #[derive(Drop)]
-pub struct SocketListener {
+pub struct SocketListener<'a, R: Clock> {
+    clock: &'a R,
     address: SocketAddr,
     bound: Option<TcpListener>,
     faults: u64,
@@ -88,7 +123,7 @@ pub struct SocketListener {
     lost: u64,
 }
 
-impl Model for SocketListener {
+impl<'a, R: Clock> Model for SocketListener<'a, R> {
     ghost use Rattle.prom_serve.specs.Sockets.{CountsText};
 
     ghost Value = { CountsText };
@@ -97,21 +132,18 @@ impl Model for SocketListener {
 }
 
 /// The next connection to an address, which is bound first where that was not done yet.
-fn next_conn<R: Net<Listener = TcpListener, Stream = TcpStream>>(
+fn next_stream<R: Net<Listener = TcpListener, Stream = TcpStream>>(
     rt: &R,
     address: SocketAddr,
     bound: &mut Option<TcpListener>,
-) -> io::Result<SocketConn>
-    ensures { IfOk result (λ conn. conn.faults ≡ 0) }
-{
+) -> io::Result<(TcpStream, SocketAddr)> {
     let listener = match bound.take() {
         Some(listener) => listener,
         None => TcpListener::bind(rt, address)?,
     };
     let accepted = accept_one(&listener);
     *bound = Some(listener);
-    let (stream, peer) = accepted?;
-    SocketConn::new(stream, peer.ip())
+    accepted
 }
 
 /// The next connection of a listener. A peer that is gone before its connection is accepted is passed over.
@@ -125,12 +157,13 @@ fn accept_one(listener: &TcpListener) -> io::Result<(TcpStream, SocketAddr)> {
     Err(io::Error::from(io::ErrorKind::ConnectionAborted))
 }
 
-impl SocketListener {
+impl<'a, R: Clock> SocketListener<'a, R> {
     /// The listener at this address, which is not bound yet.
-    pub fn new(address: SocketAddr) -> SocketListener
+    pub fn new(clock: &'a R, address: SocketAddr) -> SocketListener<'a, R>
         ensures { result ≡ record { faults = 0; given = 0; lost = 0 } }
     {
         SocketListener {
+            clock,
             address,
             bound: None,
             faults: 0,
@@ -138,10 +171,36 @@ impl SocketListener {
             lost: 0,
         }
     }
+
+    /// The listener over one of the system's that is bound already.
+    pub fn over(clock: &'a R, bound: TcpListener) -> io::Result<SocketListener<'a, R>>
+        ensures { IfOk result (λ listener. listener ≡ record { faults = 0; given = 0; lost = 0 }) }
+    {
+        Ok(SocketListener {
+            clock,
+            address: bound.local_addr()?,
+            bound: Some(bound),
+            faults: 0,
+            given: 0,
+            lost: 0,
+        })
+    }
+
+    /// The next connection.
+    fn next_conn<N: Net<Listener = TcpListener, Stream = TcpStream>>(
+        &mut self,
+        rt: &N,
+    ) -> io::Result<SocketConn<'a, R>>
+        ensures fresh { IfOk result (λ conn. conn.faults ≡ 0) }
+        ensures same { self.new ≡ self.old }
+    {
+        let (stream, peer) = next_stream(rt, self.address, &mut self.bound)?;
+        SocketConn::new(self.clock, stream, peer.ip())
+    }
 }
 
-impl Listener for SocketListener {
-    type Conn = SocketConn;
+impl<'a, R: Clock> Listener for SocketListener<'a, R> {
+    type Conn = SocketConn<'a, R>;
 
     ghost faults = { λ listener. listener.faults };
 
@@ -151,11 +210,11 @@ impl Listener for SocketListener {
 
     ghost finished = { λ _. None };
 
-    fn accept<R: Net<Listener = TcpListener, Stream = TcpStream>>(
+    fn accept<N: Net<Listener = TcpListener, Stream = TcpStream>>(
         &mut self,
-        rt: &R,
-    ) -> Result<SocketConn, Failed> {
-        match next_conn(rt, self.address, &mut self.bound) {
+        rt: &N,
+    ) -> Result<SocketConn<'a, R>, Failed> {
+        match self.next_conn(rt) {
             Ok(conn) => {
                 self.given = self.given.wrapping_add(1);
                 Ok(conn)
@@ -167,7 +226,7 @@ impl Listener for SocketListener {
         }
     }
 
-    fn done(&mut self, conn: SocketConn) {
+    fn done(&mut self, conn: SocketConn<'a, R>) {
         if conn.faults > 0 {
             self.lost = self.lost.wrapping_add(1);
         }

@@ -13,4 +13,6 @@ mod payload_tests;
 #[cfg(test)]
 mod serving_tests;
 #[cfg(test)]
+mod slow_peer_tests;
+#[cfg(test)]
 mod state_tests;
