@@ -95,6 +95,12 @@ def summary_pages(count):
         yield "0 rec 0 %d" % k
 
 
+def of_one_hash(*variables):
+    """Keys of one FNV-1a hash, as the script beside this one makes them."""
+    words = ["awk", *(it for name in variables for it in ("-v", name)), "-v", "count=100000", "-f", os.path.dirname(os.path.abspath(__file__)) + "/keys_of_one_hash.awk"]
+    return subprocess.run(words, stdout=subprocess.PIPE, text=True, check=True).stdout.splitlines()
+
+
 COSTLY = [
     ("100,000 counters of as many names", lambda: registered(100_000, 'register counter "c%d"')),
     ("one key of 100,000 labels, registered in two orders", lambda: one_key(100_000)),
@@ -102,6 +108,8 @@ COSTLY = [
     ("1,000,000 samples with a payload limit of 6", lambda: samples(1_000_000, ("dsd-limit 6",))),
     ("100,000 matchers of one length, and as many histograms", lambda: matchers(100_000, 8)),
     ("100,000 descriptions", lambda: registered(100_000, 'describe counter "c%d" - "x"')),
+    ("100,000 counters whose names have one FNV-1a hash", lambda: of_one_hash()),
+    ("100,000 counters of one name whose labels have one FNV-1a hash", lambda: of_one_hash("labels=1")),
     ("1,000 matchers of 1,000 lengths, and 1,000 longer names", lambda: matchers(1_000)),
     ("2,000 matchers of 2,000 lengths, and 2,000 longer names", lambda: matchers(2_000)),
     ("1,000,000 samples in a histogram of 100 bounds", lambda: samples(1_000_000, ("buckets " + " ".join(map(str, range(1, 101))),))),

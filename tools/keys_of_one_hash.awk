@@ -1,6 +1,6 @@
 # Prints a script that registers counters whose keys all have one hash (FNV-1a of 64 bits), for the program's word `drive`:
 #
-#     awk -v count=100000 -f docs/keys_of_one_hash.awk | metrics_drive drive
+#     awk -v count=100000 -f tools/keys_of_one_hash.awk | metrics_drive drive
 #
 # With -v apart=1 as many names as long are printed whose hashes differ. With -v labels=1 all counters have one name, and their labels one
 # hash. There are at most 131,072 of them.
