@@ -1,7 +1,7 @@
 //! The listener and the connections of the program's real edge: TCP, with counts of their failures, and with limits on how long a
 //! peer may take. They tell nothing of what is read and written.
 
-ghost use Rattle.std.specs.Prelude.{◌≡◌, Some, None, IfOk};
+ghost use Rattle.std.specs.Prelude.{◌≡◌, ◌≤◌, length, Some, None, IfOk};
 
 use crate::{Conn, Listener};
 use metrics_core::Failed;
@@ -64,14 +64,20 @@ impl<'a, R: Clock> SocketConn<'a, R> {
     }
 
     /// Reads what the peer sends in time.
-    fn read_in_time(&mut self, buf: &mut [u8]) -> io::Result<usize> {
+    fn read_in_time(&mut self, buf: &mut [u8]) -> io::Result<usize>
+        ensures bound { IfOk result (λ n. n ≤ length buf.old) }
+        ensures same { self.new ≡ self.old }
+    {
         let patience = self.patience(SECONDS_FOR_HEAD)?;
         self.stream.set_read_timeout(Some(patience))?;
         self.stream.read(buf)
     }
 
     /// Writes what the peer takes in time.
-    fn write_in_time(&mut self, piece: &[u8]) -> io::Result<usize> {
+    fn write_in_time(&mut self, piece: &[u8]) -> io::Result<usize>
+        ensures bound { IfOk result (λ n. n ≤ length piece.now) }
+        ensures same { self.new ≡ self.old }
+    {
         let patience = self.patience(SECONDS_IN_ALL)?;
         self.stream.set_write_timeout(Some(patience))?;
         self.stream.write(piece)
