@@ -3,10 +3,9 @@ use Rattle.std.specs.Prelude.{ℕ, Bool, List, [], ◌∷◌, ◌++◌, Result, 
 use Rattle.std.specs.List.{AllZip}
 use Rattle.metrics_core.specs.declared.memory.Memory.{Memory}
 use Rattle.drive_script.specs.Script.{IsLine, ScriptLine, CallOf}
-use Rattle.drive_script.specs.Texts.{call_line_of, line_of, StandsBehind}
+use Rattle.drive_script.specs.Texts.{call_line_of, line_of}
 use Rattle.drive_script.specs.declared.beside.Run.{Run}
 use Rattle.drive_script.specs.declared.beside.Run.TheVariants as runs
-use Rattle.drive_script.specs.declared.progress.ScriptSoFar.{ScriptSoFar}
 use Rattle.drive_script.specs.declared.script.CallLine.{CallLine}
 
 -- what call lines say, line by line
@@ -29,7 +28,3 @@ AreSaid lines said = AllZip IsLine lines (flat_map lines_said said)
 -- where lines were read and each says something, this is what they say
 abbrev pub IsReadAs : List (List ℕ) → Result Bool Memory → List Run → Type 0
 IsReadAs lines read said = IfOk read (λ all. IsTrue all → AreSaid lines said)
-
--- these lines were taken behind those so far, where the answer is true
-unfoldable pub AreTaken : List (List ℕ) → ScriptSoFar → ScriptSoFar → Result Bool Memory → Type 0
-AreTaken lines old new taken = (done : List (List ℕ)) → StandsBehind done old → IfOk taken (λ all. IsTrue all → StandsBehind (done ++ lines) new)

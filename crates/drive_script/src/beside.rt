@@ -3,7 +3,7 @@
 ghost use Rattle.std.specs.Prelude.{◌≡◌, ◌<◌, ◌++◌, ◌∷◌, [], ℕ, List, Some, flat_map, length, slice_get, IfOk, IfSome, IsTrue, OnOk};
 ghost use Rattle.std.specs.List.{AllZip};
 ghost use Rattle.metrics_core.specs.Characters.{newline};
-ghost use Rattle.drive_script.specs.Runs.{AreSaid, AreTaken, IsReadAs, lines_said, said_so_far};
+ghost use Rattle.drive_script.specs.Runs.{AreSaid, IsReadAs, lines_said, said_so_far};
 ghost use Rattle.drive_script.specs.Script.{IsLine, lines_of};
 ghost use Rattle.drive_script.specs.Texts.{line_of, script_of, StandsBehind};
 ghost use Rattle.drive_script.specs.Valid.{IsScriptOf};
@@ -20,12 +20,13 @@ use side_by_side::for_each_beside;
 use std::alloc::Global;
 use std::marker::Model;
 use std::mem;
-use std::thread::{Threads, join_mut};
+use std::thread::Threads;
 
 /// How many pieces are read side by side.
 const PIECES: usize = 4;
 
-/// The greatest size that pieces are cut to: what four of them say is kept until it is taken.
+/// The greatest size that pieces are cut to, and some more up to a newline: what four of them say is kept until it is taken, beside
+/// the script so far.
 const MOST_BYTES: usize = 524_288;
 
 /// What a run of lines says.
@@ -59,13 +60,13 @@ impl<'a> Model for Piece<'a> {
 }
 
 impl<'a> Piece<'a> {
-    /// The piece of these bytes, which are not read yet, with room for what they say.
-    fn unread(bytes: &'a [u8], room: Vec<Run>) -> Piece<'a>
+    /// The piece of these bytes, which are not read yet.
+    fn unread(alloc: Global, bytes: &'a [u8]) -> Piece<'a>
         ensures { result ≡ lines_of bytes.now }
     {
         Piece {
             bytes,
-            said: room,
+            said: Vec::new(alloc),
             read: Ok(false),
         }
     }
@@ -96,20 +97,15 @@ pub(crate) fn read_pieces<R: Threads + Sync>(
     ensures { IfOk result (λ read. IfSome read (λ script. IsScriptOf bytes.now (script_of script))) }
 {
     let mut progress = ScriptSoFar::new(alloc, start);
-    let mut rooms = Vec::new(alloc);
-    let mut read = Vec::new(alloc);
     let least = piece_bytes(bytes.len());
     let mut rest = bytes;
     while !rest.is_empty() {
-        let (mut next, behind) = first_pieces(alloc, &mut rooms, rest, least)?;
-        if !take_beside(rt, alloc, &mut progress, &mut read, &mut rooms, &mut next)? {
+        let (mut pieces, behind) = first_pieces(alloc, rest, least)?;
+        read_beside(rt, alloc, &mut pieces);
+        if !take_pieces(alloc, &mut progress, pieces)? {
             return Ok(None);
         }
-        read = next;
         rest = behind;
-    }
-    if !take_pieces(rt, alloc, &mut progress, &mut read, &mut rooms)? {
-        return Ok(None);
     }
     Ok(Some(progress.into_script()))
 }
@@ -121,10 +117,9 @@ fn piece_bytes(count: usize) -> usize {
     if part < MOST_BYTES { part } else { MOST_BYTES }
 }
 
-/// The first pieces, which are not read yet, and the bytes behind them. Their rooms are those of pieces before, where there are any.
+/// The first pieces, which are not read yet, and the bytes behind them.
 fn first_pieces<'a>(
     alloc: Global,
-    rooms: &mut Vec<Vec<Run>>,
     bytes: &'a [u8],
     least: usize,
 ) -> Result<(Vec<Piece<'a>>, &'a [u8]), Memory>
@@ -134,22 +129,17 @@ fn first_pieces<'a>(
 {
     let (first, behind) = first_piece(bytes, least);
     let mut pieces = Vec::with_capacity(alloc, PIECES)?;
-    pieces.push(Piece::unread(first, room(alloc, rooms)))?;
+    pieces.push(Piece::unread(alloc, first))?;
     let mut rest = behind;
     for _ in 1..PIECES {
         if rest.is_empty() {
             break;
         }
         let (next, behind) = first_piece(rest, least);
-        pieces.push(Piece::unread(next, room(alloc, rooms)))?;
+        pieces.push(Piece::unread(alloc, next))?;
         rest = behind;
     }
     Ok((pieces, rest))
-}
-
-/// The room of a piece before, or none yet.
-fn room(alloc: Global, rooms: &mut Vec<Vec<Run>>) -> Vec<Run> {
-    rooms.pop().unwrap_or(Vec::new(alloc))
 }
 
 /// The bytes of the first piece, and those behind it.
@@ -240,54 +230,30 @@ fn end_calls(alloc: Global, said: &mut Vec<Run>, calls: &mut Vec<CallLine>) -> R
     Ok(())
 }
 
-/// Takes what the lines of pieces say behind the lines so far, as `take_pieces` does, and beside it reads the next pieces. Both
-/// calls borrow the runtime: the borrow checker doesn't cover two closures side by side of which only one does.
-fn take_beside<R: Threads + Sync>(
-    rt: &R,
+/// Takes what the lines of pieces say behind the lines so far, in order. Answers whether all of them are a valid script.
+fn take_pieces(
     alloc: Global,
     progress: &mut ScriptSoFar,
-    read: &mut Vec<Piece<'_>>,
-    rooms: &mut Vec<Vec<Run>>,
-    next: &mut Vec<Piece<'_>>,
+    pieces: Vec<Piece<'_>>,
 ) -> Result<bool, Memory>
-    ensures next { next.new.items ≡ next.old.items }
-    ensures taken { AreTaken (flat_map (λ lines. lines) read.old.items) progress.old progress.new result }
+    ensures { (done : List (List ℕ)) → StandsBehind done progress.old
+        → IfOk result (λ taken. IsTrue taken → StandsBehind (done ++ flat_map (λ lines. lines) pieces.entry.items) progress.new) }
 {
-    let (taken, ()) = join_mut(
-        rt,
-        &mut || take_pieces(rt, alloc, progress, read, rooms),
-        &mut || read_beside(rt, alloc, next),
-    );
-    taken
-}
-
-/// Takes what the lines of pieces say behind the lines so far, in order, and gives their rooms back. Answers whether all of them
-/// are a valid script.
-fn take_pieces<R>(
-    _rt: &R,
-    alloc: Global,
-    progress: &mut ScriptSoFar,
-    pieces: &mut Vec<Piece<'_>>,
-    rooms: &mut Vec<Vec<Run>>,
-) -> Result<bool, Memory>
-    ensures { AreTaken (flat_map (λ lines. lines) pieces.old.items) progress.old progress.new result }
-{
-    for piece in pieces.drain(..) {
-        let (mut said, read) = piece.into_said();
-        if !read? || !take_runs(alloc, progress, &mut said)? {
+    for piece in pieces {
+        let (said, read) = piece.into_said();
+        if !read? || !take_runs(alloc, progress, said)? {
             return Ok(false);
         }
-        rooms.push(said)?;
     }
     Ok(true)
 }
 
 /// Takes what lines say behind the lines so far, in order. Answers whether all of them are a valid script.
-fn take_runs(alloc: Global, progress: &mut ScriptSoFar, said: &mut Vec<Run>) -> Result<bool, Memory>
-    ensures { (done lines : List (List ℕ)) → StandsBehind done progress.old → AreSaid lines said.old.items
+fn take_runs(alloc: Global, progress: &mut ScriptSoFar, said: Vec<Run>) -> Result<bool, Memory>
+    ensures { (done lines : List (List ℕ)) → StandsBehind done progress.old → AreSaid lines said.items
         → IfOk result (λ taken. IsTrue taken → StandsBehind (done ++ lines) progress.new) }
 {
-    for part in said.drain(..) {
+    for part in said {
         if !take_run(alloc, progress, part)? {
             return Ok(false);
         }

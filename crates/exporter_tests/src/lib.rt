@@ -5,3 +5,5 @@
 mod exporter;
 #[cfg(test)]
 mod lanes;
+#[cfg(test)]
+mod sockets;

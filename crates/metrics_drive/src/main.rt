@@ -2,6 +2,7 @@
 //! script over HTTP; or it makes one page of several.
 #![tactic(auto)]
 
+<<<<<<< HEAD
 use drive_script::DriveFault;
 use dsd_exporter::SocketLink;
 use metrics_core::{Memory, Reading, Sink, Source, Writing};
@@ -18,13 +19,17 @@ use std::rt::Env;
 use std::sync::Wait;
 use std::thread::Threads;
 use std::time::Clock;
+=======
+use metrics_core::{Reading, Writing};
+use program_words::{Ended, run_program};
+>>>>>>> 757743458fba84929e486564a64d149f5357433b
 
-/// Makes the real source, sinks, link and listener, calls `run`, and ends with its status.
-fn main(rt: HostRuntime) -> ExitCode {
-    let alloc = rt.alloc();
+/// Answers the words of the command line over the standard streams.
+fn main(rt: HostRuntime) -> Ended {
     let mut source = Reading::new(rt.stdin());
     let mut out = Writing::new(rt.stdout());
     let mut err = Writing::new(rt.stderr());
+<<<<<<< HEAD
     match run_words(&rt, alloc, &mut source, &mut out, &mut err) {
         Ok(status) => ExitCode::from(status),
         Err(Memory) => {
@@ -84,4 +89,7 @@ fn texts(alloc: Global, arguments: Args<Global>) -> Result<Vec<String>, Memory> 
         words.push(word)?;
     }
     Ok(words)
+=======
+    run_program(&rt, rt.alloc(), &mut source, &mut out, &mut err)
+>>>>>>> 757743458fba84929e486564a64d149f5357433b
 }

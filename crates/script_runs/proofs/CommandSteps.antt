@@ -12,7 +12,7 @@ use Rattle.script_runs.specs.BenchWords.{HasBenchWords, IsRounds}
 use Rattle.script_runs.specs.Commands.{AreOfBench, AreOfDrive, AreOfMerge, AreOfServe, IsBenchWords, IsForm, IsServeWords}
 use Rattle.script_runs.specs.Served.{HasServeWords, IsCount}
 
-apart : (one other : List ℕ) → bytes_eq one other ≡ false → one ≢ other
+pub apart : (one other : List ℕ) → bytes_eq one other ≡ false → one ≢ other
 apart one other differs same = true≢false (sym ((bytes_eq-Decides one other).1 same) ∙ differs)
 
 first_of : List (List ℕ) → List ℕ
@@ -20,7 +20,7 @@ first_of [] = []
 first_of (word ∷ words) = word
 
 -- words don't begin with two words that differ
-begin_once : (words : List (List ℕ)) (one other : List ℕ) (ones others : List (List ℕ)) → bytes_eq one other ≡ false → words ≡ one ∷ ones → words ≡ other ∷ others → ⊥
+pub begin_once : (words : List (List ℕ)) (one other : List ℕ) (ones others : List (List ℕ)) → bytes_eq one other ≡ false → words ≡ one ∷ ones → words ≡ other ∷ others → ⊥
 unfolding first_of
 begin_once words one other ones others differs is also = apart one other differs (ap first_of (sym is ∙ also))
 

@@ -14,7 +14,7 @@ use Rattle.dsd_exporter.specs.declared.sending.FlushReport.{FlushReport}
 use Rattle.drive_script.specs.Script.{RoundText, ScriptText, SettingsText}
 use Rattle.script_runs.specs.Flushes.{AreFlushOrders, AreFlushOrdersAlong, FlushPlay, ForSomeFlushOrders, ForSomeFlushes, after_flush, after_registers, all_left_out, all_payloads, flush_of, flush_payloads, flushes_along, payload_limit}
 use Rattle.script_runs.specs.Play.{RoundOrders}
-use Rattle.script_runs.specs.Sent.{Counts, Delivers, ForFirstFlushes, IsSent, IsSentInPart, LinkTold, none_sent, sent_part}
+use Rattle.script_runs.specs.Sent.{Counts, Delivers, IsSent, LinkTold, none_sent, sent_part}
 use Rattle.script_runs.specs.declared.report.Report.{Report}
 
 -- ---- outcomes
@@ -138,10 +138,6 @@ sent-earlier script to a b c report same fewer sent = record {
   flushed = (sent.flushed.0, sent.flushed.1, delivers-earlier script.settings to _ a b c none_sent (sent_part report) same fewer sent.flushed.2);
 }
 
-pub sent_in_part-earlier : (script : ScriptText) (to : RemoteText) (a b c : LinkTold) → b.sent ≡ a.sent → a.faults ≤ b.faults → IsSentInPart script to b c → IsSentInPart script to a c
-sent_in_part-earlier script to a b c same fewer (done, left, rounds, (choice, legal, (now, delivers))) =
-    (done, left, rounds, (choice, legal, (now, delivers-earlier script.settings to _ a b c none_sent now same fewer delivers)))
-
 -- ---- rounds
 
 -- the state behind some rounds
@@ -210,7 +206,3 @@ module _ (settings : SettingsText) (to : RemoteText) (start : FlushPlay) (all : 
   flushed-end p left a b x y none so_far =
       let whole : so_far.done ≡ all = sym (so_far.rounds ∙ ap (λ l. so_far.done ++ l) none ∙ append-nil so_far.done) in
       subst (λ rounds. ForSomeFlushes settings start rounds (λ flushes. Delivers settings to flushes a b x y)) whole (so_far.choice, so_far.legal, so_far.delivers)
-
-  pub flushed-cut : (p : FlushPlay) (left : List RoundText) (a b : LinkTold) (x y : FlushReport) → FlushedSoFar settings to start all p left a b x y
-      → ForFirstFlushes settings start all (λ flushes. (now : FlushReport) × Delivers settings to flushes a b x now)
-  flushed-cut p left a b x y so_far = (so_far.done, left, so_far.rounds, (so_far.choice, so_far.legal, (y, so_far.delivers)))

@@ -17,10 +17,12 @@ use Rattle.script_runs.specs.Headline.{IsPlayed, IsPlayedInPart, IsGoodScript, s
 use Rattle.script_runs.specs.Orders.{ForSomeRun, run_text}
 use Rattle.drive_script.specs.Settings.{refusal_of, refused_setting}
 use Rattle.drive_script.specs.declared.faults.SettingFault.{SettingFault}
-use Rattle.script_runs.specs.Answers.{IfPlayedInPart, IfUnplayed, IsAllowed, IsComplete, IsBadScript, IsRefusedSetting, IsReported, IsReportedInPart, IsTooLong, IsPlayFault, LeavesPrefix, end_status, fault_status}
-use Rattle.script_runs.specs.Sent.{IsSent, IsSentInPart, LinkTold}
+use Rattle.script_runs.specs.Answers.{IfUnplayed, IsAimed, IsAllowed, IsComplete, IsBadScript, IsRefusedSetting, IsReported, IsReportedInPart, IsTooLong, IsPlayFault, IsUnbegun, IsUnplayed, LeavesInPart, LeavesPrefix, LeavesSource, end_status, fault_status}
+use Rattle.script_runs.specs.InPart.{IsCutOff}
+use Rattle.script_runs.specs.Sent.{IsSent, LinkTold}
 use Rattle.script_runs.specs.Reading.{IsReadAs, IsReadFault, IsUnread}
 use Rattle.script_runs.specs.declared.report.Report.{Report}
+use Rattle.script_runs.proofs.ReadingSteps.{read_out}
 use Rattle.script_runs.proofs.RunPages.{run_is_pages}
 
 -- bytes that are a valid script have no bad line
@@ -90,27 +92,27 @@ read_fault_complete to bytes S K failed = record {
 -- ---- where the source tells
 
 -- a script read whole and played
-pub played_whole : (left : Option (List ℕ)) (items : List ℕ) (script : ScriptText) (written written' : Option (List ℕ))
-    → IfSome left (λ bytes. items ≡ bytes) → length items ≤ script_limit → IsScriptOf items script → ForSomeRun script (GrewBy written written')
+pub played_whole : (to : RemoteText) (left : Option (List ℕ)) (items : List ℕ) (script : ScriptText) (written written' : Option (List ℕ))
+    → IfSome left (λ bytes. items ≡ bytes) → IsGoodScript items script → IsAllowed to script → ForSomeRun script (GrewBy written written')
     → IfSome left (λ bytes. IsPlayed bytes written written')
-played_whole None items script written written' whole within reading grew = tt
-played_whole (Some bytes) items script written written' whole within reading grew =
+played_whole to None items script written written' whole good allowed grew = tt
+played_whole to (Some bytes) items script written written' whole good allowed grew =
     let P : List ℕ → Type 0 = λ b. IsPlayed b written written' in
-    subst P whole (record { script = script; reading = (within, reading); text = run_text script grew.0; pages = run_is_pages script grew.0 grew.1; grew = grew.2 })
+    subst P whole (record { script = script; reading = good; to = to; allowed = allowed; text = run_text script grew.0; pages = run_is_pages script grew.0 grew.1; grew = grew.2 })
 
 -- a script read whole and played in part
-pub played_prefix : (left : Option (List ℕ)) (items : List ℕ) (script : ScriptText) (written written' : Option (List ℕ)) (K : Type 0) (fault : DriveFault)
-    → IfSome left (λ bytes. items ≡ bytes) → length items ≤ script_limit → IsScriptOf items script → ForSomeRun script (GrewByPrefix written written')
-    → IsPlayFault K fault → IfSome left (λ bytes. LeavesPrefix bytes written written' fault)
-played_prefix None items script written written' K fault whole within reading grew cause = tt
-played_prefix (Some bytes) items script written written' K fault whole within reading grew cause =
-    let P : List ℕ → Type 0 = λ b. LeavesPrefix b written written' fault in
+pub played_prefix : (to : RemoteText) (left : Option (List ℕ)) (items : List ℕ) (script : ScriptText) (written written' : Option (List ℕ)) (K : Type 0) (fault : DriveFault)
+    → IfSome left (λ bytes. items ≡ bytes) → IsGoodScript items script → IsAllowed to script → ForSomeRun script (GrewByPrefix written written')
+    → IsPlayFault K fault → IfSome left (λ bytes. LeavesPrefix to bytes written written' fault)
+played_prefix to None items script written written' K fault whole good allowed grew cause = tt
+played_prefix to (Some bytes) items script written written' K fault whole good allowed grew cause =
+    let P : List ℕ → Type 0 = λ b. LeavesPrefix to b written written' fault in
     subst P whole (by fault cause)
   where
-    prefix : IsPlayedInPart items written written'
-    prefix = record { script = script; reading = (within, reading); text = run_text script grew.0; pages = run_is_pages script grew.0 grew.1; grew = grew.2 }
+    prefix : IsPlayedInPart to items written written'
+    prefix = record { script = script; reading = good; allowed = allowed; text = run_text script grew.0; pages = run_is_pages script grew.0 grew.1; grew = grew.2 }
 
-    by : (f : DriveFault) → IsPlayFault K f → LeavesPrefix items written written' f
+    by : (f : DriveFault) → IsPlayFault K f → LeavesPrefix to items written written' f
     by (faults.Script l) c = tt
     by (faults.Setting fault) c = tt
     by faults.TooLong c = tt
@@ -118,32 +120,122 @@ played_prefix (Some bytes) items script written written' K fault whole within re
     by faults.WriteFault c = prefix
     by faults.Memory c = inr prefix
 
--- the payloads of a script read whole and played, and of its first rounds
+-- the payloads of a script read whole and played
 pub reported : (left : Option (List ℕ)) (items : List ℕ) (script : ScriptText) (to : RemoteText) (told tells : LinkTold) (ended : Result Report DriveFault)
-    → IfSome left (λ bytes. items ≡ bytes) → IsGoodScript items script → IfOk ended (IsSent script to told tells) → IfOk ended (λ report. IfSome left (λ bytes. IsReported bytes to told tells report))
-reported left items script to told tells (Err fault) whole good sent = tt
-reported None items script to told tells (Ok report) whole good sent = tt
-reported (Some bytes) items script to told tells (Ok report) whole good sent =
+    → IfSome left (λ bytes. items ≡ bytes) → IsGoodScript items script → IsAllowed to script → IfOk ended (IsSent script to told tells)
+    → IfOk ended (λ report. IfSome left (λ bytes. IsReported bytes to told tells report))
+reported left items script to told tells (Err fault) whole good allowed sent = tt
+reported None items script to told tells (Ok report) whole good allowed sent = tt
+reported (Some bytes) items script to told tells (Ok report) whole good allowed sent =
     let P : List ℕ → Type 0 = λ b. IsReported b to told tells report in
-    subst P whole (record { script = script; reading = good; sent = sent })
+    subst P whole (record { script = script; reading = good; allowed = allowed; sent = sent })
 
-reported_prefix : (left : Option (List ℕ)) (items : List ℕ) (script : ScriptText) (to : RemoteText) (told tells : LinkTold)
-    → IfSome left (λ bytes. items ≡ bytes) → IsGoodScript items script → IsSentInPart script to told tells → IfSome left (λ bytes. (tells.sent ≡ told.sent) ⊎ IsReportedInPart bytes to told tells)
-reported_prefix None items script to told tells whole good sent = tt
-reported_prefix (Some bytes) items script to told tells whole good sent =
-    let P : List ℕ → Type 0 = λ b. (tells.sent ≡ told.sent) ⊎ IsReportedInPart b to told tells in
-    subst P whole (inr (record { script = script; reading = good; sent = sent }))
+-- a script read whole, whose play ended within a round
+pub cut_off : (to : RemoteText) (left : Option (List ℕ)) (items : List ℕ) (script : ScriptText) (written written' : Option (List ℕ)) (told tells : LinkTold) (K : Type 0) (fault : DriveFault)
+    → IfSome left (λ bytes. items ≡ bytes) → IsGoodScript items script → IsAllowed to script → IsCutOff script to written written' told tells
+    → IsPlayFault K fault → IfSome left (λ bytes. LeavesInPart to bytes written written' told tells fault)
+cut_off to None items script written written' told tells K fault whole good allowed ended cause = tt
+cut_off to (Some bytes) items script written written' told tells K fault whole good allowed ended cause =
+    let P : List ℕ → Type 0 = λ b. LeavesInPart to b written written' told tells fault in
+    subst P whole (by fault cause)
+  where
+    in_part : IsReportedInPart items to written written' told tells
+    in_part = record { script = script; reading = good; allowed = allowed; ended = ended }
 
-pub reported_in_part : (left : Option (List ℕ)) (items : List ℕ) (script : ScriptText) (to : RemoteText) (told tells : LinkTold) (ended : Result Report DriveFault)
-    → IfSome left (λ bytes. items ≡ bytes) → IsGoodScript items script → OnErr ended (IsSentInPart script to told tells)
-    → IfErr ended (IfPlayedInPart (IfSome left (λ bytes. (tells.sent ≡ told.sent) ⊎ IsReportedInPart bytes to told tells)))
-reported_in_part left items script to told tells (Ok report) whole good sent = tt
-reported_in_part left items script to told tells (Err (faults.Script l)) whole good sent = tt
-reported_in_part left items script to told tells (Err (faults.Setting fault)) whole good sent = tt
-reported_in_part left items script to told tells (Err faults.TooLong) whole good sent = tt
-reported_in_part left items script to told tells (Err faults.ReadFault) whole good sent = tt
-reported_in_part left items script to told tells (Err faults.WriteFault) whole good sent = reported_prefix left items script to told tells whole good sent
-reported_in_part left items script to told tells (Err faults.Memory) whole good sent = reported_prefix left items script to told tells whole good sent
+    by : (f : DriveFault) → IsPlayFault K f → LeavesInPart to items written written' told tells f
+    by (faults.Script l) c = tt
+    by (faults.Setting fault) c = tt
+    by faults.TooLong c = tt
+    by faults.ReadFault c = tt
+    by faults.WriteFault c = in_part
+    by faults.Memory c = inr in_part
+
+-- no script was read, so nothing was written or sent
+pub unread_in_part : (to : RemoteText) (left : Option (List ℕ)) (S : Type 0) (written : Option (List ℕ)) (told : LinkTold) (fault : DriveFault) → IsUnread left S fault
+    → IfSome left (λ bytes. LeavesInPart to bytes written written told told fault)
+unread_in_part to None S written told fault h = tt
+unread_in_part to (Some bytes) S written told (faults.Script l) h = tt
+unread_in_part to (Some bytes) S written told (faults.Setting fault) h = tt
+unread_in_part to (Some bytes) S written told faults.TooLong h = tt
+unread_in_part to (Some bytes) S written told faults.ReadFault h = tt
+unread_in_part to (Some bytes) S written told faults.WriteFault h = absurd h
+unread_in_part to (Some bytes) S written told faults.Memory h = inl (refl, refl)
+
+-- a setting was refused, or memory to aim the link
+pub refused_in_part : (to : RemoteText) (left : Option (List ℕ)) (written : Option (List ℕ)) (told tells : LinkTold) (fault : SettingFault)
+    → IfSome left (λ bytes. LeavesInPart to bytes written written told tells (faults.Setting fault))
+refused_in_part to None written told tells fault = tt
+refused_in_part to (Some bytes) written told tells fault = tt
+
+pub unaimed_in_part : (to : RemoteText) (left : Option (List ℕ)) (written : Option (List ℕ)) (told tells : LinkTold) → tells.sent ≡ told.sent
+    → IfSome left (λ bytes. LeavesInPart to bytes written written told tells faults.Memory)
+unaimed_in_part to None written told tells same = tt
+unaimed_in_part to (Some bytes) written told tells same = inl (refl, same)
+
+-- what a status of a fault says of that
+pub in_part_of_status : (to : RemoteText) (left : Option (List ℕ)) (written written' : Option (List ℕ)) (told tells : LinkTold) (fault : DriveFault)
+    → IfSome left (λ bytes. LeavesInPart to bytes written written' told tells fault) → fault_status fault ≡ 7 → IfSome left (λ bytes. IsReportedInPart bytes to written written' told tells)
+in_part_of_status to None written written' told tells fault h e = tt
+in_part_of_status to (Some bytes) written written' told tells (faults.Script l) h e = absurd (omega (arith, e))
+in_part_of_status to (Some bytes) written written' told tells (faults.Setting fault) h e = absurd (omega (arith, e))
+in_part_of_status to (Some bytes) written written' told tells faults.TooLong h e = absurd (omega (arith, e))
+in_part_of_status to (Some bytes) written written' told tells faults.ReadFault h e = absurd (omega (arith, e))
+in_part_of_status to (Some bytes) written written' told tells faults.WriteFault h e = h
+in_part_of_status to (Some bytes) written written' told tells faults.Memory h e = absurd (omega (arith, e))
+
+pub memory_of_status : (to : RemoteText) (left : Option (List ℕ)) (written written' : Option (List ℕ)) (told tells : LinkTold) (fault : DriveFault)
+    → IfSome left (λ bytes. LeavesInPart to bytes written written' told tells fault) → fault_status fault ≡ 8
+    → IfSome left (λ bytes. IsUnbegun written written' told tells ⊎ IsReportedInPart bytes to written written' told tells)
+memory_of_status to None written written' told tells fault h e = tt
+memory_of_status to (Some bytes) written written' told tells (faults.Script l) h e = absurd (omega (arith, e))
+memory_of_status to (Some bytes) written written' told tells (faults.Setting fault) h e = absurd (omega (arith, e))
+memory_of_status to (Some bytes) written written' told tells faults.TooLong h e = absurd (omega (arith, e))
+memory_of_status to (Some bytes) written written' told tells faults.ReadFault h e = absurd (omega (arith, e))
+memory_of_status to (Some bytes) written written' told tells faults.WriteFault h e = absurd (omega (arith, e))
+memory_of_status to (Some bytes) written written' told tells faults.Memory h e = h
+
+-- after a status that no play ends with
+played_status : (n : ℕ) → (n ≡ 7) ⊎ (n ≡ 8) → IsUnplayed n → ⊥
+played_status n (inl e) is = grind (arith, e, is)
+played_status n (inr e) is = grind (arith, e, is)
+
+pub unplayed_of_status : (P : Type 0) (fault : DriveFault) → IfUnplayed P fault → (status : ℕ) → fault_status fault ≡ status → IsUnplayed status → P
+unplayed_of_status P (faults.Script l) h status e is = h
+unplayed_of_status P (faults.Setting fault) h status e is = h
+unplayed_of_status P faults.TooLong h status e is = h
+unplayed_of_status P faults.ReadFault h status e is = h
+unplayed_of_status P faults.WriteFault h status e is = absurd (played_status status (inl (sym e)) is)
+unplayed_of_status P faults.Memory h status e is = absurd (played_status status (inr (sym e)) is)
+
+-- ---- where the link is aimed
+
+neither : {P Q : Type 0} → (P → ⊥) → (Q → ⊥) → P ⊎ Q → ⊥
+neither p q (inl x) = p x
+neither p q (inr y) = q y
+
+-- the link is as before, and the status is neither that of a whole run nor that of a failed write
+pub still_aimed : (to : RemoteText) (before after : Option RemoteText) (status : ℕ) → after ≡ before → (status ≡ 0 → ⊥) → (status ≡ 7 → ⊥) → IsAimed to before after status
+still_aimed to before after status same zero seven = record { only = inl same; played = λ e. absurd (neither zero seven e) }
+
+pub unread_aimed : (to : RemoteText) (left : Option (List ℕ)) (S : Type 0) (aimed : Option RemoteText) (fault : DriveFault) → IsUnread left S fault → IsAimed to aimed aimed (fault_status fault)
+unread_aimed to left S aimed (faults.Script l) h = still_aimed to aimed aimed 3 refl (λ e. omega (arith, e)) (λ e. omega (arith, e))
+unread_aimed to left S aimed (faults.Setting fault) h = still_aimed to aimed aimed 4 refl (λ e. omega (arith, e)) (λ e. omega (arith, e))
+unread_aimed to left S aimed faults.TooLong h = still_aimed to aimed aimed 5 refl (λ e. omega (arith, e)) (λ e. omega (arith, e))
+unread_aimed to left S aimed faults.ReadFault h = still_aimed to aimed aimed 6 refl (λ e. omega (arith, e)) (λ e. omega (arith, e))
+unread_aimed to left S aimed faults.WriteFault h = absurd h
+unread_aimed to left S aimed faults.Memory h = still_aimed to aimed aimed 8 refl (λ e. omega (arith, e)) (λ e. omega (arith, e))
+
+pub now_aimed : (to : RemoteText) (before after : Option RemoteText) (status : ℕ) → after ≡ Some to → IsAimed to before after status
+now_aimed to before after status at = record { only = inr at; played = λ e. at }
+
+-- what is so where a fault came before the play
+pub unplayed_by : (P : Type 0) (fault : DriveFault) → P → IfUnplayed P fault
+unplayed_by P (faults.Script l) p = p
+unplayed_by P (faults.Setting fault) p = p
+unplayed_by P faults.TooLong p = p
+unplayed_by P faults.ReadFault p = p
+unplayed_by P faults.WriteFault p = tt
+unplayed_by P faults.Memory p = tt
 
 -- a play's fault is none of those that come before it
 pub played_on : (P K : Type 0) (ended : Result Report DriveFault) → IfErr ended (IsPlayFault K) → IfErr ended (IfUnplayed P)
@@ -154,28 +246,6 @@ played_on P K (Err faults.TooLong) cause = absurd cause
 played_on P K (Err faults.ReadFault) cause = absurd cause
 played_on P K (Err faults.WriteFault) cause = tt
 played_on P K (Err faults.Memory) cause = tt
-
--- where a fault came before the play, nothing was sent
-pub unsent_by : (P : Type 0) (fault : DriveFault) → P → IfUnplayed P fault
-unsent_by P (faults.Script l) p = p
-unsent_by P (faults.Setting fault) p = p
-unsent_by P faults.TooLong p = p
-unsent_by P faults.ReadFault p = p
-unsent_by P faults.WriteFault p = tt
-unsent_by P faults.Memory p = tt
-
-pub in_part_by : (P : Type 0) (fault : DriveFault) → P → IfPlayedInPart P fault
-in_part_by P (faults.Script l) p = tt
-in_part_by P (faults.Setting fault) p = tt
-in_part_by P faults.TooLong p = tt
-in_part_by P faults.ReadFault p = tt
-in_part_by P faults.WriteFault p = p
-in_part_by P faults.Memory p = p
-
--- nothing was sent, where the source tells
-pub none_reported : (left : Option (List ℕ)) (to : RemoteText) (told tells : LinkTold) → tells.sent ≡ told.sent → IfSome left (λ bytes. (tells.sent ≡ told.sent) ⊎ IsReportedInPart bytes to told tells)
-none_reported None to told tells same = tt
-none_reported (Some bytes) to told tells same = inl same
 
 -- completeness, where the script was found good
 pub good_answers : (to : RemoteText) (left : Option (List ℕ)) (items : List ℕ) (S K : Type 0) (script : ScriptText) (status : ℕ)
@@ -218,6 +288,40 @@ complete_handed_on to left S K ended fault is complete =
     let refusal = err_from_is_err_and ended is in
     subst (λ r. IfSome left (λ bytes. IsComplete to bytes S K (end_status r))) (sym refusal.1)
     (subst (λ f. IfSome left (λ bytes. IsComplete to bytes S K (fault_status f))) (sym refusal.2) complete)
+
+-- what is so of the status of a fault that was handed on
+pub status_handed_on : {T : Type 0} (ended : Result T DriveFault) (fault : DriveFault) (P : ℕ → Type 0) → IsErrAnd ended (λ f. f ≡ fault) → P (fault_status fault) → P (end_status ended)
+status_handed_on ended fault P is h =
+    let refusal = err_from_is_err_and ended is in
+    subst (λ r. P (end_status r)) (sym refusal.1) (subst (λ f. P (fault_status f)) (sym refusal.2) h)
+
+not_too_long : (K : Type 0) (fault : DriveFault) → IsPlayFault K fault → fault_status fault ≡ 5 → ⊥
+not_too_long K (faults.Script l) c e = c
+not_too_long K (faults.Setting fault) c e = c
+not_too_long K faults.TooLong c e = c
+not_too_long K faults.ReadFault c e = c
+not_too_long K faults.WriteFault c e = omega (arith, e)
+not_too_long K faults.Memory c e = omega (arith, e)
+
+refused_script : (items : List ℕ) (fault : DriveFault) → IsScriptFault items fault → fault_status fault ≡ 5 → ⊥
+refused_script items (faults.Script l) c e = omega (arith, e)
+refused_script items (faults.Setting fault) c e = omega (arith, e)
+refused_script items faults.TooLong c e = c
+refused_script items faults.ReadFault c e = omega (arith, e)
+refused_script items faults.WriteFault c e = omega (arith, e)
+refused_script items faults.Memory c e = omega (arith, e)
+
+-- a source that was read out before its bytes were read as a script
+pub script_reads : (items : List ℕ) (left left' : Option (List ℕ)) (ended : Result Script DriveFault) → IfErr ended (IsScriptFault items) → IfSome left (λ bytes. LeavesSource bytes left' 0)
+    → IfSome left (λ bytes. LeavesSource bytes left' (end_status ended))
+script_reads items left left' (Ok script) refused h = h
+script_reads items left left' (Err fault) refused h = read_out left left' (fault_status fault) h (refused_script items fault refused)
+
+-- a source that was read out before the play
+pub play_reads : (K : Type 0) (left left' : Option (List ℕ)) (ended : Result Report DriveFault) → IfErr ended (IsPlayFault K) → IfSome left (λ bytes. LeavesSource bytes left' 0)
+    → IfSome left (λ bytes. LeavesSource bytes left' (end_status ended))
+play_reads K left left' (Ok report) cause h = h
+play_reads K left left' (Err fault) cause h = read_out left left' (fault_status fault) h (not_too_long K fault cause)
 
 pub err_with : {T E : Type 0} (r : Result T E) (P : Type 0) (C Q : E → Type 0) → OnErr r P → IfErr r C → ((e : E) → P → C e → Q e) → IfErr r Q
 err_with (Ok v) P C Q p c with_both = tt

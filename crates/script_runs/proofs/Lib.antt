@@ -24,6 +24,7 @@ pub mod ServingSteps
 pub mod ServingWords
 pub mod OverBoth
 pub mod Delivered
+pub mod PagesSoFar
 pub mod LastPages
 pub mod BenchSteps
 pub mod SendSteps

@@ -1,11 +1,11 @@
 -- What was read of a source so far, and what is left.
-use Rattle.std.proofs.Common.{◌≡◌, ℕ, ◌+◌, ◌<◌, ◌≤◌, List, [], ◌++◌, length, take, drop, refl, sym, ap, ◌∙◌, append_assoc, arith, length-append, length-drop}
+use Rattle.std.proofs.Common.{◌≡◌, ℕ, ◌+◌, ◌<◌, ◌≤◌, List, [], ◌++◌, length, take, drop, refl, sym, ap, subst, ◌∙◌, append_assoc, arith, length-append, length-drop}
 use Rattle.std.proofs.lemmas.List.{length-take-le, take-append-drop}
-use Rattle.std.proofs.Math.Seq.{take-append_seam}
+use Rattle.std.proofs.Math.Seq.{drop-append_seam, take-append_seam}
 use Rattle.std.specs.Prelude.{Option, Some, None, IfSome}
 use Rattle.metrics_core.specs.Outside.{Moved, Rose}
 use Rattle.script_runs.specs.Headline.{script_limit}
-use Rattle.script_runs.specs.Answers.{IsTooLong}
+use Rattle.script_runs.specs.Answers.{IsTooLong, LeavesSource, fault_status}
 use Rattle.drive_script.specs.declared.faults.DriveFault.{DriveFault}
 use Rattle.drive_script.specs.declared.faults.DriveFault.TheVariants as faults
 use Rattle.script_runs.specs.Reading.{IsTaken, IsPieceFault, IsReadFault}
@@ -94,3 +94,75 @@ piece_fault left first before now faults.TooLong le h = absurd h
 piece_fault left first before now faults.ReadFault le h = omega (arith, le, h)
 piece_fault left first before now faults.WriteFault le h = h
 piece_fault left first before now faults.Memory le h = h
+
+-- ---- what is left
+
+-- the bytes that are left, by how many were read
+left_behind : (all : List ℕ) (left : Option (List ℕ)) (bytes : List ℕ) → IsReadSoFar all left bytes → left ≡ Some (drop (length bytes) all)
+left_behind all left bytes so_far = so_far.told ∙ ap Some (sym (ap (drop (length bytes)) so_far.split ∙ drop-append_seam bytes so_far.rest))
+
+read_in_part : (all : List ℕ) (left : Option (List ℕ)) (bytes : List ℕ) → length bytes ≤ script_limit + 1 → IsReadSoFar all left bytes → (n : ℕ) × (n ≤ script_limit + 1) × (left ≡ Some (drop n all))
+read_in_part all left bytes few so_far = (length bytes, few, left_behind all left bytes so_far)
+
+-- a read failed, or room for it was refused
+pub leaves_some : (first left left' : Option (List ℕ)) (bytes : List ℕ) (S : Type 0) (fault : DriveFault) → IsPieceFault S fault → length bytes ≤ script_limit + 1 → left' ≡ left
+    → ReadSoFar first left bytes → IfSome first (λ all. LeavesSource all left' (fault_status fault))
+leaves_some None left left' bytes S fault cause few kept so_far = tt
+leaves_some (Some all) left left' bytes S fault cause few kept so_far = by fault cause
+  where
+    some : (n : ℕ) × (n ≤ script_limit + 1) × (left' ≡ Some (drop n all))
+    some = let (n, within, is) = read_in_part all left bytes few so_far in (n, within, kept ∙ is)
+
+    by : (f : DriveFault) → IsPieceFault S f → LeavesSource all left' (fault_status f)
+    by (faults.Script l) c = absurd c
+    by (faults.Setting fault) c = absurd c
+    by faults.TooLong c = absurd c
+    by faults.ReadFault c = record { within = some; too_long = λ e. absurd (omega (arith, e)); whole = λ a b c. absurd (b refl) }
+    by faults.WriteFault c = absurd c
+    by faults.Memory c = record { within = some; too_long = λ e. absurd (omega (arith, e)); whole = λ a b c. absurd (c refl) }
+
+-- the source was read to its end
+pub leaves_none : (first left left' : Option (List ℕ)) (bytes bytes' : List ℕ) (n : ℕ) → n ≡ 0 → length bytes' ≤ script_limit + 1 → ReadSoFar first left bytes
+    → IfSome left (λ rest. IsTaken rest left' bytes bytes' n) → IfSome first (λ all. LeavesSource all left' 0)
+leaves_none None left left' bytes bytes' n zero few so_far taken = tt
+leaves_none (Some all) left left' bytes bytes' n zero few so_far taken =
+    let more = read_more (Some all) left left' bytes bytes' n so_far taken in
+    record {
+      within = read_in_part all left' bytes' few more;
+      too_long = λ e. absurd (omega (arith, e));
+      whole = λ a b c. at_end left so_far taken;
+    }
+  where
+    at_end : (l : Option (List ℕ)) → IsReadSoFar all l bytes → IfSome l (λ rest. IsTaken rest left' bytes bytes' n) → left' ≡ Some []
+    at_end None h t = absurd (impossible h.told)
+      where
+        impossible : {r : List ℕ} → None ≡ Some r → ⊥
+        impossible e = cc
+    at_end (Some rest) h t = t.told ∙ ap (λ r. Some (drop n r)) (t.at_the_end zero) ∙ ap (λ k. Some (drop k [])) zero
+
+-- one byte past the limit was read
+pub leaves_long : (first left : Option (List ℕ)) (bytes : List ℕ) → length bytes ≡ script_limit + 1 → ReadSoFar first left bytes → IfSome first (λ all. LeavesSource all left 5)
+leaves_long None left bytes many so_far = tt
+leaves_long (Some all) left bytes many so_far = record {
+  within = read_in_part all left bytes (omega (arith, many)) so_far;
+  too_long = λ e. left_behind all left bytes so_far ∙ ap (λ n. Some (drop n all)) many;
+  whole = λ a b c. absurd (a refl);
+}
+
+-- a source that was read out
+pub read_out : (left left' : Option (List ℕ)) (status : ℕ) → IfSome left (λ bytes. LeavesSource bytes left' 0) → (status ≡ 5 → ⊥) → IfSome left (λ bytes. LeavesSource bytes left' status)
+read_out None left' status h not_long = tt
+read_out (Some bytes) left' status h not_long = record {
+  within = h.within;
+  too_long = λ e. absurd (not_long e);
+  whole = λ a b c. h.whole (λ e. omega (arith, e)) (λ e. omega (arith, e)) (λ e. omega (arith, e));
+}
+
+-- a source that was not read
+pub unread : (left : Option (List ℕ)) → IfSome left (λ bytes. LeavesSource bytes left 8)
+unread None = tt
+unread (Some bytes) = record {
+  within = (0, omega arith, refl);
+  too_long = λ e. absurd (omega (arith, e));
+  whole = λ a b c. absurd (c refl);
+}

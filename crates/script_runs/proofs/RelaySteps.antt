@@ -174,6 +174,13 @@ refused_ends left items S K written written' relay.Memory whole within cause lea
   complete = of_any left (λ bytes. IsRelayComplete bytes S K 8) (λ bytes. memory_relay bytes S K);
 }
 
+-- the relay is refused by no script that is too long
+pub relayed_in_time : (fault : RelayFault) → relay_status fault ≡ 5 → ⊥
+relayed_in_time (relay.Syntax l) e = omega (arith, e)
+relayed_in_time (relay.Conflict page name) e = omega (arith, e)
+relayed_in_time relay.WriteFault e = omega (arith, e)
+relayed_in_time relay.Memory e = omega (arith, e)
+
 -- ---- lines on `err`
 
 pub unread_line : (left : Option (List ℕ)) (S : Type 0) (fault : DriveFault) → IsReadFault left S fault → IsRelayLineOf left (fault_status fault) (line (fault_text fault))
@@ -201,6 +208,10 @@ pub relay_said_of : (Failed : Type 0) (said said' : Option (List ℕ)) (fault is
 relay_said_of Failed said said' fault is text same spelled h =
     let P : List ℕ → Type 0 = λ t. IsSaidText Failed said said' t in
     subst P (spelled ∙ sym (ap (λ f. line (relay_fault_text f)) same)) h
+
+-- the line of a bad line, from its pieces
+pub syntax_line : (digits : List ℕ) (l : ℕ) → digits ≡ decimal l → codes "page: line " ++ (digits ++ newline ∷ []) ≡ line (relay_fault_text (relay.Syntax l))
+syntax_line digits l e = ap (λ d. codes "page: line " ++ (d ++ newline ∷ [])) e ∙ sym (append_assoc (codes "page: line ") (decimal l) (newline ∷ []))
 
 -- the line of a conflict, from its pieces
 pub conflict_line : (digits text : List ℕ) (page : ℕ) (name : String Global) → digits ≡ decimal page → text ≡ string_bytes name

@@ -27,7 +27,7 @@ orders_legal settings p (round ∷ rounds) = (
   orders_legal settings (after_round settings p round (orders_in_turn p round)) rounds,
 )
 
-pages_read : (settings : SettingsText) (p : PlayState) (rounds : List RoundText) (choice : List RoundOrders) → AreOrdersAlong settings p rounds choice → ArePages (rounds_text settings p rounds choice) (pages_along settings p rounds choice)
+pub pages_read : (settings : SettingsText) (p : PlayState) (rounds : List RoundText) (choice : List RoundOrders) → AreOrdersAlong settings p rounds choice → ArePages (rounds_text settings p rounds choice) (pages_along settings p rounds choice)
 pages_read settings p [] [] legal = refl
 pages_read settings p [] (orders ∷ choice) legal = absurd legal
 pages_read settings p (round ∷ rounds) [] legal = absurd legal

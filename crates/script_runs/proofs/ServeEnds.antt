@@ -1,5 +1,5 @@
 -- From what serving a script tells to what a run of it says as a whole.
-use Rattle.std.proofs.Common.{◌≡◌, ℕ, ◌⊎◌, inl, inr, List, refl, arith}
+use Rattle.std.proofs.Common.{◌≡◌, ℕ, ◌⊎◌, inl, inr, List, refl, sym, ap, subst, ◌∙◌, arith}
 use Rattle.std.specs.Prelude.{Option, Some, None, IfSome}
 use Rattle.metrics_core.specs.Characters.{line}
 use Rattle.net_addresses.specs.Addresses.{NetworkText}
@@ -8,7 +8,7 @@ use Rattle.prom_serve.specs.Serving.{Listening}
 use Rattle.drive_script.specs.declared.faults.SettingFault.{SettingFault}
 use Rattle.drive_script.specs.declared.faults.DriveFault.TheVariants as faults
 use Rattle.script_runs.specs.Agent.{default_agent}
-use Rattle.script_runs.specs.Answers.{IsBadScript, IsRefusedSetting}
+use Rattle.script_runs.specs.Answers.{IsBadScript, IsRefusedSetting, IsSaidText}
 use Rattle.script_runs.specs.Served.{HasServeCause, HasServeDeviceCause, IsScriptServed, IsServeComplete, IsServeEnd, IsServeLineOf, LeavesServed, bad_script, listener_failed, no_memory, read_failed, serve_fault_text, serve_status, setting_refused, too_long}
 use Rattle.script_runs.specs.declared.serving.ServeScriptFault.{ServeScriptFault}
 use Rattle.script_runs.specs.declared.serving.ServeScriptFault.TheVariants as serving
@@ -163,3 +163,10 @@ unserved_line count left lost lost' S N (serving.Drive faults.ReadFault) cause d
 unserved_line count left lost lost' S N (serving.Drive faults.WriteFault) cause device = absurd device
 unserved_line count left lost lost' S N (serving.Drive faults.Memory) cause device = no_memory
 unserved_line count left lost lost' S N serving.FailedToCreateHTTPListener cause device = listener_failed
+
+-- a text that is the line of a fault, said of that fault
+pub served_said_of : (Failed : Type 0) (said said' : Option (List ℕ)) (fault is : ServeScriptFault) (text : List ℕ) → fault ≡ is → text ≡ line (serve_fault_text is)
+    → IsSaidText Failed said said' text → IsSaidText Failed said said' (line (serve_fault_text fault))
+served_said_of Failed said said' fault is text same spelled h =
+    let P : List ℕ → Type 0 = λ t. IsSaidText Failed said said' t in
+    subst P (spelled ∙ sym (ap (λ f. line (serve_fault_text f)) same)) h

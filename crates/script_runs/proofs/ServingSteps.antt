@@ -1,5 +1,5 @@
 -- From the parts of serving a script to what it says as a whole.
-use Rattle.std.proofs.Common.{◌≡◌, ℕ, ◌⊎◌, inl, inr, List, refl, sym, subst}
+use Rattle.std.proofs.Common.{◌≡◌, ℕ, ◌⊎◌, inl, inr, List, refl, sym, subst, arith}
 use Rattle.std.specs.Prelude.{Option, Some, None, IfSome, Result, Ok, Err, IfErr, IsErrAnd}
 use Rattle.std.proofs.lemmas.Result.{err_from_is_err_and}
 use Rattle.net_addresses.specs.Addresses.{NetworkText}
@@ -37,13 +37,21 @@ if_serving : (left : Option (List ℕ)) (S L : Type 0) (status : ℕ) → IfSome
 if_serving None S L status complete = tt
 if_serving (Some bytes) S L status complete = as_serving bytes S L status complete
 
+-- what is so of the status of a fault that was handed on
+pub status_served_on : (ended : Result Served ServeScriptFault) (fault : ServeScriptFault) (P : ℕ → Type 0) → IsErrAnd ended (λ f. f ≡ fault) → P (serve_status fault) → P (serve_end_status ended)
+status_served_on ended fault P is h =
+    let refusal = err_from_is_err_and ended is in
+    subst (λ r. P (serve_end_status r)) (sym refusal.1) (subst (λ f. P (serve_status f)) (sym refusal.2) h)
+
+-- a listener that failed is no script that is too long
+pub served_in_time : (error : ServeError) → serve_status (serve_fault error) ≡ 5 → ⊥
+served_in_time errors.FailedToCreateHTTPListener e = omega (arith, e)
+served_in_time errors.Memory e = omega (arith, e)
+
 -- a fault that was handed on
 handed_status : (left : Option (List ℕ)) (S L : Type 0) (ended : Result Served ServeScriptFault) (fault : ServeScriptFault) → IsErrAnd ended (λ f. f ≡ fault)
     → IfSome left (λ bytes. IsServeComplete bytes S L (serve_status fault)) → IfSome left (λ bytes. IsServeComplete bytes S L (serve_end_status ended))
-handed_status left S L ended fault is complete =
-    let refusal = err_from_is_err_and ended is in
-    subst (λ r. IfSome left (λ bytes. IsServeComplete bytes S L (serve_end_status r))) (sym refusal.1)
-    (subst (λ f. IfSome left (λ bytes. IsServeComplete bytes S L (serve_status f))) (sym refusal.2) complete)
+handed_status left S L ended fault is complete = status_served_on ended fault (λ status. IfSome left (λ bytes. IsServeComplete bytes S L status)) is complete
 
 pub unread_complete : (left : Option (List ℕ)) (S L : Type 0) (ended : Result Served ServeScriptFault) (fault : DriveFault) → IsErrAnd ended (λ f. f ≡ serving.Drive fault) → IsUnread left S fault
     → IfSome left (λ bytes. IsServeComplete bytes S L (serve_end_status ended))

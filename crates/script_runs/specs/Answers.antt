@@ -1,8 +1,8 @@
 -- Which status the program ends with, by which cause, and its line on `err` (this project's rules).
-use Rattle.std.specs.Prelude.{◌≡◌, ⊤, ℕ, ◌<◌, ◌≤◌, ◌⊎◌, List, [], ◌∷◌, ◌++◌, length, Result, Ok, Err, Option, Some, None, IfSome, codes, decimal, map}
+use Rattle.std.specs.Prelude.{◌≡◌, ◌≢◌, ⊤, ℕ, ◌+◌, ◌<◌, ◌≤◌, ◌⊎◌, List, [], ◌∷◌, ◌++◌, drop, length, Result, Ok, Err, Option, Some, None, IfSome, codes, decimal, map}
 use Rattle.std.specs.Borrow.{Bor}
 use Rattle.metrics_core.specs.Characters.{line}
-use Rattle.metrics_core.specs.Outside.{GrewBy}
+use Rattle.metrics_core.specs.Outside.{GrewBy, GrewByPrefix}
 use Rattle.drive_script.specs.Script.{ScriptText, SettingsText}
 use Rattle.drive_script.specs.Valid.{IsFirstBadLine}
 use Rattle.drive_script.specs.Faults.{fault_text}
@@ -13,7 +13,8 @@ use Rattle.drive_script.specs.declared.faults.DriveFault.TheVariants as faults
 use Rattle.dsd_addresses.specs.Remotes.{RemoteText, Udp, Unix, Unixgram, IsRemote}
 use Rattle.script_runs.specs.Agent.{default_agent}
 use Rattle.script_runs.specs.Headline.{IsPlayedInPart, IsGoodScript, script_limit}
-use Rattle.script_runs.specs.Sent.{IsSent, IsSentInPart, LinkTold}
+use Rattle.script_runs.specs.InPart.{IsCutOff}
+use Rattle.script_runs.specs.Sent.{IsSent, LinkTold}
 use Rattle.script_runs.specs.declared.report.Report.{Report}
 
 -- ---- causes
@@ -97,12 +98,6 @@ IfUnplayed P faults.TooLong = P
 IfUnplayed P faults.ReadFault = P
 IfUnplayed P _ = Unit {0}
 
--- what is so where it was played in part
-abbrev pub IfPlayedInPart : Type 0 → DriveFault → Type 0
-IfPlayedInPart P faults.WriteFault = P
-IfPlayedInPart P faults.Memory = P
-IfPlayedInPart P _ = Unit {0}
-
 -- nothing was written where the script wasn't played
 abbrev pub LeavesUnplayed : Option (List ℕ) → Option (List ℕ) → DriveFault → Type 0
 LeavesUnplayed written written' (faults.Script l) = written' ≡ written
@@ -112,10 +107,27 @@ LeavesUnplayed written written' faults.ReadFault = written' ≡ written
 LeavesUnplayed written written' _ = Unit {0}
 
 -- a failed write leaves a prefix of the pages of a run, and want of memory such a prefix or nothing
-abbrev pub LeavesPrefix : List ℕ → Option (List ℕ) → Option (List ℕ) → DriveFault → Type 0
-LeavesPrefix bytes written written' faults.WriteFault = IsPlayedInPart bytes written written'
-LeavesPrefix bytes written written' faults.Memory = (written' ≡ written) ⊎ IsPlayedInPart bytes written written'
-LeavesPrefix bytes written written' _ = Unit {0}
+abbrev pub LeavesPrefix : RemoteText → List ℕ → Option (List ℕ) → Option (List ℕ) → DriveFault → Type 0
+LeavesPrefix to bytes written written' faults.WriteFault = IsPlayedInPart to bytes written written'
+LeavesPrefix to bytes written written' faults.Memory = (written' ≡ written) ⊎ IsPlayedInPart to bytes written written'
+LeavesPrefix to bytes written written' _ = Unit {0}
+
+-- the bytes are a valid script whose settings are allowed, and its play ended within a round
+pub record IsReportedInPart (bytes : List ℕ) (to : RemoteText) (written written' : Option (List ℕ)) (told tells : LinkTold) : Type 0 where
+  pub script : ScriptText
+  pub reading : IsGoodScript bytes script
+  pub allowed : IsAllowed to script
+  pub ended : IsCutOff script to written written' told tells
+
+-- nothing was written and nothing was sent
+abbrev pub IsUnbegun : Option (List ℕ) → Option (List ℕ) → LinkTold → LinkTold → Type 0
+IsUnbegun written written' told tells = (written' ≡ written) × (tells.sent ≡ told.sent)
+
+-- a failed write leaves a play that ended within a round, and want of memory such a one or nothing
+abbrev pub LeavesInPart : RemoteText → List ℕ → Option (List ℕ) → Option (List ℕ) → LinkTold → LinkTold → DriveFault → Type 0
+LeavesInPart to bytes written written' told tells faults.WriteFault = IsReportedInPart bytes to written written' told tells
+LeavesInPart to bytes written written' told tells faults.Memory = IsUnbegun written written' told tells ⊎ IsReportedInPart bytes to written written' told tells
+LeavesInPart to bytes written written' told tells _ = Unit {0}
 
 -- ---- statuses
 
@@ -127,8 +139,8 @@ fault_status faults.ReadFault = 6
 fault_status faults.WriteFault = 7
 fault_status faults.Memory = 8
 
-abbrev pub end_status : Result Report DriveFault → ℕ
-end_status (Ok report) = 0
+abbrev pub end_status : {T : Type 0} → Result T DriveFault → ℕ
+end_status (Ok done) = 0
 end_status (Err fault) = fault_status fault
 
 -- Each cause brings its status, unless a device failed or memory was wanting, where payloads go to this address.
@@ -147,6 +159,18 @@ IsUnplayed status =
 abbrev pub IsNoDriveStatus : ℕ → Type 0
 IsNoDriveStatus status = (status ≡ 2) ⊎ ((status ≡ 9) ⊎ ((status ≡ 10) ⊎ (status ≡ 11)))
 
+-- What a status says of where the link is aimed: it is as before or at this address, and at this address where a page was written whole or a write failed.
+pub record IsAimed (to : RemoteText) (before after : Option RemoteText) (status : ℕ) : Type 0 where
+  pub only : (after ≡ before) ⊎ (after ≡ Some to)
+  pub played : (status ≡ 0) ⊎ (status ≡ 7) → after ≡ Some to
+
+-- What a status says of the bytes that are still to come, of those that were to come before: no more than one byte past the limit was read; exactly so many
+-- where they are too long; and all of them after each other status than that of a failed read and of want of memory.
+pub record LeavesSource (bytes : List ℕ) (left : Option (List ℕ)) (status : ℕ) : Type 0 where
+  pub within : (n : ℕ) × (n ≤ script_limit + 1) × (left ≡ Some (drop n bytes))
+  pub too_long : status ≡ 5 → left ≡ Some (drop (script_limit + 1) bytes)
+  pub whole : status ≢ 5 → status ≢ 6 → status ≢ 8 → left ≡ Some []
+
 -- ---- lines on `err`
 
 abbrev pub usage_text : List ℕ
@@ -158,17 +182,12 @@ report_text report =
     codes "pages " ++ decimal report.pages ++ codes " sent " ++ decimal report.sent ++ codes " unsent " ++ decimal report.unsent
     ++ codes " dropped " ++ decimal report.dropped
 
--- the bytes are a valid script, and the link was handed the payloads of its run, as the report says
+-- the bytes are a valid script whose settings are allowed, and the link was handed the payloads of its run, as the report says
 pub record IsReported (bytes : List ℕ) (to : RemoteText) (told tells : LinkTold) (report : Report) : Type 0 where
   pub script : ScriptText
   pub reading : IsGoodScript bytes script
+  pub allowed : IsAllowed to script
   pub sent : IsSent script to told tells report
-
--- the bytes are a valid script, and the link was handed the payloads of its first rounds
-pub record IsReportedInPart (bytes : List ℕ) (to : RemoteText) (told tells : LinkTold) : Type 0 where
-  pub script : ScriptText
-  pub reading : IsGoodScript bytes script
-  pub sent : IsSentInPart script to told tells
 
 -- the line that each status has; what it says of the script and of what was sent holds where the source tells its bytes
 pub data IsLineOf (words : List (List ℕ)) (left : Option (List ℕ)) (told tells : LinkTold) : ℕ → List ℕ → Type 0 where
@@ -183,11 +202,11 @@ pub data IsLineOf (words : List (List ℕ)) (left : Option (List ℕ)) (told tel
   write_failed : IsLineOf words left told tells 7 (line (fault_text faults.WriteFault))
   no_memory : IsLineOf words left told tells 8 (line (fault_text faults.Memory))
 
--- `err` got a text, where it tells and didn't fail
+-- `err` got a text, where it tells; where it failed, a prefix of it and nothing behind that
 abbrev pub IsSaidText : Type 0 → Option (List ℕ) → Option (List ℕ) → List ℕ → Type 0
-IsSaidText ErrFailed said said' text = ErrFailed ⊎ GrewBy said said' text
+IsSaidText ErrFailed said said' text = GrewBy said said' text ⊎ (ErrFailed × GrewByPrefix said said' text)
 
--- `err` got the line of the status, where it tells and didn't fail
+-- `err` got the line of the status, where it tells, or where it failed a prefix of it
 pub record IsSaid (words : List (List ℕ)) (left : Option (List ℕ)) (told tells : LinkTold) (ErrFailed : Type 0) (said said' : Option (List ℕ)) (status : ℕ) : Type 0 where
   pub text : List ℕ
   pub meant : IsLineOf words left told tells status text

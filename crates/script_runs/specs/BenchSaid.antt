@@ -22,7 +22,7 @@ pub data IsBenchLineOf (count : ℕ) : ℕ → List ℕ → Type 0 where
   write_failed : IsBenchLineOf count 7 (line (fault_text faults.WriteFault))
   no_memory : IsBenchLineOf count 8 (line (fault_text faults.Memory))
 
--- `err` got the line of the status, where it tells and didn't fail
+-- `err` got the line of the status, where it tells, or where it failed a prefix of it
 pub record IsBenchSaid (count : ℕ) (ErrFailed : Type 0) (said said' : Option (List ℕ)) (status : ℕ) : Type 0 where
   pub text : List ℕ
   pub meant : IsBenchLineOf count status text

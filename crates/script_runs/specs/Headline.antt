@@ -1,9 +1,11 @@
 -- What a run of a script writes.
-use Rattle.std.specs.Prelude.{◌≡◌, ℕ, ◌≤◌, List, [], ◌∷◌, ◌++◌, length, Option}
+use Rattle.std.specs.Prelude.{◌≡◌, ℕ, ◌≤◌, List, [], ◌∷◌, ◌++◌, length, Option, None}
 use Rattle.metrics_core.specs.Outside.{GrewBy, GrewByPrefix}
 use Rattle.prom_format.specs.Pages.{Family, IsPage}
 use Rattle.drive_script.specs.Script.{ScriptText}
+use Rattle.drive_script.specs.Settings.{refused_setting}
 use Rattle.drive_script.specs.Valid.{IsScriptOf}
+use Rattle.dsd_addresses.specs.Remotes.{RemoteText}
 use Rattle.script_runs.specs.Play.{RoundOrders, AreOrders, pages_of}
 
 -- the bytes are these pages, one after another
@@ -27,18 +29,21 @@ script_limit = 67108864
 abbrev pub IsGoodScript : List ℕ → ScriptText → Type 0
 IsGoodScript bytes script = (length bytes ≤ script_limit) × IsScriptOf bytes script
 
--- the bytes are a valid script, and what the sink tells grew by the pages of its run
+-- the bytes are a valid script none of whose settings is refused where its payloads go, and what the sink tells grew by the pages of its run
 pub record IsPlayed (bytes : List ℕ) (written written' : Option (List ℕ)) : Type 0 where
   pub script : ScriptText
   pub reading : IsGoodScript bytes script
+  pub to : RemoteText
+  pub allowed : refused_setting script.settings to ≡ None
   pub text : List ℕ
   pub pages : IsPagesOf script text
   pub grew : GrewBy written written' text
 
--- the bytes are a valid script, and what the sink tells grew by a prefix of the pages of its run
-pub record IsPlayedInPart (bytes : List ℕ) (written written' : Option (List ℕ)) : Type 0 where
+-- the bytes are a valid script none of whose settings is refused where payloads go to this address, and what the sink tells grew by a prefix of the pages of its run
+pub record IsPlayedInPart (to : RemoteText) (bytes : List ℕ) (written written' : Option (List ℕ)) : Type 0 where
   pub script : ScriptText
   pub reading : IsGoodScript bytes script
+  pub allowed : refused_setting script.settings to ≡ None
   pub text : List ℕ
   pub pages : IsPagesOf script text
   pub grew : GrewByPrefix written written' text

@@ -6,6 +6,7 @@ pub mod InTurn
 pub mod Headline
 pub mod Flushes
 pub mod Sent
+pub mod InPart
 pub mod Answers
 pub mod BenchWords
 pub mod Commands

@@ -142,7 +142,7 @@ pub data IsRelayLineOf (left : Option (List ℕ)) : ℕ → List ℕ → Type 0 
   conflict : (page : ℕ) (name : List ℕ) → IfSome left (λ bytes. IsUnmergeable bytes page name)
       → IsRelayLineOf left 11 (line (conflict_text page name))
 
--- `err` got the line of the status, where it tells and didn't fail
+-- `err` got the line of the status, where it tells, or where it failed a prefix of it
 pub record IsRelaySaid (left : Option (List ℕ)) (ErrFailed : Type 0)
     (said said' : Option (List ℕ)) (status : ℕ) : Type 0 where
   pub text : List ℕ

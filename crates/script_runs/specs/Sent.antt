@@ -44,14 +44,6 @@ pub record IsSent (script : ScriptText) (to : RemoteText) (told tells : LinkTold
   pub pages : report.pages ≡ length script.rounds
   pub flushed : ForSomeFlushes script.settings flush_start script.rounds (λ flushes. Delivers script.settings to flushes told tells none_sent (sent_part report))
 
--- the same of the flushes of the first of some rounds alone, where they begin in this state
-abbrev pub ForFirstFlushes : SettingsText → FlushPlay → List RoundText → (List (List FlushItem) → Type 0) → Type 0
-ForFirstFlushes settings p rounds P = (done left : List RoundText) × (rounds ≡ done ++ left) × ForSomeFlushes settings p done P
-
-abbrev pub IsSentInPart : ScriptText → RemoteText → LinkTold → LinkTold → Type 0
-IsSentInPart script to told tells =
-    ForFirstFlushes script.settings flush_start script.rounds (λ flushes. (now : FlushReport) × Delivers script.settings to flushes told tells none_sent now)
-
 -- A writer as a script's settings ask for has the lines of these items, and so many points were left out of them; they are counted modulo 2 ^ 64.
 pub record IsWritten (settings : SettingsText) (to : RemoteText) (items : List FlushItem) (writer : WriterText) (left_out : ℕ) : Type 0 where
   pub limit : writer.limit ≡ payload_limit settings to

@@ -225,7 +225,7 @@ pub data IsServeLineOf (count : ℕ) (left : Option (List ℕ)) (lost lost' : �
   no_memory : IsServeLineOf count left lost lost' 8 (line (fault_text faults.Memory))
   listener_failed : IsServeLineOf count left lost lost' 9 (line (serve_fault_text serving.FailedToCreateHTTPListener))
 
--- `err` got the line of the status, where it tells and didn't fail
+-- `err` got the line of the status, where it tells, or where it failed a prefix of it
 pub record IsServeSaid (count : ℕ) (left : Option (List ℕ)) (lost lost' : ℕ) (ErrFailed : Type 0) (said said' : Option (List ℕ)) (status : ℕ) : Type 0 where
   pub text : List ℕ
   pub meant : IsServeLineOf count left lost lost' status text

@@ -1,10 +1,10 @@
 //! The run of a script: its source is read whole, its bytes as a script, and the script is played.
 
-ghost use Rattle.std.specs.Prelude.{◌≡◌, ◌⊎◌, IfErr, IfOk, IfSome, OnOk};
+ghost use Rattle.std.specs.Prelude.{◌≡◌, IfErr, IfOk, IfSome, OnOk};
 ghost use Rattle.metrics_core.specs.Outside.{Rose};
 ghost use Rattle.drive_script.specs.Texts.{script_of};
 ghost use Rattle.dsd_addresses.specs.Remotes.{remote_text};
-ghost use Rattle.script_runs.specs.Answers.{end_status, HasCause, HasDeviceCause, IfPlayedInPart, IfUnplayed, IsComplete, IsReported, IsReportedInPart, LeavesPrefix, LeavesUnplayed};
+ghost use Rattle.script_runs.specs.Answers.{end_status, HasCause, HasDeviceCause, IfUnplayed, IsAimed, IsComplete, IsReported, LeavesInPart, LeavesPrefix, LeavesSource, LeavesUnplayed};
 ghost use Rattle.script_runs.specs.Headline.{IsPlayed};
 ghost use Rattle.script_runs.specs.Reading.{IsReadAs, IsUnread};
 
@@ -50,11 +50,14 @@ pub fn drive<R: RandomSource + Threads + Wait + Sync, S: Source, K: Sink, L: Lin
 
     // What each fault leaves.
     ensures unplayed { IfErr result (LeavesUnplayed (K.written out.old) (K.written out.new)) }
-    ensures unsent { IfErr result (IfUnplayed (L.sent link.new ≡ L.sent link.old)) }
-    ensures prefix { IfErr result (λ fault. IfSome (S.left source.old) (λ bytes. LeavesPrefix bytes (K.written out.old) (K.written out.new) fault)) }
-    ensures sent_in_part { IfErr result (IfPlayedInPart (IfSome (S.left source.old) (λ bytes. (L.sent link.new ≡ L.sent link.old)
-        ⊎ IsReportedInPart bytes (remote_text to.now)
-        (record { sent = L.sent link.old; faults = L.faults link.old }) (record { sent = L.sent link.new; faults = L.faults link.new })))) }
+    ensures unsent { IfErr result (IfUnplayed (link.new ≡ link.old)) }
+    ensures prefix { IfErr result (λ fault. IfSome (S.left source.old) (λ bytes. LeavesPrefix (remote_text to.now) bytes (K.written out.old) (K.written out.new) fault)) }
+    ensures in_part { IfErr result (λ fault. IfSome (S.left source.old) (λ bytes. LeavesInPart (remote_text to.now) bytes (K.written out.old) (K.written out.new)
+        (record { sent = L.sent link.old; faults = L.faults link.old }) (record { sent = L.sent link.new; faults = L.faults link.new }) fault)) }
+
+    // Where the link is aimed, and what is still to come of the source.
+    ensures aimed { IsAimed (remote_text to.now) (L.aimed link.old) (L.aimed link.new) (end_status result) }
+    ensures left { IfSome (S.left source.old) (λ bytes. LeavesSource bytes (S.left source.new) (end_status result)) }
 
     // Each cause brings its answer.
     ensures complete { IfSome (S.left source.old) (λ bytes. IsComplete (remote_text to.now) bytes
@@ -76,6 +79,7 @@ pub(crate) fn read_whole_script<R: Threads + Sync, S: Source>(
 ) -> Result<Script, DriveFault>
     ensures read { IfOk result (λ script. IsReadAs (S.left source.old) (script_of script)) }
     ensures refused { IfErr result (IsUnread (S.left source.old) (Rose (S.faults source.old) (S.faults source.new))) }
+    ensures left { IfSome (S.left source.old) (λ bytes. LeavesSource bytes (S.left source.new) (end_status result)) }
 {
     let bytes = read_all(alloc, source)?;
     read_script_beside(rt, alloc, start, &bytes)

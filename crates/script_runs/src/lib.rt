@@ -41,5 +41,3 @@ pub use report::Report;
 pub use running::run;
 pub use say::say_fault;
 pub use serving::{ServeScriptFault, serve_script};
-pub use serving_lines::{say_serve_fault, say_served};
-pub use serving_words::serve_words;

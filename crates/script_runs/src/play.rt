@@ -9,7 +9,8 @@ ghost use Rattle.script_runs.specs.Fitting.{CallsFit};
 ghost use Rattle.script_runs.specs.Orders.{ForSomeRun};
 ghost use Rattle.script_runs.specs.Play.{exporter_settings};
 ghost use Rattle.script_runs.specs.Recorded.{AllRecordSome};
-ghost use Rattle.script_runs.specs.Sent.{IsSent, IsSentInPart};
+ghost use Rattle.script_runs.specs.InPart.{IsCutOff};
+ghost use Rattle.script_runs.specs.Sent.{IsSent};
 ghost use Rattle.script_runs.specs.Timely.{RiseFrom};
 
 use crate::flushes::{Flushes, lines_exporter};
@@ -56,8 +57,9 @@ pub fn play<R: Threads + Wait + Sync, G: Gate + Sync, K: Sink, L: Link>(
     ensures prefix { OnErr result (ForSomeRun (script_of script) (GrewByPrefix (K.written out.old) (K.written out.new))) }
     ensures sent { IfOk result (IsSent (script_of script) (remote_text to.now)
         (record { sent = L.sent link.old; faults = L.faults link.old }) (record { sent = L.sent link.new; faults = L.faults link.new })) }
-    ensures sent_in_part { OnErr result (IsSentInPart (script_of script) (remote_text to.now)
+    ensures in_part { OnErr result (IsCutOff (script_of script) (remote_text to.now) (K.written out.old) (K.written out.new)
         (record { sent = L.sent link.old; faults = L.faults link.old }) (record { sent = L.sent link.new; faults = L.faults link.new })) }
+    ensures aims { L.aimed link.new ≡ L.aimed link.old }
     ensures cause { IfErr result (IsPlayFault (Rose (K.faults out.old) (K.faults out.new))) }
     ensures never_falls { K.faults out.old ≤ K.faults out.new }
 {
@@ -101,7 +103,6 @@ impl Player {
     ghost use Rattle.dsd_addresses.specs.Remotes.{RemoteText, remote_text};
     ghost use Rattle.dsd_exporter.specs.Resting.{AllRest as LinesRest};
     ghost use Rattle.dsd_exporter.specs.State.{flush_items, flush_step};
-    ghost use Rattle.dsd_exporter.specs.declared.sending.FlushReport.{FlushReport};
     ghost use Rattle.drive_script.specs.Script.{RoundText, SettingsText};
     ghost use Rattle.drive_script.specs.Texts.{round_of, settings_of, setup_of, call_line_of};
     ghost use Rattle.script_runs.specs.Answers.{AreAllowed, IsPlayFault};
@@ -109,7 +110,8 @@ impl Player {
     ghost use Rattle.script_runs.specs.Play.{after_round, play_start, setup_step, exporter_settings};
     ghost use Rattle.script_runs.specs.Flushes.{ForSomeFlushes, ForSomeFlushOrders, IsFlushCalled, after_flush, dogstatsd_settings, flush_of, flush_start, register_step};
     ghost use Rattle.script_runs.specs.Player.{AsksFor, flush_state_of, state_of};
-    ghost use Rattle.script_runs.specs.Sent.{Delivers, ForFirstFlushes, none_sent};
+    ghost use Rattle.script_runs.specs.InPart.{EndsWithin};
+    ghost use Rattle.script_runs.specs.Sent.{Delivers, none_sent};
     ghost use Rattle.script_runs.specs.Resting.{AllRest};
     ghost use Rattle.script_runs.specs.Fitting.{CallsFit, FitsHandle};
     ghost use Rattle.script_runs.specs.Recorded.{AllRecordSome, RecordsSome};
@@ -181,10 +183,12 @@ impl Player {
             → OnOk result (ForSomeFlushes settings (flush_state_of self.old) (map round_of rounds.items) (λ flushes. Delivers settings to flushes
             (record { sent = L.sent link.old; faults = L.faults link.old }) (record { sent = L.sent link.new; faults = L.faults link.new })
             self.old.flushes.report self.new.flushes.report)) }
-        ensures sent_in_part { (settings : SettingsText) (to : RemoteText) → AsksFor settings to self.old → L.aimed link.old ≡ Some to
-            → OnErr result (ForFirstFlushes settings (flush_state_of self.old) (map round_of rounds.items) (λ flushes. (now : FlushReport) × Delivers settings to flushes
+        ensures in_part { (settings : SettingsText) (to : RemoteText) → self.old.exporters.prometheus.settings ≡ exporter_settings settings
+            → AsksFor settings to self.old → L.aimed link.old ≡ Some to
+            → OnErr result (EndsWithin settings to (state_of self.old) (flush_state_of self.old) (map round_of rounds.items) (K.written out.old) (K.written out.new)
             (record { sent = L.sent link.old; faults = L.faults link.old }) (record { sent = L.sent link.new; faults = L.faults link.new })
-            self.old.flushes.report now)) }
+            self.old.flushes.report) }
+        ensures aims { L.aimed link.new ≡ L.aimed link.old }
         ensures cause { IfErr result (IsPlayFault (Rose (K.faults out.old) (K.faults out.new))) }
         ensures never_falls { K.faults out.old ≤ K.faults out.new }
     {

@@ -1,7 +1,8 @@
 //! Reading a whole source, up to the limit of a script.
 
-ghost use Rattle.std.specs.Prelude.{◌≡◌, ◌+◌, ◌<◌, ◌≤◌, [], IfErr, IfOk, IfSome, OnOk, length, take, vec_len};
+ghost use Rattle.std.specs.Prelude.{◌≡◌, ◌+◌, ◌<◌, ◌≤◌, [], IfErr, IfOk, IfSome, OnErr, OnOk, length, take, vec_len};
 ghost use Rattle.metrics_core.specs.Outside.{Rose};
+ghost use Rattle.script_runs.specs.Answers.{end_status, LeavesSource};
 ghost use Rattle.script_runs.specs.Reading.{HasRoom, IsTaken, IsPieceFault, IsReadFault};
 ghost use Rattle.script_runs.specs.Headline.{script_limit};
 
@@ -20,6 +21,7 @@ pub fn read_all<S: Source>(alloc: Global, source: &mut S) -> Result<Vec<u8>, Dri
     ensures whole { IfOk result (λ all. IfSome (S.left source.old) (λ bytes. all.items ≡ bytes)) }
     ensures within { IfOk result (λ all. length all.items ≤ script_limit) }
     ensures refused { IfErr result (IsReadFault (S.left source.old) (Rose (S.faults source.old) (S.faults source.new))) }
+    ensures left { IfSome (S.left source.old) (λ bytes. LeavesSource bytes (S.left source.new) (end_status result)) }
 {
     let mut bytes = empty_with_room(alloc);
     let mut filled = 0;
@@ -61,6 +63,7 @@ fn read_piece<S: Source>(
     ensures limit { vec_len bytes.new ≤ script_limit + 1 }
     ensures taken { IfOk result (λ n. IfSome (S.left source.old) (λ rest. IsTaken rest (S.left source.new) (take filled bytes.old.items) (take (filled + n) bytes.new.items) n)) }
     ensures refused { IfErr result (IsPieceFault (Rose (S.faults source.old) (S.faults source.new))) }
+    ensures kept { OnErr result (S.left source.new ≡ S.left source.old) }
     ensures never_falls { S.faults source.old ≤ S.faults source.new }
 {
     match make_room(bytes, filled) {

@@ -6,8 +6,8 @@ ghost use Rattle.net_addresses.specs.Addresses.{NetworkText};
 ghost use Rattle.dsd_addresses.specs.Remotes.{RemoteText, remote_text};
 ghost use Rattle.drive_script.specs.declared.faults.SettingFault.{SettingFault};
 ghost use Rattle.script_runs.specs.declared.report.Report.{Report};
-ghost use Rattle.script_runs.specs.Answers.{fault_status, texts_of, IsBadScript, IsComplete, IsDriveTo, IsDriveWords, IsRefusedSetting};
-ghost use Rattle.script_runs.specs.Answers.{IsMergeWords, IsNoDriveStatus, IsReported, IsReportedInPart, IsSaid, IsTooLong, IsUnplayed};
+ghost use Rattle.script_runs.specs.Answers.{fault_status, texts_of, IsAimed, IsBadScript, IsComplete, IsDriveTo, IsDriveWords, IsRefusedSetting};
+ghost use Rattle.script_runs.specs.Answers.{IsMergeWords, IsNoDriveStatus, IsReported, IsReportedInPart, IsSaid, IsTooLong, IsUnbegun, IsUnplayed, LeavesSource};
 ghost use Rattle.script_runs.specs.BenchSaid.{IsBenchEnd, IsBenchSaid};
 ghost use Rattle.script_runs.specs.BenchWords.{AreBenchWords};
 ghost use Rattle.script_runs.specs.Commands.{IsBenchWords, IsCheckedFor, IsForm, IsScriptWords, IsServeWords};
@@ -115,27 +115,36 @@ pub fn run<
         × IfSome (S.left source.old)
         (λ bytes. (page : ℕ) × (name : List ℕ) × IsUnmergeable bytes page name) }
 
-    // After 2 to 6, 10 and 11 nothing was written or sent, and no connection accepted; after 7 a prefix of the pages and the flushes of the first
-    // rounds; after 8 such a prefix and such flushes, or nothing. Only `drive` touches the link, only `serve` the listener; `serve` writes no page, `bench` reads nothing, and
+    // After 2 to 6, 10 and 11 nothing was written, the link is as it was, and no connection was accepted. After 7 the pages of the first rounds were written, and a
+    // prefix of the next, and the flushes of those rounds were sent; after 8 the same, or nothing. Where `drive` played a round, its link is aimed at the address of
+    // the words. No more than one byte past the limit is read, and where nothing failed all of the source. Only `drive` touches the link, only `serve` the listener; `serve` writes no page, `bench` reads nothing, and
     // words that are no form do neither.
     ensures unplayed { IsUnplayed result → K.written out.new ≡ K.written out.old }
-    ensures unsent { IsUnplayed result → L.sent link.new ≡ L.sent link.old }
+    ensures unsent { IsUnplayed result → link.new ≡ link.old }
     ensures unserved { IsUnplayed result → listener.new ≡ listener.old }
-    ensures flushed_in_part { (to : RemoteText) → IsDriveTo (texts_of words.now) to → (result ≡ 7) ⊎ (result ≡ 8)
-        → IfSome (S.left source.old) (λ bytes. (L.sent link.new ≡ L.sent link.old) ⊎ IsReportedInPart bytes to
+    ensures flushed_in_part { (to : RemoteText) → IsDriveTo (texts_of words.now) to → result ≡ 7
+        → IfSome (S.left source.old) (λ bytes. IsReportedInPart bytes to (K.written out.old) (K.written out.new)
         (record { sent = L.sent link.old; faults = L.faults link.old }) (record { sent = L.sent link.new; faults = L.faults link.new })) }
+    ensures no_memory_in_part { (to : RemoteText) → IsDriveTo (texts_of words.now) to → result ≡ 8 → IfSome (S.left source.old) (λ bytes.
+        IsUnbegun (K.written out.old) (K.written out.new)
+        (record { sent = L.sent link.old; faults = L.faults link.old }) (record { sent = L.sent link.new; faults = L.faults link.new })
+        ⊎ IsReportedInPart bytes to (K.written out.old) (K.written out.new)
+        (record { sent = L.sent link.old; faults = L.faults link.old }) (record { sent = L.sent link.new; faults = L.faults link.new })) }
+    ensures aimed { (to : RemoteText) → IsDriveTo (texts_of words.now) to → IsAimed to (L.aimed link.old) (L.aimed link.new) result }
     ensures only_drive_sends { ¬ IsDriveWords (texts_of words.now) → link.new ≡ link.old }
     ensures only_serve_listens { ¬ IsServeWords (texts_of words.now) → listener.new ≡ listener.old }
     ensures no_form_leaves { ¬ IsForm (texts_of words.now) → (out.new ≡ out.old) × (source.new ≡ source.old) }
     ensures serve_writes_none { IsServeWords (texts_of words.now) → out.new ≡ out.old }
     ensures bench_reads_none { IsBenchWords (texts_of words.now) → source.new ≡ source.old }
-    ensures prefix { IsDriveWords (texts_of words.now) → result ≡ 7 → IfSome (S.left source.old)
-        (λ bytes. IsPlayedInPart bytes (K.written out.old) (K.written out.new)) }
+    ensures prefix { (to : RemoteText) → IsDriveTo (texts_of words.now) to → result ≡ 7 → IfSome (S.left source.old)
+        (λ bytes. IsPlayedInPart to bytes (K.written out.old) (K.written out.new)) }
     ensures merged_prefix { IsMergeWords (texts_of words.now) → result ≡ 7
         → IfSome (S.left source.old) (λ bytes. IsRelayedInPart bytes (K.written out.old) (K.written out.new)) }
-    ensures no_memory { IsDriveWords (texts_of words.now) → result ≡ 8 → IfSome (S.left source.old)
+    ensures no_memory { (to : RemoteText) → IsDriveTo (texts_of words.now) to → result ≡ 8 → IfSome (S.left source.old)
         (λ bytes. (K.written out.new ≡ K.written out.old)
-        ⊎ IsPlayedInPart bytes (K.written out.old) (K.written out.new)) }
+        ⊎ IsPlayedInPart to bytes (K.written out.old) (K.written out.new)) }
+    ensures left { IsScriptWords (texts_of words.now) ⊎ IsMergeWords (texts_of words.now)
+        → IfSome (S.left source.old) (λ bytes. LeavesSource bytes (S.left source.new) result) }
     ensures merged_no_memory { IsMergeWords (texts_of words.now) → result ≡ 8
         → IfSome (S.left source.old) (λ bytes. (K.written out.new ≡ K.written out.old)
         ⊎ IsRelayedInPart bytes (K.written out.old) (K.written out.new)) }
@@ -214,15 +223,22 @@ fn run_drive<
     ensures read_failed { result ≡ 6 → Rose (S.faults source.old) (S.faults source.new) }
     ensures write_failed { result ≡ 7 → Rose (K.faults out.old) (K.faults out.new) }
     ensures unplayed { IsUnplayed result → K.written out.new ≡ K.written out.old }
-    ensures unsent { IsUnplayed result → L.sent link.new ≡ L.sent link.old }
-    ensures flushed_in_part { (result ≡ 7) ⊎ (result ≡ 8)
-        → IfSome (S.left source.old) (λ bytes. (L.sent link.new ≡ L.sent link.old) ⊎ IsReportedInPart bytes (remote_text to.now)
+    ensures unsent { IsUnplayed result → link.new ≡ link.old }
+    ensures flushed_in_part { result ≡ 7
+        → IfSome (S.left source.old) (λ bytes. IsReportedInPart bytes (remote_text to.now) (K.written out.old) (K.written out.new)
         (record { sent = L.sent link.old; faults = L.faults link.old }) (record { sent = L.sent link.new; faults = L.faults link.new })) }
+    ensures no_memory_in_part { result ≡ 8 → IfSome (S.left source.old) (λ bytes.
+        IsUnbegun (K.written out.old) (K.written out.new)
+        (record { sent = L.sent link.old; faults = L.faults link.old }) (record { sent = L.sent link.new; faults = L.faults link.new })
+        ⊎ IsReportedInPart bytes (remote_text to.now) (K.written out.old) (K.written out.new)
+        (record { sent = L.sent link.old; faults = L.faults link.old }) (record { sent = L.sent link.new; faults = L.faults link.new })) }
+    ensures aimed { IsAimed (remote_text to.now) (L.aimed link.old) (L.aimed link.new) result }
     ensures prefix { result ≡ 7 → IfSome (S.left source.old)
-        (λ bytes. IsPlayedInPart bytes (K.written out.old) (K.written out.new)) }
+        (λ bytes. IsPlayedInPart (remote_text to.now) bytes (K.written out.old) (K.written out.new)) }
     ensures no_memory { result ≡ 8 → IfSome (S.left source.old)
         (λ bytes. (K.written out.new ≡ K.written out.old)
-        ⊎ IsPlayedInPart bytes (K.written out.old) (K.written out.new)) }
+        ⊎ IsPlayedInPart (remote_text to.now) bytes (K.written out.old) (K.written out.new)) }
+    ensures left { IfSome (S.left source.old) (λ bytes. LeavesSource bytes (S.left source.new) result) }
     ensures complete { IfSome (S.left source.old)
         (λ bytes. IsComplete (remote_text to.now) bytes (Rose (S.faults source.old) (S.faults source.new))
         (Rose (K.faults out.old) (K.faults out.new)) result) }
@@ -263,6 +279,7 @@ fn run_serve<
     ensures ends { IsServeEnd count networks.now (S.left source.old) (Rose (S.faults source.old) (S.faults source.new)) (Rose (N.faults listener.old) (N.faults listener.new))
         (record { given = N.given listener.old; finished = N.finished listener.old }) (record { given = N.given listener.new; finished = N.finished listener.new }) result }
     ensures unserved { IsUnplayed result → listener.new ≡ listener.old }
+    ensures left { IfSome (S.left source.old) (λ bytes. LeavesSource bytes (S.left source.new) result) }
     ensures said { IsServeSaid count (S.left source.old) (N.lost listener.old) (N.lost listener.new)
         (Rose (E.faults err.old) (E.faults err.new)) (E.written err.old) (E.written err.new)
         result }
@@ -316,6 +333,7 @@ fn run_merge<S: Source, K: Sink, E: Sink>(
     ensures ends { IsRelayEnd (S.left source.old) (Rose (S.faults source.old) (S.faults source.new))
         (Rose (K.faults out.old) (K.faults out.new)) (K.written out.old) (K.written out.new)
         result }
+    ensures left { IfSome (S.left source.old) (λ bytes. LeavesSource bytes (S.left source.new) result) }
     ensures said { IsRelaySaid (S.left source.old)
         (Rose (E.faults err.old) (E.faults err.new)) (E.written err.old) (E.written err.new)
         result }

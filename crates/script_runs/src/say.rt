@@ -17,7 +17,7 @@ use metrics_core::{Sink, write_whole};
 use page_relay::RelayFault;
 
 /// Says how the program is called.
-pub fn say_usage<E: Sink>(err: &mut E)
+pub(crate) fn say_usage<E: Sink>(err: &mut E)
     ensures said { IsSaidText (Rose (E.faults err.old) (E.faults err.new)) (E.written err.old) (E.written err.new) (line usage_text) }
 {
     say(
@@ -27,7 +27,7 @@ pub fn say_usage<E: Sink>(err: &mut E)
 }
 
 /// Says what a run did.
-pub fn say_report<E: Sink>(err: &mut E, report: &Report)
+pub(crate) fn say_report<E: Sink>(err: &mut E, report: &Report)
     ensures said { IsSaidText (Rose (E.faults err.old) (E.faults err.new)) (E.written err.old) (E.written err.new) (line (report_text report.now)) }
 {
     let (mut pages, mut sent) = (Buffer::new(), Buffer::new());
@@ -126,7 +126,7 @@ fn say_length<E: Sink>(err: &mut E, limit: u64, behind: &[u8])
 }
 
 /// Says how many pages were merged.
-pub fn say_merged<E: Sink>(err: &mut E, pages: u64)
+pub(crate) fn say_merged<E: Sink>(err: &mut E, pages: u64)
     ensures said { IsSaidText (Rose (E.faults err.old) (E.faults err.new))
         (E.written err.old) (E.written err.new) (line (merged_text pages)) }
 {
@@ -138,7 +138,7 @@ pub fn say_merged<E: Sink>(err: &mut E, pages: u64)
 }
 
 /// Says why pages weren't relayed.
-pub fn say_relay_fault<E: Sink>(err: &mut E, fault: &RelayFault)
+pub(crate) fn say_relay_fault<E: Sink>(err: &mut E, fault: &RelayFault)
     ensures said { IsSaidText (Rose (E.faults err.old) (E.faults err.new))
         (E.written err.old) (E.written err.new) (line (relay_fault_text fault.now)) }
 {

@@ -6,7 +6,7 @@ ghost use Rattle.prom_serve.specs.Connections.{CountedOn};
 ghost use Rattle.prom_serve.specs.Refusals.{excepted};
 ghost use Rattle.drive_script.specs.Texts.{round_of, script_of};
 ghost use Rattle.script_runs.specs.Agent.{default_agent};
-ghost use Rattle.script_runs.specs.Answers.{IsAllowed};
+ghost use Rattle.script_runs.specs.Answers.{IsAllowed, LeavesSource};
 ghost use Rattle.script_runs.specs.Fitting.{CallsFit};
 ghost use Rattle.script_runs.specs.Recorded.{AllRecordSome};
 ghost use Rattle.script_runs.specs.Served.{Answers, AnswersInPart, ForSomePage, HasServeCause, HasServeDeviceCause, IfUnserved, HasListenerCause, IsScriptServed, IsServeComplete, LeavesServed, listed, serve_end_status};
@@ -111,6 +111,9 @@ pub fn serve_script<
     ensures unserved { IfErr result (IfUnserved (listener.new ≡ listener.old)) }
     ensures in_part { IfErr result (λ fault. IfSome (S.left source.old) (λ bytes. LeavesServed bytes networks.now count
         (record { given = N.given listener.old; finished = N.finished listener.old }) (record { given = N.given listener.new; finished = N.finished listener.new }) fault)) }
+
+    // What is still to come of the source.
+    ensures left { IfSome (S.left source.old) (λ bytes. LeavesSource bytes (S.left source.new) (serve_end_status result)) }
 
     // Each cause brings its answer.
     ensures complete { IfSome (S.left source.old) (λ bytes. IsServeComplete bytes

@@ -12,7 +12,10 @@ use std::alloc::Global;
 
 /// The count and the networks that the words of the command `serve` write, or none where they are another command, where the second is no
 /// decimal number of 32 bits, and where one behind it writes no network.
-pub fn serve_words(alloc: Global, words: &[&str]) -> Result<Option<(u32, Vec<Network>)>, Memory>
+pub(crate) fn serve_words(
+    alloc: Global,
+    words: &[&str],
+) -> Result<Option<(u32, Vec<Network>)>, Memory>
     ensures { IfOk result (λ asked. HasServeWords (texts_of words.now) (option_map (λ (count, networks). (count, networks.items)) asked)) }
 {
     let [command, count, behind @ ..] = words else {

@@ -2,6 +2,7 @@
 //! the payloads and the line on `err` that must come of it. The rows lie in data/, and the head of data/rows says how they are written.
 #![tactic(auto)]
 
+mod links;
 mod outcome;
 mod peers;
 mod row;

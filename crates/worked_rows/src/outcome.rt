@@ -1,11 +1,14 @@
 //! What comes of a row, beside what must come.
 
+use crate::links::RowLink;
 use crate::peers::{add_peers, answers_of};
 use crate::row::{Cut, Device, Row, with_number};
+use dsd_addresses::RemoteAddr;
 use dsd_exporter::MemoryLink;
 use metrics_core::{MemorySink, MemorySource};
+use program_words::answer;
 use prom_serve::MemoryListener;
-use script_runs::{Free, run};
+use script_runs::{Free, default_agent};
 use std::alloc::Global;
 use std::io::ErrorKind;
 use std::net::{Net, TcpListener, TcpStream};
@@ -15,7 +18,7 @@ use std::sync::Wait;
 use std::thread::Threads;
 use std::{fs, io, str};
 
-/// What a run ended with, wrote, said, sent and answered.
+/// What a run ended with, wrote, said, sent and answered, and whether its link was aimed and handed payloads as it says.
 #[derive(Drop)]
 struct Outcome {
     status: String,
@@ -23,6 +26,7 @@ struct Outcome {
     said: Vec<u8>,
     sent: Vec<u8>,
     answers: Vec<u8>,
+    well_sent: bool,
 }
 
 /// What a run is over.
@@ -31,7 +35,7 @@ struct Devices {
     source: MemorySource,
     out: MemorySink,
     err: MemorySink,
-    link: MemoryLink,
+    link: RowLink,
     listener: MemoryListener,
 }
 
@@ -63,7 +67,8 @@ fn is_told_right<R: Files + AllocGlobal + Print>(
             || is_other(rt, alloc, row, "other", &outcome.pages)?)
         && (is_wanted(rt, alloc, row, "sent", &outcome.sent)?
             || is_other(rt, alloc, row, "other-sent", &outcome.sent)?)
-        && is_wanted(rt, alloc, row, "answers", &outcome.answers)?;
+        && is_wanted(rt, alloc, row, "answers", &outcome.answers)?
+        && outcome.well_sent;
     if !same {
         print_outcome(rt, alloc, row, outcome)?;
     }
@@ -84,7 +89,7 @@ fn outcome_of<
     let peers = add_peers_of(rt, alloc, row, &mut devices.listener)?;
     let status = played(rt, alloc, row, &mut devices)?;
     let answers = answers_of(alloc, &mut devices.listener, peers)?;
-    told(alloc, status, answers, &devices)
+    told(alloc, row, status, answers, &devices)
 }
 
 /// The devices of a row.
@@ -97,7 +102,7 @@ fn devices_of<R: Files + AllocGlobal>(rt: &R, alloc: Global, row: &Row) -> io::R
         source: MemorySource::new(script, row.source.most.max(1), failing),
         out: sink(alloc, &row.out)?,
         err: sink(alloc, &row.err)?,
-        link: MemoryLink::new(alloc, unsent),
+        link: RowLink::new(alloc, unsent),
         listener: MemoryListener::new(alloc, unaccepted),
     })
 }
@@ -127,22 +132,70 @@ fn played<
         link,
         listener,
     } = devices;
-    Ok(run(rt, alloc, &words, source, out, err, link, &Free, listener))
+    Ok(answer(rt, alloc, &words, source, out, err, link, &Free, listener))
 }
 
 /// The outcome of a run that ended with a status and gave answers, with what the devices were given.
-fn told(alloc: Global, status: u8, answers: Vec<u8>, devices: &Devices) -> io::Result<Outcome> {
+fn told(
+    alloc: Global,
+    row: &Row,
+    status: u8,
+    answers: Vec<u8>,
+    devices: &Devices,
+) -> io::Result<Outcome> {
+    let well_sent = is_well_sent(alloc, row, status, devices)?;
     let status = format!(in alloc; "{status}")?;
     let pages = devices.out.written().to_vec(alloc)?;
     let said = devices.err.written().to_vec(alloc)?;
-    let sent = sent_by(alloc, &devices.link)?;
+    let sent = sent_by(alloc, devices.link.link())?;
     Ok(Outcome {
         status,
         pages,
         said,
         sent,
         answers,
+        well_sent,
     })
+}
+
+/// Whether a run that was played sent each payload to the address of its words, handed it over once, and aimed before the first; and whether any other run left
+/// the link as it was.
+fn is_well_sent(alloc: Global, row: &Row, status: u8, devices: &Devices) -> io::Result<bool> {
+    let played = status == 0 || status == 7;
+    match row.words.split(',').next() {
+        Some("drive") if played => {
+            let to = address_of(alloc, &row.words)?;
+            Ok(devices.link.is_aimed_at(&to) && is_handed_once(devices))
+        }
+        _ => Ok(devices.link.is_untouched()),
+    }
+}
+
+/// The address that words say that payloads go to.
+fn address_of(alloc: Global, words: &str) -> io::Result<RemoteAddr> {
+    let Some((_command, address)) = words.split_once(',') else {
+        return Ok(default_agent());
+    };
+    match RemoteAddr::from_text(alloc, address) {
+        Ok(to) => Ok(to),
+        Err(_) => Err(io::Error::from(ErrorKind::InvalidData)),
+    }
+}
+
+/// Whether a link was handed as many payloads as the report counts, where there is a report.
+fn is_handed_once(devices: &Devices) -> bool {
+    let said = str::from_utf8(devices.err.written()).unwrap_or("");
+    match (number_behind(said, "sent "), number_behind(said, "unsent ")) {
+        (Some(sent), Some(unsent)) => devices.link.tries() == sent.saturating_add(unsent),
+        _ => true,
+    }
+}
+
+/// The number behind the first of these words in a text.
+fn number_behind(text: &str, words: &str) -> Option<u64> {
+    let (_before, behind) = text.split_once(words)?;
+    let (number, _rest) = behind.split_once(' ')?;
+    number.parse().ok()
 }
 
 /// The payloads that a link sent, each with an empty line behind it.

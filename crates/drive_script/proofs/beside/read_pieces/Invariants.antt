@@ -1,12 +1,11 @@
 use Rattle.std.proofs.Common.{◌≡◌, ℕ, List, ◌++◌, length}
-use Rattle.std.specs.Prelude.{flat_map}
 use Rattle.drive_script.specs.Script.{lines_of}
 use Rattle.drive_script.specs.Texts.{StandsBehind}
 use Rattle.drive_script.proofs.beside.read_pieces.Given as goal
 
--- the progress stands behind the lines so far, the pieces that were read have those behind them, and the rest has the others
+-- the progress stands behind the lines so far, and the rest has the others
 abbrev pub invariant-loop-rest : goal.invariant-loop-rest
-invariant-loop-rest g l = (done : List (List ℕ)) × (lines_of l.bytes ≡ (done ++ flat_map (λ lines. lines) l.read.items) ++ lines_of l.rest) × StandsBehind done l.progress
+invariant-loop-rest g l = (done : List (List ℕ)) × (lines_of l.bytes ≡ done ++ lines_of l.rest) × StandsBehind done l.progress
 
 abbrev pub decreases-loop-rest : goal.decreases-loop-rest
 decreases-loop-rest g l = length l.rest

@@ -1,7 +1,7 @@
-use Rattle.std.proofs.Common.{◌≡◌, ◌∷◌, ◌++◌, ◌-◌, ◌∙◌, sym, ap, subst, arith}
+use Rattle.std.proofs.Common.{◌≡◌, ◌∷◌, [], ◌++◌, ◌∙◌, sym, subst}
 use Rattle.std.specs.Prelude.{flat_map}
-use Rattle.std.specs.Vec.Iter.{drain_items}
-use Rattle.std.proofs.lemmas.List.{take_all}
+use Rattle.std.specs.Vec.Iter.{into_iter_items}
+use Rattle.std.proofs.lemmas.List.{nil_from_length}
 use Rattle.drive_script.specs.Runs.{AreSaid, lines_said}
 use Rattle.drive_script.specs.Texts.{StandsBehind}
 use Rattle.drive_script.proofs.Runs.{at_end, moved_past, none_said, parts_said}
@@ -10,8 +10,8 @@ use Rattle.drive_script.proofs.beside.take_runs.Goals as goal
 pub loop-part-preserved : goal.loop-part-preserved
 loop-part-preserved c = λ done lines h said.
     let (so_far, rest, whole, left, behind) = c.loop-part.invariant done lines h said in
-    let steps : drain_items c.loop-part.part-iterator ≡ c.in-Some.part ∷ drain_items c.next.new.self = c.in-Some.ensures.steps.0 in
-    let parts = parts_said rest (lines_said c.in-Some.part) (flat_map lines_said (drain_items c.next.new.self)) (subst (AreSaid rest) steps left) in (
+    let steps : into_iter_items c.loop-part.part-iterator ≡ c.in-Some.part ∷ into_iter_items c.next.new.self = c.in-Some.ensures.steps.0 in
+    let parts = parts_said rest (lines_said c.in-Some.part) (flat_map lines_said (into_iter_items c.next.new.self)) (subst (AreSaid rest) steps left) in (
       so_far ++ parts.front,
       parts.others,
       moved_past (done ++ lines) so_far rest parts.front parts.others whole parts.split,
@@ -21,7 +21,6 @@ loop-part-preserved c = λ done lines h said.
 
 pub returns : goal.returns
 returns c = λ done lines h said is.
-    let all : drain_items c.into_iter-part-iterator.result ≡ c.args.said.now.items =
-    ap drain_items c.into_iter-part-iterator.ensures.into_iter_gives ∙ c.drain-part-items.ensures.rest ∙ take_all (c.args.said.now.len - 0) c.args.said.now.items (omega (arith, c.args.said.now.ok.0)) in
-    let (so_far, rest, whole, left, behind) = c.loop-part.invariant done lines h (subst (AreSaid lines) (sym all) said) in
-    subst (λ ls. StandsBehind ls c.loop-part.progress) (sym (at_end (done ++ lines) so_far rest whole (none_said rest (subst (AreSaid rest) c.in-None.ensures.steps.0 left)))) behind
+    let (so_far, rest, whole, left, behind) = c.loop-part.invariant done lines h said in
+    let none : into_iter_items c.loop-part.part-iterator ≡ [] = nil_from_length _ (sym c.loop-part.part-iterator.rest.ok.0 ∙ c.in-None.ensures.steps.0) in
+    subst (λ ls. StandsBehind ls c.loop-part.progress) (sym (at_end (done ++ lines) so_far rest whole (none_said rest (subst (AreSaid rest) none left)))) behind

@@ -3,7 +3,8 @@ use Rattle.std.specs.Prelude.{IfSome}
 use Rattle.metrics_core.specs.Outside.{Rose}
 use Rattle.script_runs.specs.Headline.{script_limit}
 use Rattle.script_runs.specs.Reading.{IsUnread}
-use Rattle.script_runs.proofs.DriveSteps.{read_as, unread_script, unread_whole}
+use Rattle.script_runs.specs.Answers.{LeavesSource}
+use Rattle.script_runs.proofs.DriveSteps.{read_as, script_reads, status_handed_on, unread_script, unread_whole}
 use Rattle.script_runs.proofs.Returned.{if_handed_on}
 use Rattle.script_runs.proofs.driving.read_whole_script.Goals as goal
 
@@ -24,3 +25,12 @@ returns-clause-refused g c =
     let Whole : List ℕ → Type 0 = λ items. IfSome (g.S.Source.left c.args.source.now) (λ bytes. items ≡ bytes) in
     let Within : List ℕ → Type 0 = λ items. length items ≤ script_limit in
     unread_script c.read_script_beside.result _ _ c.deref.result.now (subst Whole (sym c.deref.ensures.value) c.in_ok-bytes.ensures.whole) (subst Within (sym c.deref.ensures.value) c.in_ok-bytes.ensures.within) c.read_script_beside.ensures.refused
+
+pub returns-in_err-bytes-clause-left : goal.returns-in_err-bytes-clause-left
+returns-in_err-bytes-clause-left g c =
+    let left = g.S.Source.left c.args.source.now in
+    let after = g.S.Source.left c.read_all.new.source in
+    status_handed_on c.from_residual.result c.in_err-bytes.field-0.0 (λ status. IfSome left (λ bytes. LeavesSource bytes after status)) c.from_residual.ensures.1 c.in_err-bytes.ensures.left
+
+pub returns-clause-left : goal.returns-clause-left
+returns-clause-left g c = script_reads c.deref.result.now (g.S.Source.left c.args.source.now) (g.S.Source.left c.read_all.new.source) c.read_script_beside.result c.read_script_beside.ensures.refused c.in_ok-bytes.ensures.left

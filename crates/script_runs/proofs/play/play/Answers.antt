@@ -5,16 +5,17 @@ use Rattle.metrics_core.specs.Outside.{GrewBy, GrewByPrefix}
 use Rattle.drive_script.specs.Texts.{script_of, settings_of, round_of}
 use Rattle.script_runs.specs.Fitting.{CallsFit}
 use Rattle.script_runs.specs.Orders.{ForSomeRounds}
-use Rattle.script_runs.specs.Play.{PlayState}
+use Rattle.script_runs.specs.Play.{PlayState, play_start}
 use Rattle.script_runs.specs.Timely.{IsTimelyState}
 use Rattle.script_runs.proofs.Returned.{on_handed_on}
 use Rattle.std.proofs.Common.{[], refl}
 use Rattle.dsd_addresses.specs.Remotes.{remote_text}
 use Rattle.dsd_exporter.specs.declared.sending.FlushReport.{FlushReport}
-use Rattle.script_runs.specs.Flushes.{FlushPlay, ForSomeFlushes}
-use Rattle.script_runs.specs.Player.{flush_state_of}
-use Rattle.script_runs.specs.Sent.{Delivers, ForFirstFlushes, LinkTold, none_sent}
-use Rattle.script_runs.proofs.Delivered.{delivers-none}
+use Rattle.script_runs.specs.Flushes.{FlushPlay, ForSomeFlushes, flush_start}
+use Rattle.script_runs.specs.Player.{flush_state_of, state_of}
+use Rattle.script_runs.specs.InPart.{EndsWithin}
+use Rattle.script_runs.specs.Sent.{Delivers, LinkTold, none_sent}
+use Rattle.script_runs.proofs.PagesSoFar.{none_within}
 use Rattle.script_runs.proofs.RoundSteps.{unbegun}
 use Rattle.script_runs.proofs.play.play.Goals as goal
 
@@ -47,21 +48,28 @@ play_rounds-played-requires-clause-lines_fit g c κs within = subst (λ (p : Flu
 pub play_rounds-played-requires-clause-asks : goal.play_rounds-played-requires-clause-asks
 play_rounds-played-requires-clause-asks g c κs within = (settings_of c.args.script.settings, remote_text c.args.to.now, c.in_ok-player.ensures.asks, c.requires.aimed)
 
-pub returns-in_err-player-clause-sent_in_part : goal.returns-in_err-player-clause-sent_in_part
-returns-in_err-player-clause-sent_in_part g c =
-    on_handed_on c.from_residual.result _ ([], map round_of c.args.script.rounds.items, refl, ([], tt, (none_sent, delivers-none (settings_of c.args.script.settings) (remote_text c.args.to.now) _ none_sent)))
+pub returns-in_err-player-clause-in_part : goal.returns-in_err-player-clause-in_part
+returns-in_err-player-clause-in_part g c =
+    let told : LinkTold = record { sent = g.L.Link.sent c.args.link.now; faults = g.L.Link.faults c.args.link.now } in
+    on_handed_on c.from_residual.result _
+    (none_within (settings_of c.args.script.settings) (remote_text c.args.to.now) play_start flush_start (map round_of c.args.script.rounds.items) (g.K.Sink.written c.args.out.now) told none_sent)
 
-pub returns-in_err-played-clause-sent_in_part : goal.returns-in_err-played-clause-sent_in_part
-returns-in_err-played-clause-sent_in_part g c =
+pub returns-in_err-played-clause-in_part : goal.returns-in_err-played-clause-in_part
+returns-in_err-played-clause-in_part g c =
     let settings = settings_of c.args.script.settings in
     let to = remote_text c.args.to.now in
     let rounds = map round_of c.args.script.rounds.items in
+    let written = g.K.Sink.written c.args.out.now in
+    let written_now = g.K.Sink.written c.play_rounds-played.new.out in
     let told : LinkTold = record { sent = g.L.Link.sent c.args.link.now; faults = g.L.Link.faults c.args.link.now } in
     let tells : LinkTold = record { sent = g.L.Link.sent c.play_rounds-played.new.link; faults = g.L.Link.faults c.play_rounds-played.new.link } in
-    let part = c.in_err-played.ensures.sent_in_part settings to c.in_ok-player.ensures.asks c.requires.aimed in
+    let part = c.in_err-played.ensures.in_part settings to c.in_ok-player.ensures.settings c.in_ok-player.ensures.asks c.requires.aimed in
+    let state = state_of c.in_ok-player.player in
+    let flushes = flush_state_of c.in_ok-player.player in
     on_handed_on c.from_residual-in_err-played.result _
-    (subst (λ (p : FlushPlay). ForFirstFlushes settings p rounds (λ flushes. (now : FlushReport) × Delivers settings to flushes told tells none_sent now)) c.in_ok-player.ensures.flush_start
-    (subst (λ (r : FlushReport). ForFirstFlushes settings (flush_state_of c.in_ok-player.player) rounds (λ flushes. (now : FlushReport) × Delivers settings to flushes told tells r now)) c.in_ok-player.ensures.none part))
+    (subst (λ (p : PlayState). EndsWithin settings to p flush_start rounds written written_now told tells none_sent) c.in_ok-player.ensures.start
+    (subst (λ (q : FlushPlay). EndsWithin settings to state q rounds written written_now told tells none_sent) c.in_ok-player.ensures.flush_start
+    (subst (λ (r : FlushReport). EndsWithin settings to state flushes rounds written written_now told tells r) c.in_ok-player.ensures.none part)))
 
 pub returns-clause-sent : goal.returns-clause-sent
 returns-clause-sent g c =

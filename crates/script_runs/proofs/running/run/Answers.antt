@@ -8,10 +8,11 @@ use Rattle.prom_serve.specs.Serving.{Listening}
 use Rattle.drive_script.specs.Faults.{fault_text}
 use Rattle.drive_script.specs.declared.faults.DriveFault.TheVariants as faults
 use Rattle.script_runs.specs.Agent.{default_agent}
-use Rattle.script_runs.specs.Answers.{IsComplete, IsReported, IsReportedInPart, no_memory, texts_of, usage, usage_text}
+use Rattle.script_runs.specs.Answers.{IsAimed, IsComplete, IsReported, IsReportedInPart, IsUnbegun, no_memory, texts_of, usage, usage_text}
 use Rattle.script_runs.specs.BenchSaid as bench_said
 use Rattle.script_runs.specs.BenchSaid.{IsBenchEnd, IsBenchSaid}
 use Rattle.script_runs.specs.Commands.{AreOfBench, AreOfDrive, AreOfServe, HasCommand, IsForm}
+use Rattle.script_runs.specs.Headline.{IsPlayedInPart}
 use Rattle.script_runs.specs.Relay as relay_said
 use Rattle.script_runs.specs.Sent.{LinkTold}
 use Rattle.script_runs.specs.Served as serve_said
@@ -19,6 +20,7 @@ use Rattle.script_runs.specs.Served.{IsServeEnd, IsServeSaid}
 use Rattle.script_runs.specs.declared.command.Command.{Command}
 use Rattle.script_runs.specs.declared.report.Report.{Report}
 use Rattle.script_runs.proofs.BenchEnds.{unread_ends}
+use Rattle.script_runs.proofs.ReadingSteps.{unread}
 use Rattle.script_runs.proofs.ServeEnds.{memory_ends}
 use Rattle.script_runs.proofs.running.run.Goals as goal
 
@@ -43,7 +45,38 @@ returns-in-Ok-Some-Drive-clause-flushed_in_part g c = λ to drives ended.
     let are : AreOfDrive (texts_of c.args.words.now) (remote_text c.in-Ok-Some-Drive.to) = command_is _ _ _ _ c.in-Ok-Some-Drive.field-0-is c.in-Ok-Some-Drive.field-0-0-is c.in-Ok-Some-Drive.ensures in
     let told : LinkTold = record { sent = g.L.Link.sent c.args.link.now; faults = g.L.Link.faults c.args.link.now } in
     let tells : LinkTold = record { sent = g.L.Link.sent c.run_drive.new.link; faults = g.L.Link.faults c.run_drive.new.link } in
-    subst (λ (t : RemoteText). IfSome (g.S.Source.left c.args.source.now) (λ bytes. (tells.sent ≡ told.sent) ⊎ IsReportedInPart bytes t told tells)) (sym (are.only to drives)) (c.run_drive.ensures.flushed_in_part ended)
+    let written = g.K.Sink.written c.args.out.now in
+    let written_now = g.K.Sink.written c.run_drive.new.out in
+    subst (λ (t : RemoteText). IfSome (g.S.Source.left c.args.source.now) (λ bytes. IsReportedInPart bytes t written written_now told tells)) (sym (are.only to drives)) (c.run_drive.ensures.flushed_in_part ended)
+
+pub returns-in-Ok-Some-Drive-clause-no_memory_in_part : goal.returns-in-Ok-Some-Drive-clause-no_memory_in_part
+returns-in-Ok-Some-Drive-clause-no_memory_in_part g c = λ to drives ended.
+    let are : AreOfDrive (texts_of c.args.words.now) (remote_text c.in-Ok-Some-Drive.to) = command_is _ _ _ _ c.in-Ok-Some-Drive.field-0-is c.in-Ok-Some-Drive.field-0-0-is c.in-Ok-Some-Drive.ensures in
+    let told : LinkTold = record { sent = g.L.Link.sent c.args.link.now; faults = g.L.Link.faults c.args.link.now } in
+    let tells : LinkTold = record { sent = g.L.Link.sent c.run_drive.new.link; faults = g.L.Link.faults c.run_drive.new.link } in
+    let written = g.K.Sink.written c.args.out.now in
+    let written_now = g.K.Sink.written c.run_drive.new.out in
+    subst (λ (t : RemoteText). IfSome (g.S.Source.left c.args.source.now) (λ bytes. IsUnbegun written written_now told tells ⊎ IsReportedInPart bytes t written written_now told tells)) (sym (are.only to drives))
+    (c.run_drive.ensures.no_memory_in_part ended)
+
+pub returns-in-Ok-Some-Drive-clause-aimed : goal.returns-in-Ok-Some-Drive-clause-aimed
+returns-in-Ok-Some-Drive-clause-aimed g c = λ to drives.
+    let are : AreOfDrive (texts_of c.args.words.now) (remote_text c.in-Ok-Some-Drive.to) = command_is _ _ _ _ c.in-Ok-Some-Drive.field-0-is c.in-Ok-Some-Drive.field-0-0-is c.in-Ok-Some-Drive.ensures in
+    subst (λ (t : RemoteText). IsAimed t (g.L.Link.aimed c.args.link.now) (g.L.Link.aimed c.run_drive.new.link) c.run_drive.result) (sym (are.only to drives)) c.run_drive.ensures.aimed
+
+pub returns-in-Ok-Some-Drive-clause-prefix : goal.returns-in-Ok-Some-Drive-clause-prefix
+returns-in-Ok-Some-Drive-clause-prefix g c = λ to drives ended.
+    let are : AreOfDrive (texts_of c.args.words.now) (remote_text c.in-Ok-Some-Drive.to) = command_is _ _ _ _ c.in-Ok-Some-Drive.field-0-is c.in-Ok-Some-Drive.field-0-0-is c.in-Ok-Some-Drive.ensures in
+    let written = g.K.Sink.written c.args.out.now in
+    let written_now = g.K.Sink.written c.run_drive.new.out in
+    subst (λ (t : RemoteText). IfSome (g.S.Source.left c.args.source.now) (λ bytes. IsPlayedInPart t bytes written written_now)) (sym (are.only to drives)) (c.run_drive.ensures.prefix ended)
+
+pub returns-in-Ok-Some-Drive-clause-no_memory : goal.returns-in-Ok-Some-Drive-clause-no_memory
+returns-in-Ok-Some-Drive-clause-no_memory g c = λ to drives ended.
+    let are : AreOfDrive (texts_of c.args.words.now) (remote_text c.in-Ok-Some-Drive.to) = command_is _ _ _ _ c.in-Ok-Some-Drive.field-0-is c.in-Ok-Some-Drive.field-0-0-is c.in-Ok-Some-Drive.ensures in
+    let written = g.K.Sink.written c.args.out.now in
+    let written_now = g.K.Sink.written c.run_drive.new.out in
+    subst (λ (t : RemoteText). IfSome (g.S.Source.left c.args.source.now) (λ bytes. (written_now ≡ written) ⊎ IsPlayedInPart t bytes written written_now)) (sym (are.only to drives)) (c.run_drive.ensures.no_memory ended)
 
 pub returns-in-Ok-Some-Drive-clause-complete : goal.returns-in-Ok-Some-Drive-clause-complete
 returns-in-Ok-Some-Drive-clause-complete g c = λ to drives.
@@ -128,6 +161,9 @@ returns-in-Err-clause-benched_said g c = λ count benches. record { text = line 
 
 pub returns-in-Err-clause-merged_said : goal.returns-in-Err-clause-merged_said
 returns-in-Err-clause-merged_said g c = λ merges. record { text = line (fault_text faults.Memory); meant = relay_said.no_memory; written = c.say_fault.ensures.said }
+
+pub returns-in-Err-clause-left : goal.returns-in-Err-clause-left
+returns-in-Err-clause-left g c = λ reads. unread (g.S.Source.left c.args.source.now)
 
 pub returns-in-Err-clause-served : goal.returns-in-Err-clause-served
 returns-in-Err-clause-served g c = λ count networks serves. memory_ends count networks _ _ _ _

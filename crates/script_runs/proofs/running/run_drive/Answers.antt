@@ -1,9 +1,13 @@
 use Rattle.std.proofs.Common.{ℕ, subst, sym, ◌∙◌}
+use Rattle.std.specs.Prelude.{IfSome, Result}
+use Rattle.drive_script.specs.declared.faults.DriveFault.{DriveFault}
 use Rattle.dsd_addresses.specs.Remotes.{remote_text}
 use Rattle.metrics_core.specs.Characters.{line}
 use Rattle.drive_script.specs.Faults.{fault_text}
-use Rattle.script_runs.specs.Answers.{IsLineOf, done, report_text}
+use Rattle.script_runs.specs.Answers.{IsAimed, IsLineOf, LeavesSource, done, end_status, report_text}
+use Rattle.script_runs.specs.declared.report.Report.{Report}
 use Rattle.script_runs.specs.Sent.{LinkTold}
+use Rattle.script_runs.proofs.DriveSteps.{in_part_of_status, memory_of_status, unplayed_of_status}
 use Rattle.script_runs.proofs.Sayings.{fault_line, setting_of_status}
 use Rattle.script_runs.proofs.running.run_drive.Goals as goal
 
@@ -27,3 +31,34 @@ returns-in-Err-clause-said g c = λ words drives.
 
 pub returns-in-Err-clause-refused_setting : goal.returns-in-Err-clause-refused_setting
 returns-in-Err-clause-refused_setting g c = λ is. setting_of_status _ (remote_text c.args.to.now) _ _ c.in-Err.fault c.in-Err.ensures.cause (sym c.status_of.ensures ∙ is)
+
+pub returns-in-Ok-clause-aimed : goal.returns-in-Ok-clause-aimed
+returns-in-Ok-clause-aimed g c =
+    let P : Result Report DriveFault → Type 0 = λ r. IsAimed (remote_text c.args.to.now) (g.L.Link.aimed c.args.link.now) (g.L.Link.aimed c.drive.new.link) (end_status r) in
+    subst P c.in-Ok.is c.drive.ensures.aimed
+
+pub returns-in-Ok-clause-left : goal.returns-in-Ok-clause-left
+returns-in-Ok-clause-left g c =
+    let P : Result Report DriveFault → Type 0 = λ r. IfSome (g.S.Source.left c.args.source.now) (λ bytes. LeavesSource bytes (g.S.Source.left c.drive.new.source) (end_status r)) in
+    subst P c.in-Ok.is c.drive.ensures.left
+
+pub returns-in-Err-clause-aimed : goal.returns-in-Err-clause-aimed
+returns-in-Err-clause-aimed g c =
+    let P : ℕ → Type 0 = λ status. IsAimed (remote_text c.args.to.now) (g.L.Link.aimed c.args.link.now) (g.L.Link.aimed c.drive.new.link) status in
+    let Q : Result Report DriveFault → Type 0 = λ r. P (end_status r) in
+    subst P (sym c.status_of.ensures) (subst Q c.in-Err.is c.drive.ensures.aimed)
+
+pub returns-in-Err-clause-left : goal.returns-in-Err-clause-left
+returns-in-Err-clause-left g c =
+    let P : ℕ → Type 0 = λ status. IfSome (g.S.Source.left c.args.source.now) (λ bytes. LeavesSource bytes (g.S.Source.left c.drive.new.source) status) in
+    let Q : Result Report DriveFault → Type 0 = λ r. P (end_status r) in
+    subst P (sym c.status_of.ensures) (subst Q c.in-Err.is c.drive.ensures.left)
+
+pub returns-in-Err-clause-unsent : goal.returns-in-Err-clause-unsent
+returns-in-Err-clause-unsent g c = λ is. unplayed_of_status _ c.in-Err.fault c.in-Err.ensures.unsent _ (sym c.status_of.ensures) is
+
+pub returns-in-Err-clause-flushed_in_part : goal.returns-in-Err-clause-flushed_in_part
+returns-in-Err-clause-flushed_in_part g c = λ is. in_part_of_status (remote_text c.args.to.now) (g.S.Source.left c.args.source.now) _ _ _ _ c.in-Err.fault c.in-Err.ensures.in_part (sym c.status_of.ensures ∙ is)
+
+pub returns-in-Err-clause-no_memory_in_part : goal.returns-in-Err-clause-no_memory_in_part
+returns-in-Err-clause-no_memory_in_part g c = λ is. memory_of_status (remote_text c.args.to.now) (g.S.Source.left c.args.source.now) _ _ _ _ c.in-Err.fault c.in-Err.ensures.in_part (sym c.status_of.ensures ∙ is)

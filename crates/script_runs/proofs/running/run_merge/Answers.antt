@@ -3,8 +3,10 @@ use Rattle.std.specs.Prelude.{IfSome}
 use Rattle.metrics_core.specs.Characters.{line}
 use Rattle.metrics_core.specs.Outside.{Rose}
 use Rattle.drive_script.specs.Faults.{fault_text}
+use Rattle.script_runs.specs.Answers.{LeavesSource, end_status}
 use Rattle.script_runs.specs.Relay.{IsRelayEnd, IsRelayLineOf, IsWithinLimit, merged_text, relay_fault_text}
-use Rattle.script_runs.proofs.RelaySteps.{done_ends, done_line, refused_ends, refused_line, unread_line}
+use Rattle.script_runs.proofs.ReadingSteps.{read_out}
+use Rattle.script_runs.proofs.RelaySteps.{done_ends, done_line, refused_ends, refused_line, relayed_in_time, unread_line}
 use Rattle.script_runs.proofs.running.run_merge.Goals as goal
 
 pub returns-in-Err-clause-said : goal.returns-in-Err-clause-said
@@ -51,3 +53,20 @@ returns-clause-said g c =
           c.in-Err-relay.ensures.cause);
       written = c.say_relay_fault.ensures.said;
     }
+
+pub returns-in-Err-clause-left : goal.returns-in-Err-clause-left
+returns-in-Err-clause-left g c =
+    let P : ℕ → Type 0 = λ status. IfSome (g.S.Source.left c.args.source.now) (λ bytes. LeavesSource bytes (g.S.Source.left c.read_all.new.source) status) in
+    subst P (sym c.status_of.ensures) (subst (λ r. P (end_status r)) c.in-Err.is c.read_all.ensures.left)
+
+pub returns-in-Ok-relay-clause-left : goal.returns-in-Ok-relay-clause-left
+returns-in-Ok-relay-clause-left g c =
+    let P : ℕ → Type 0 = λ status. IfSome (g.S.Source.left c.args.source.now) (λ bytes. LeavesSource bytes (g.S.Source.left c.read_all.new.source) status) in
+    subst (λ r. P (end_status r)) c.in-Ok.is c.read_all.ensures.left
+
+pub returns-clause-left : goal.returns-clause-left
+returns-clause-left g c =
+    let left = g.S.Source.left c.args.source.now in
+    let left_now = g.S.Source.left c.read_all.new.source in
+    let P : ℕ → Type 0 = λ status. IfSome left (λ bytes. LeavesSource bytes left_now status) in
+    subst P (sym c.relay_status_of.ensures) (read_out left left_now _ (subst (λ r. P (end_status r)) c.in-Ok.is c.read_all.ensures.left) (relayed_in_time c.in-Err-relay.fault))

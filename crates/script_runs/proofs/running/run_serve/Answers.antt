@@ -4,6 +4,7 @@ use Rattle.metrics_core.specs.Characters.{line}
 use Rattle.metrics_core.specs.Outside.{Rose}
 use Rattle.prom_serve.specs.Serving.{Listening}
 use Rattle.prom_serve.specs.declared.serving.Served.{Served}
+use Rattle.script_runs.specs.Answers.{LeavesSource}
 use Rattle.script_runs.specs.Served.{IsServeEnd, IsServeLineOf, IsServeComplete, done, serve_end_status, serve_fault_text, served_text}
 use Rattle.script_runs.specs.declared.serving.ServeScriptFault.{ServeScriptFault}
 use Rattle.script_runs.proofs.ServeEnds.{served_ends, unserved_ends, unserved_line}
@@ -41,3 +42,14 @@ returns-in-Err-clause-said g c =
       meant = subst P (sym c.serve_status_of.ensures) (unserved_line _ (g.S.Source.left c.args.source.now) _ _ _ _ c.in-Err.fault c.in-Err.ensures.cause c.in-Err.ensures.device);
       written = c.say_serve_fault.ensures.said;
     }
+
+pub returns-in-Ok-clause-left : goal.returns-in-Ok-clause-left
+returns-in-Ok-clause-left g c =
+    let Left : Result Served ServeScriptFault → Type 0 = λ r. IfSome (g.S.Source.left c.args.source.now) (λ bytes. LeavesSource bytes (g.S.Source.left c.serve_script.new.source) (serve_end_status r)) in
+    subst Left c.in-Ok.is c.serve_script.ensures.left
+
+pub returns-in-Err-clause-left : goal.returns-in-Err-clause-left
+returns-in-Err-clause-left g c =
+    let Left : Result Served ServeScriptFault → Type 0 = λ r. IfSome (g.S.Source.left c.args.source.now) (λ bytes. LeavesSource bytes (g.S.Source.left c.serve_script.new.source) (serve_end_status r)) in
+    let P : ℕ → Type 0 = λ status. IfSome (g.S.Source.left c.args.source.now) (λ bytes. LeavesSource bytes (g.S.Source.left c.serve_script.new.source) status) in
+    subst P (sym c.serve_status_of.ensures) (subst Left c.in-Err.is c.serve_script.ensures.left)

@@ -1,6 +1,11 @@
 use Rattle.std.proofs.Common.{refl, ◌∙◌}
-use Rattle.script_runs.proofs.RelaySteps.{conflict_line, relay_said_of}
+use Rattle.script_runs.proofs.RelaySteps.{conflict_line, relay_said_of, syntax_line}
 use Rattle.script_runs.proofs.say.say_relay_fault.Goals as goal
+
+pub returns-in-Syntax : goal.returns-in-Syntax
+returns-in-Syntax g c = record {
+  said = relay_said_of _ _ _ _ _ _ c.in-Syntax.is (syntax_line c.as_bytes.result.now c.in-Syntax.line (c.as_bytes.ensures.value ∙ c.format.ensures.text)) c.say.ensures.said;
+}
 
 pub returns-in-Conflict : goal.returns-in-Conflict
 returns-in-Conflict g c = record {

@@ -1,4 +1,4 @@
-use Rattle.std.proofs.Common.{◌≡◌, [], refl, subst}
+use Rattle.std.proofs.Common.{◌≡◌, [], refl, subst, arith}
 use Rattle.std.specs.Prelude.{IfSome, None, Some}
 use Rattle.metrics_core.specs.Outside.{Rose}
 use Rattle.prom_serve.specs.Serving.{Listening}
@@ -6,12 +6,13 @@ use Rattle.drive_script.specs.Settings.{refusal_of, refused_setting}
 use Rattle.drive_script.specs.Texts.{script_of}
 use Rattle.drive_script.specs.declared.faults.DriveFault.TheVariants as faults
 use Rattle.script_runs.specs.Agent.{default_agent}
-use Rattle.script_runs.specs.Answers.{IsAllowed}
-use Rattle.script_runs.specs.Served.{HasServeCause, HasServeDeviceCause, IfUnserved, LeavesServed}
+use Rattle.script_runs.specs.Answers.{IsAllowed, LeavesSource}
+use Rattle.script_runs.specs.Served.{HasServeCause, HasServeDeviceCause, IfUnserved, LeavesServed, serve_fault, serve_status}
 use Rattle.script_runs.specs.declared.serving.ServeScriptFault.TheVariants as serving
+use Rattle.script_runs.proofs.ReadingSteps.{read_out}
 use Rattle.script_runs.proofs.RecordedRounds.{script_records}
 use Rattle.script_runs.proofs.Returned.{if_handed_on}
-use Rattle.script_runs.proofs.ServingSteps.{leaves_served, listener_cause, listener_device, refused_cause, refused_complete, script_served, served_complete, serving_by, unread_cause, unread_complete, unread_device, unserved_by, unserved_complete, untold_by}
+use Rattle.script_runs.proofs.ServingSteps.{leaves_served, listener_cause, listener_device, refused_cause, refused_complete, script_served, served_complete, served_in_time, serving_by, status_served_on, unread_cause, unread_complete, unread_device, unserved_by, unserved_complete, untold_by}
 use Rattle.script_runs.proofs.TimelyRounds.{rise_from_start}
 use Rattle.script_runs.proofs.serving.serve_script.Goals as goal
 
@@ -150,3 +151,29 @@ returns-clause-complete g c =
     let allowed : IsAllowed default_agent (script_of c.in_ok-script.script)
     = subst (λ to. refused_setting (script_of c.in_ok-script.script).settings to ≡ None) c.default_agent.ensures c.in_ok-check_settings.ensures.allowed in
     served_complete (g.S.Source.left c.args.source.now) _ _ (script_of c.in_ok-script.script) c.in_ok-script.ensures.read allowed
+
+-- ---- what is still to come of the source
+
+pub returns-in_err-script-clause-left : goal.returns-in_err-script-clause-left
+returns-in_err-script-clause-left g c =
+    let left = g.S.Source.left c.args.source.now in
+    let left_now = g.S.Source.left c.read_whole_script.new.source in
+    status_served_on c.from_residual.result (serving.Drive c.in_err-script.field-0.0) (λ status. IfSome left (λ bytes. LeavesSource bytes left_now status)) c.from_residual.ensures.1 c.in_err-script.ensures.left
+
+pub returns-in_err-check_settings-clause-left : goal.returns-in_err-check_settings-clause-left
+returns-in_err-check_settings-clause-left g c =
+    let left = g.S.Source.left c.args.source.now in
+    let left_now = g.S.Source.left c.read_whole_script.new.source in
+    status_served_on c.from_residual-in_err-check_settings.result (serving.Drive (faults.Setting c.in_err-check_settings.field-0.0)) (λ status. IfSome left (λ bytes. LeavesSource bytes left_now status))
+    c.from_residual-in_err-check_settings.ensures.1 (read_out left left_now 4 c.in_ok-script.ensures.left (λ e. omega (arith, e)))
+
+pub returns-in_err-served-clause-left : goal.returns-in_err-served-clause-left
+returns-in_err-served-clause-left g c =
+    let left = g.S.Source.left c.args.source.now in
+    let left_now = g.S.Source.left c.read_whole_script.new.source in
+    let fault = serve_fault c.in_err-served.field-0.0 in
+    status_served_on c.from_residual-in_err-served.result fault (λ status. IfSome left (λ bytes. LeavesSource bytes left_now status)) c.from_residual-in_err-served.ensures.1
+    (read_out left left_now (serve_status fault) c.in_ok-script.ensures.left (served_in_time c.in_err-served.field-0.0))
+
+pub returns-clause-left : goal.returns-clause-left
+returns-clause-left g c = c.in_ok-script.ensures.left

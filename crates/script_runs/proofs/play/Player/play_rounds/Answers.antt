@@ -15,9 +15,10 @@ use Rattle.script_runs.specs.Timely.{RiseFrom}
 use Rattle.script_runs.specs.Flushes.{FlushPlay}
 use Rattle.script_runs.specs.Player.{flush_state_of}
 use Rattle.script_runs.specs.Sent.{LinkTold}
-use Rattle.script_runs.proofs.Delivered.{FlushedSoFar, flushed-cut, flushed-end, flushed-round, flushed-start}
+use Rattle.script_runs.proofs.Delivered.{FlushedSoFar, flushed-end, flushed-round, flushed-start}
 use Rattle.script_runs.proofs.DriveSteps.{play_fault_later}
 use Rattle.script_runs.proofs.Fits.{first_fits, lines_rest_fits, rest_fits}
+use Rattle.script_runs.proofs.PagesSoFar.{PagedSoFar, ends_within, paged-round, paged-start}
 use Rattle.script_runs.proofs.Returned.{if_handed_on, on_handed_on}
 use Rattle.script_runs.proofs.RoundSteps.{IsSoFar, so_far-cut, so_far-end, so_far-round, so_far-start}
 use Rattle.script_runs.proofs.TimelyRounds.{later_timely, round_timely}
@@ -104,6 +105,13 @@ loop-round-preserved g c =
           let P : List RoundText → Type 0 = λ rounds. IsSoFar settings start all (state_of c.loop-round.self) rounds (g.K.Sink.written c.args.out.now) (g.K.Sink.written c.loop-round.out) in
           so_far-round settings start all (state_of c.loop-round.self) _ (round_of c.in-Some.round) rest _ _ _ (subst P behind (c.loop-round.invariant.so_far settings same))
           (c.in_ok-play_round.ensures.played settings (c.loop-round.invariant.settings ∙ same));
+      paged = λ settings same.
+          let start = state_of c.args.self.now in
+          let all = map round_of c.args.rounds.items in
+          let P : List RoundText → Type 0 = λ rounds. PagedSoFar settings start all (state_of c.loop-round.self) rounds (g.K.Sink.written c.args.out.now) (g.K.Sink.written c.loop-round.out) in
+          paged-round settings start all (state_of c.loop-round.self) _ (round_of c.in-Some.round) rest _ _ _ (subst P behind (c.loop-round.invariant.paged settings same))
+          (c.in_ok-play_round.ensures.played settings (c.loop-round.invariant.settings ∙ same));
+      aims = c.in_ok-play_round.ensures.aimed ∙ c.loop-round.invariant.aims;
     }
 
 pub returns-in_err-play_round-clause-cause : goal.returns-in_err-play_round-clause-cause
@@ -140,6 +148,9 @@ loop-round-init g c =
       never_falls = omega arith;
       so_far = λ settings same.
           subst (λ rs. IsSoFar settings start (map round_of c.args.rounds.items) start (map round_of rs) told told) (sym all) (so_far-start settings start (map round_of c.args.rounds.items) told);
+      paged = λ settings same.
+          subst (λ rs. PagedSoFar settings start (map round_of c.args.rounds.items) start (map round_of rs) told told) (sym all) (paged-start settings start (map round_of c.args.rounds.items) told);
+      aims = refl;
     }
 
 pub returns-clause-sent : goal.returns-clause-sent
@@ -147,15 +158,34 @@ returns-clause-sent g c = λ settings to asks aims.
     let none : into_iter_items c.loop-round.round-iterator ≡ [] = nil_from_length _ (sym c.loop-round.round-iterator.rest.ok.0 ∙ c.in-None.ensures.steps.0) in
     flushed-end settings to (flush_state_of c.args.self.now) (map round_of c.args.rounds.items) (flush_state_of c.loop-round.self) _ _ _ _ _ (ap (map round_of) none) (c.loop-round.invariant.flushed settings to asks aims).2
 
-pub returns-in_err-play_round-clause-sent_in_part : goal.returns-in_err-play_round-clause-sent_in_part
-returns-in_err-play_round-clause-sent_in_part g c = λ settings to asks aims.
-    let so_far = (c.loop-round.invariant.flushed settings to asks aims).2 in
-    let start = flush_state_of c.args.self.now in
+pub returns-in_err-play_round-clause-in_part : goal.returns-in_err-play_round-clause-in_part
+returns-in_err-play_round-clause-in_part g c = λ settings to same asks aims.
+    let steps : into_iter_items c.loop-round.round-iterator ≡ c.in-Some.round ∷ into_iter_items c.next.new.self = c.in-Some.ensures.steps.0 in
+    let behind = ap (map round_of) steps in
+    let start = state_of c.args.self.now in
+    let begin = flush_state_of c.args.self.now in
     let all = map round_of c.args.rounds.items in
+    let round = round_of c.in-Some.round in
+    let left = map round_of (into_iter_items c.next.new.self) in
+    let p = state_of c.loop-round.self in
+    let q = flush_state_of c.loop-round.self in
+    let before = g.K.Sink.written c.args.out.now in
+    let middle = g.K.Sink.written c.loop-round.out in
     let told : LinkTold = record { sent = g.L.Link.sent c.args.link.now; faults = g.L.Link.faults c.args.link.now } in
+    let tells : LinkTold = record { sent = g.L.Link.sent c.loop-round.link; faults = g.L.Link.faults c.loop-round.link } in
     let ended : LinkTold = record { sent = g.L.Link.sent c.play_round.new.link; faults = g.L.Link.faults c.play_round.new.link } in
-    let before : LinkTold = record { sent = g.L.Link.sent c.loop-round.link; faults = g.L.Link.faults c.loop-round.link } in
-    let same : before ≡ ended = λ i. record { sent = g.L.Link.sent (sym c.in_err-play_round.ensures.unsent i); faults = g.L.Link.faults (sym c.in_err-play_round.ensures.unsent i) } in
-    let Cut : LinkTold → Type 0 = λ tells. FlushedSoFar settings to start all (flush_state_of c.loop-round.self) (map round_of (into_iter_items c.loop-round.round-iterator)) told tells c.args.self.now.flushes.report c.loop-round.self.flushes.report in
-    on_handed_on c.from_residual.result _ (flushed-cut settings to start all (flush_state_of c.loop-round.self) (map round_of (into_iter_items c.loop-round.round-iterator)) told ended c.args.self.now.flushes.report c.loop-round.self.flushes.report
-    (subst Cut same so_far))
+    let still : tells ≡ ended = λ i. record { sent = g.L.Link.sent (sym c.in_err-play_round.ensures.unsent i); faults = g.L.Link.faults (sym c.in_err-play_round.ensures.unsent i) } in
+    let x = c.args.self.now.flushes.report in
+    let y = c.loop-round.self.flushes.report in
+    let Paged : List RoundText → Type 0 = λ rounds. PagedSoFar settings start all p rounds before middle in
+    let Flushed : List RoundText → Type 0 = λ rounds. FlushedSoFar settings to begin all q rounds told tells x y in
+    let Kept : LinkTold → Type 0 = λ now. FlushedSoFar settings to begin all q (round ∷ left) told now x y in
+    on_handed_on c.from_residual.result _ (ends_within settings to start p begin q all round left before middle (g.K.Sink.written c.play_round.new.out) told ended x y
+    (subst Paged behind (c.loop-round.invariant.paged settings same)) (subst Kept still (subst Flushed behind (c.loop-round.invariant.flushed settings to asks aims).2))
+    (c.in_err-play_round.ensures.prefix settings (c.loop-round.invariant.settings ∙ same)))
+
+pub returns-in_err-play_round-clause-aims : goal.returns-in_err-play_round-clause-aims
+returns-in_err-play_round-clause-aims g c = c.in_err-play_round.ensures.aimed ∙ c.loop-round.invariant.aims
+
+pub returns-clause-aims : goal.returns-clause-aims
+returns-clause-aims g c = c.loop-round.invariant.aims

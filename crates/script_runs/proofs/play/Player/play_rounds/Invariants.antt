@@ -14,6 +14,7 @@ use Rattle.dsd_exporter.specs.Resting.{AllRest as LinesRest}
 use Rattle.std.specs.Prelude.{Some}
 use Rattle.script_runs.specs.Player.{AsksFor, flush_state_of}
 use Rattle.script_runs.proofs.Delivered.{FlushedSoFar}
+use Rattle.script_runs.proofs.PagesSoFar.{PagedSoFar}
 use Rattle.script_runs.proofs.RoundSteps.{IsSoFar}
 use Rattle.script_runs.proofs.play.Player.play_rounds.Given as goal
 
@@ -35,4 +36,8 @@ invariant-loop-round g l = record {
   so_far : (settings : SettingsText) → l.initial.self.exporters.prometheus.settings ≡ exporter_settings settings
       → IsSoFar settings (state_of l.initial.self) (map round_of l.fn.rounds.items) (state_of l.self) (map round_of (into_iter_items l.round-iterator))
       (g.K.Sink.written l.initial.out) (g.K.Sink.written l.out);
+  paged : (settings : SettingsText) → l.initial.self.exporters.prometheus.settings ≡ exporter_settings settings
+      → PagedSoFar settings (state_of l.initial.self) (map round_of l.fn.rounds.items) (state_of l.self) (map round_of (into_iter_items l.round-iterator))
+      (g.K.Sink.written l.initial.out) (g.K.Sink.written l.out);
+  aims : g.L.Link.aimed l.link ≡ g.L.Link.aimed l.initial.link;
 }

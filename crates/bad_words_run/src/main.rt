@@ -1,0 +1,14 @@
+//! A run of the program as `metrics_drive` has it, with a word too many: it must end with 2. Where the words behind the first were dropped, it
+//! would write the page on standard input.
+#![tactic(auto)]
+
+use metrics_core::{Reading, Writing};
+use program_words::{Ended, run_program};
+
+/// Answers the words of the command line over the standard streams.
+fn main(rt: HostRuntime) -> Ended {
+    let mut source = Reading::new(rt.stdin());
+    let mut out = Writing::new(rt.stdout());
+    let mut err = Writing::new(rt.stderr());
+    run_program(&rt, rt.alloc(), &mut source, &mut out, &mut err)
+}
