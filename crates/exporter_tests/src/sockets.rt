@@ -9,13 +9,19 @@ use std::random::RandomSource;
 use std::sync::Wait;
 use std::test::Fail;
 use std::thread::Threads;
+use std::time::Clock;
 
 /// Two rounds, each of which counts.
 const TWO_ROUNDS: &[u8] = b"round 0\nregister counter \"c\"\n0 inc 0 42\nround 1\n0 inc 0 7\n";
 
 /// Plays the script with its payloads to an address, and answers the status.
 fn drives_to<
-    R: Net<Listener = TcpListener, Stream = TcpStream> + RandomSource + Threads + Wait + Sync,
+    R: Net<Listener = TcpListener, Stream = TcpStream>
+        + RandomSource
+        + Threads
+        + Clock
+        + Wait
+        + Sync,
 >(rt: &R, alloc: Global, to: &SocketAddr) -> io::Result<u8> {
     let address = format!(in alloc; "{to}")?;
     let words = ["drive", address.as_str()];
