@@ -68,6 +68,7 @@ pub(crate) fn register_counter<R: Wait>(
     ensures handed { IfOk result IsHandedCounter }
     ensures given { IfOk result (λ lent. HandsOut kinds.Counter LendsCounter IsLoneCounter key.now lent (view_of pass.old) (view_of pass.new)) }
     ensures refused { OnErr result (MayRegister kinds.Counter key.now (view_of pass.old) (view_of pass.new)) }
+    ensures number { (view_of pass.new).number ≡ (view_of pass.old).number }
 {
     let id = state.register(rt, alloc, pass, MetricKind::Counter, key)?;
     match state.lend_counter(rt, alloc, pass, id)? {
@@ -89,6 +90,7 @@ pub(crate) fn register_gauge<R: Wait>(
     ensures handed { IfOk result IsHandedGauge }
     ensures given { IfOk result (λ lent. HandsOut kinds.Gauge LendsGauge IsLoneGauge key.now lent (view_of pass.old) (view_of pass.new)) }
     ensures refused { OnErr result (MayRegister kinds.Gauge key.now (view_of pass.old) (view_of pass.new)) }
+    ensures number { (view_of pass.new).number ≡ (view_of pass.old).number }
 {
     let id = state.register(rt, alloc, pass, MetricKind::Gauge, key)?;
     match state.lend_gauge(rt, alloc, pass, id)? {
@@ -110,6 +112,7 @@ pub(crate) fn register_histogram<R: Wait>(
     ensures handed { IfOk result IsHandedHistogram }
     ensures given { IfOk result (λ lent. HandsOut kinds.Histogram LendsHistogram IsLoneHistogram key.now lent (view_of pass.old) (view_of pass.new)) }
     ensures refused { OnErr result (MayRegister kinds.Histogram key.now (view_of pass.old) (view_of pass.new)) }
+    ensures number { (view_of pass.new).number ≡ (view_of pass.old).number }
 {
     let id = state.register(rt, alloc, pass, MetricKind::Histogram, key)?;
     match state.lend_histogram(rt, alloc, pass, id)? {
