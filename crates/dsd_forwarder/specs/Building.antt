@@ -1,12 +1,17 @@
 -- What a builder's settings make.
-use Rattle.std.specs.Prelude.{◌≡◌, [], Bool, false, Option, Some, None}
+use Rattle.std.specs.Prelude.{◌≡◌, [], false, Option, Some, None}
 use Rattle.dsd_addresses.specs.declared.faults.BuildError.{BuildError}
 use Rattle.dsd_addresses.specs.declared.faults.BuildError.TheVariants as causes
 use Rattle.dsd_addresses.specs.declared.faults.LimitFault.{LimitFault}
 use Rattle.dsd_addresses.specs.Limits.{fault_of_limit}
 use Rattle.dsd_addresses.specs.Remotes.{remote_text}
 use Rattle.dsd_exporter.specs.Builders.{BuilderText, limit_of, interval_of}
+use Rattle.dsd_exporter.specs.State.{DogStatsDSettings}
+use Rattle.dsd_exporter.specs.Exporter.{settings_of}
 use Rattle.dsd_exporter.specs.Updates.{no_update}
+use Rattle.legal_history.specs.History.{lender}
+use Rattle.shared_turns.specs.Turns.{opening}
+use Rattle.shared_flushes.specs.declared.entries.StateEntry.TheVariants.{Built}
 use Rattle.dsd_forwarder.specs.declared.configuration.ForwarderConfiguration.{ForwarderConfiguration}
 use Rattle.dsd_forwarder.specs.Forwarding.{ForwarderText, is_stream}
 
@@ -19,10 +24,10 @@ abbrev pub refusal_for : Option LimitFault → BuildError
 refusal_for None = causes.Memory
 refusal_for (Some reason) = causes.InvalidConfiguration reason
 
--- A forwarder was made with this, and has not run.
-pub record IsMadeWith (configuration : ForwarderConfiguration) (counts_own : Bool) (f : ForwarderText) : Type 0 where
+-- A forwarder was made with this, and has not run. It knows that its state was built with these settings, and lent one pass of it.
+pub record IsMadeWith (configuration : ForwarderConfiguration) (settings : DogStatsDSettings) (f : ForwarderText) : Type 0 where
   pub configuration_is : f.configuration ≡ configuration
-  pub counts_own_is : f.counts_own ≡ counts_own
+  pub counts_own_is : f.counts_own ≡ settings.telemetry
   pub marks : f.marks ≡ []
   pub writer_limit : f.writer.limit ≡ configuration.max_payload_len
   pub on_stream : f.writer.on_stream ≡ is_stream (remote_text configuration.remote_addr)
@@ -31,6 +36,7 @@ pub record IsMadeWith (configuration : ForwarderConfiguration) (counts_own : Boo
   pub update : f.update ≡ no_update
   pub was_refused : f.was_refused ≡ false
   pub telemetry : f.telemetry ≡ None
+  pub knows : f.knows ≡ lender (opening (Built settings))
 
 -- a configuration has these settings
 pub record HasSettings (b : BuilderText) (configuration : ForwarderConfiguration) : Type 0 where
@@ -44,4 +50,4 @@ pub record HasSettings (b : BuilderText) (configuration : ForwarderConfiguration
 pub record IsBuilt (b : BuilderText) (f : ForwarderText) : Type 0 where
   pub configuration : ForwarderConfiguration
   pub settings : HasSettings b configuration
-  pub made : IsMadeWith configuration b.configuration.telemetry f
+  pub made : IsMadeWith configuration (settings_of b.configuration) f

@@ -2,7 +2,9 @@
 use Rattle.std.specs.Prelude.{◌≡◌, ◌⊎◌, ℕ, List, [], ◌∷◌, ◌++◌, map, Option, Some, None}
 use Rattle.std.specs.List.{FoldsTo}
 use Rattle.flushed_cells.specs.declared.counter_calls.CounterCall.TheVariants.{Increment}
+use Rattle.legal_history.specs.declared.history.View.{View}
 use Rattle.legal_history.specs.History.{child}
+use Rattle.metrics_core.specs.declared.kinds.MetricKind.TheVariants as kinds
 use Rattle.metrics_core.specs.declared.kinds.SeriesId.{SeriesId}
 use Rattle.dsd_exporter.specs.Exporter.{Exporter}
 use Rattle.dsd_exporter.specs.Lending.{HasNoCounter, ChangesCounter, Makes, with_lent}
@@ -11,7 +13,11 @@ use Rattle.dsd_forwarder.specs.declared.own_counters.OwnCounter.{OwnCounter}
 use Rattle.dsd_forwarder.specs.declared.telemetry.OwnCount.{OwnCount}
 use Rattle.dsd_forwarder.specs.Held.{CounterLease, Counts}
 use Rattle.dsd_forwarder.specs.OwnCounters.{own_key, added}
-use Rattle.dsd_forwarder.specs.Registering.{RegistersCounter, counter_id}
+use Rattle.dsd_forwarder.specs.Registering.{MayRegister, RegistersCounter, counter_id}
+use Rattle.shared_flushes.specs.declared.entries.StateEntry.{StateEntry}
+use Rattle.shared_flushes.specs.declared.entries.StateEntry.TheVariants.{Register}
+use Rattle.shared_flushes.specs.Stands.{During}
+use Rattle.shared_flushes.specs.Stands as entries
 
 abbrev pub counters_of : List OwnCount → List OwnCounter
 counters_of counts = map (λ c. c.counter) counts
@@ -28,14 +34,36 @@ pub record Registers (transport : List ℕ) (old : Exporter) (count : OwnCount) 
   pub registers : RegistersCounter (own_key transport count.counter) old between
   pub holds : Holds (counter_id (own_key transport count.counter) old) count.held between new
 
--- The first of the counters were registered and lent, in order; of the next one nothing was done, or it was registered alone.
-pub record RegistersSome (transport : List ℕ) (old : Exporter) (counters : List OwnCounter) (new : Exporter) : Type 0 where
+-- The first of the counters were registered and lent, in order; of the next one this was done.
+pub record RegistersFirst {S : Type 0} (RegistersOne : S → OwnCount → S → Type 0) (Next : List OwnCounter → S → S → Type 0) (old : S) (counters : List OwnCounter) (new : S) : Type 0 where
   pub counted : List OwnCount
   pub rest : List OwnCounter
   pub in_order : counters_of counted ++ rest ≡ counters
-  pub between : Exporter
-  pub registered : FoldsTo (Registers transport) old counted between
-  pub next : (new ≡ between) ⊎ ((counter : OwnCounter) × (more : List OwnCounter) × (rest ≡ counter ∷ more) × RegistersCounter (own_key transport counter) between new)
+  pub between : S
+  pub registered : FoldsTo RegistersOne old counted between
+  pub next : Next rest between new
+
+-- of the next one nothing was done, or it was registered alone
+abbrev pub RegistersNext : List ℕ → List OwnCounter → Exporter → Exporter → Type 0
+RegistersNext transport rest old new = (new ≡ old) ⊎ ((counter : OwnCounter) × (more : List OwnCounter) × (rest ≡ counter ∷ more) × RegistersCounter (own_key transport counter) old new)
+
+abbrev pub RegistersSome : List ℕ → Exporter → List OwnCounter → Exporter → Type 0
+RegistersSome transport old counters new = RegistersFirst (Registers transport) (RegistersNext transport) old counters new
+
+-- ---- registering them with a pass
+
+-- one of the counters was registered, which is an entry of the pass, and then lent
+pub record RegistersSeen (transport : List ℕ) (v : View StateEntry) (count : OwnCount) (w : View StateEntry) : Type 0 where
+  pub number : ℕ
+  pub between : View StateEntry
+  pub makes : entries.Makes (Register kinds.Counter (own_key transport count.counter) number) v between
+  pub holds : During (Holds (record { kind = kinds.Counter; number = number }) count.held) between w
+
+abbrev pub RegistersNextSeen : List ℕ → List OwnCounter → View StateEntry → View StateEntry → Type 0
+RegistersNextSeen transport rest v w = (w ≡ v) ⊎ ((counter : OwnCounter) × (more : List OwnCounter) × (rest ≡ counter ∷ more) × MayRegister kinds.Counter (own_key transport counter) v w)
+
+abbrev pub RegistersSomeSeen : List ℕ → View StateEntry → List OwnCounter → View StateEntry → Type 0
+RegistersSomeSeen transport v counters w = RegistersFirst (RegistersSeen transport) (RegistersNextSeen transport) v counters w
 
 -- ---- adding an update
 

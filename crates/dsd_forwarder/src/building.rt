@@ -1,22 +1,27 @@
 //! What a builder makes: a recorder and a forwarder of one state, or the recorder of a whole program and its forwarder.
 
-ghost use Rattle.std.specs.Prelude.{◌≤◌, IfOk};
+ghost use Rattle.std.specs.Prelude.{◌≡◌, ◌≤◌, IfOk};
+ghost use Rattle.std.specs.Arc.{arc_value};
+ghost use Rattle.dsd_exporter.specs.Exporter.{settings_of};
 ghost use Rattle.dsd_forwarder.specs.Building.{IsMadeWith};
 
 use crate::configuration::ForwarderConfiguration;
 use crate::forwarder::Forwarder;
+use crate::held_pass::HeldPass;
 use crate::recorder::DogStatsDRecorder;
 use dsd_addresses::{BuildError, limit_fault};
-use dsd_exporter::{DogStatsDBuilder, State, StateConfiguration};
+use dsd_exporter::{DogStatsDBuilder, StateConfiguration};
 use hash_starts::HashStart;
 use metrics_core::Memory;
 use metrics_facade::{Note, RecorderOnceCell};
+use shared_flushes::SharedState;
 use std::alloc::Global;
-use std::sync::{Arc, Mutex};
+use std::sync::Arc;
 
 /// What makes a recorder and a forwarder of one new state.
 pub trait BuildForwarder {
     ghost use Rattle.std.specs.Prelude.{◌≡◌, ◌⊎◌, None, Some, IfOk, IfErr, OnOk, OnErr};
+    ghost use Rattle.std.specs.Arc.{arc_value};
     ghost use Rattle.once_cell.specs.Once.{Agrees};
     ghost use Rattle.dsd_addresses.specs.declared.faults.BuildError.TheVariants as causes;
     ghost use Rattle.dsd_exporter.specs.Builders.{BuilderText};
@@ -29,6 +34,7 @@ pub trait BuildForwarder {
     /// A recorder and a forwarder of one state. A payload limit that `limit_fault` refuses for the address is refused.
     fn build(self, alloc: Global) -> Result<(DogStatsDRecorder, Forwarder), BuildError>
         ensures built { IfOk result (λ made. IsBuilt (settings self) made.1) }
+        ensures one { IfOk result (λ made. arc_value made.0.state ≡ made.1.state) }
         ensures limit { OnOk result (limit_fault_in (settings self) ≡ None) }
         ensures refused { IfErr result (λ fault. fault ≡ refusal_for (limit_fault_in (settings self))) };
 
@@ -44,24 +50,14 @@ pub trait BuildForwarder {
         ensures cell { note.new.cell ≡ note.old.cell }
         ensures built { IfOk result (IsBuilt (settings self)) }
         ensures limit { OnOk result (limit_fault_in (settings self) ≡ None) }
-        ensures installed { OnOk result ((note.old.known ≡ None) × ((there : RecorderOf) × (note.new.known ≡ Some there))) }
+        ensures installed { IfOk result (λ forwarder. (note.old.known ≡ None) × ((there : RecorderOf) × (note.new.known ≡ Some there) × (arc_value there.state ≡ forwarder.state))) }
         ensures refused { IfErr result (λ fault.
             ((fault ≡ refusal_for (limit_fault_in (settings self))) × (note.new.known ≡ note.old.known))
             ⊎ ((fault ≡ causes.FailedToInstall) × (limit_fault_in (settings self) ≡ None)
             × ((there : RecorderOf) × (note.new.known ≡ Some there) × Agrees note.old.known there))) };
 }
 
-/// A state with these settings, behind a lock.
-fn locked_state(
-    alloc: Global,
-    start: HashStart,
-    configuration: StateConfiguration,
-) -> Result<Arc<Mutex<State>>, Memory> {
-    let state = State::starting_from(alloc, start, configuration)?;
-    Ok(Arc::new(alloc, Mutex::new(state))?)
-}
-
-/// A recorder and a forwarder of one state.
+/// A recorder and a forwarder of one new state, which the forwarder has the root pass of.
 fn build_both(
     alloc: Global,
     start: HashStart,
@@ -70,12 +66,19 @@ fn build_both(
 ) -> Result<(DogStatsDRecorder, Forwarder), Memory>
     requires least { 6 ≤ configuration.max_payload_len }
     requires most { configuration.max_payload_len ≤ 4294967295 }
-    ensures { IfOk result (λ made. IsMadeWith configuration state_configuration.telemetry made.1) }
+    ensures made { IfOk result (λ made. IsMadeWith configuration (settings_of state_configuration) made.1) }
+    ensures one { IfOk result (λ made. arc_value made.0.state ≡ made.1.state) }
 {
     let counts_own = state_configuration.telemetry;
-    let state = locked_state(alloc, start, state_configuration)?;
-    let recorder = DogStatsDRecorder::of(Arc::try_clone(&state)?);
-    let forwarder = Forwarder::new(alloc, configuration, counts_own, state)?;
+    let (state, mut pass) = SharedState::new(alloc, start, state_configuration)?;
+    let state = Arc::new(alloc, state)?;
+    let lent = state.split(&mut pass);
+    let recorder = DogStatsDRecorder::of(HeldPass {
+        state: Arc::try_clone(&state)?,
+        pass: lent,
+    })?;
+    let own = HeldPass { state, pass };
+    let forwarder = Forwarder::new(alloc, configuration, counts_own, own)?;
     Ok((recorder, forwarder))
 }
 

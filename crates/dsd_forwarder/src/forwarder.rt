@@ -1,31 +1,37 @@
 //! The forwarder: it flushes an exporter's state and sends what the flush wrote, once for each run.
 
 ghost use Rattle.std.specs.Prelude.{◌≡◌, ◌⊎◌, ◌≤◌, ◌↔◌, false, Some, None, IsTrue, IfOk, OnOk, OnErr};
-ghost use Rattle.std.specs.List.{FoldsTo};
+ghost use Rattle.std.specs.Arc.{arc_value};
 ghost use Rattle.dsd_addresses.specs.Remotes.{remote_text, transport_of};
-ghost use Rattle.dsd_exporter.specs.Exporter.{Exporter};
-ghost use Rattle.dsd_exporter.specs.Flushing.{Found, Flushes};
-ghost use Rattle.dsd_exporter.specs.Sending.{SendsFlush};
+ghost use Rattle.dsd_exporter.specs.State.{DogStatsDSettings};
+ghost use Rattle.legal_history.specs.History.{child, lender, taker};
+ghost use Rattle.shared_turns.specs.Passes.{view_of};
+ghost use Rattle.shared_turns.specs.Turns.{opening};
+ghost use Rattle.shared_flushes.specs.declared.entries.StateEntry.TheVariants.{Built};
+ghost use Rattle.shared_flushes.specs.Passes.{IsPass};
 ghost use Rattle.dsd_forwarder.specs.OwnCounters.{own_counters};
-ghost use Rattle.dsd_forwarder.specs.Telemetry.{Registers, RegistersSome, counters_of};
+ghost use Rattle.dsd_forwarder.specs.Telemetry.{RegistersSomeSeen};
 ghost use Rattle.dsd_forwarder.specs.Building.{IsMadeWith};
-ghost use Rattle.dsd_forwarder.specs.Forwarding.{SendsSome, FlushesSome, CountsOwn, IsCountedIn, IsToCount, IsUncounted, RunsOnce, IsRefusedRun, begun, remote_of};
+ghost use Rattle.dsd_forwarder.specs.Forwarding.{SendsState, FlushesState, CountsOwn, IsCountedIn, IsToCount, IsUncounted, RunsOnce, IsRefusedRun, begun, remote_of};
 
 use crate::configuration::ForwarderConfiguration;
+use crate::held_pass::HeldPass;
 use crate::telemetry::Telemetry;
 use dsd_addresses::RemoteAddr;
-use dsd_exporter::{FlushReport, FlushState, Link, State, TelemetryUpdate, send_flush};
+use dsd_exporter::{FlushReport, FlushState, Link, TelemetryUpdate, send_written};
 use dsd_writer::PayloadWriter;
 use metrics_core::{IntoLabels, Memory, Words};
+use shared_flushes::StatePass;
 use std::alloc::Global;
 use std::marker::Model;
-use std::sync::{Arc, Mutex, Wait};
+use std::sync::Wait;
 
-/// Sends what the series of an exporter's state have counted, once for each run. It shares the state with a recorder behind a
-/// lock.
+/// Sends what the series of an exporter's state have counted, once for each run. It shares the state with a recorder, in turns, and
+/// has the root pass of it: it lends passes to threads that register, and takes them back. What it registered, and what it was told
+/// of by a pass that it took back, is in each flush that follows.
 #[derive(Drop)]
 pub struct Forwarder {
-    state: Arc<Mutex<State>>,
+    own: HeldPass,
     configuration: ForwarderConfiguration,
     counts_own: bool,
     flush_state: FlushState,
@@ -35,9 +41,12 @@ pub struct Forwarder {
     was_refused: bool,
     /// The exporter's own counters, once there was something to count.
     telemetry: Option<Telemetry>,
+    ghost root: { (view_of own.pass).number ≡ 0 },
 }
 
 impl Model for Forwarder {
+    ghost use Rattle.std.specs.Arc.{arc_value};
+    ghost use Rattle.shared_turns.specs.Passes.{view_of};
     ghost use Rattle.dsd_forwarder.specs.Forwarding.{ForwarderText};
 
     ghost Value = { ForwarderText };
@@ -50,74 +59,31 @@ impl Model for Forwarder {
       update = forwarder.update;
       was_refused = forwarder.was_refused;
       telemetry = forwarder.telemetry;
+      state = arc_value forwarder.own.state;
+      knows = view_of forwarder.own.pass;
     } };
 }
 
-/// Flushes the state behind a lock and hands the payloads to a link, as `send_flush` does.
-fn send_locked<R: Wait, L: Link, W: Words>(
-    rt: &R,
-    alloc: Global,
-    state: &Mutex<State>,
-    flush_state: &mut FlushState,
-    writer: &mut PayloadWriter,
-    update: &mut TelemetryUpdate,
-    moment: u64,
-    words: &mut W,
-    link: &mut L,
-) -> Result<FlushReport, Memory>
-    ensures sent { IfOk result (λ report. (before after : Exporter) × SendsFlush moment before after flush_state.old flush_state.new writer.old writer.new
-        update.old update.new (W.to_come words.old) (W.to_come words.new) (L.aimed link.old) (L.sent link.old) (L.sent link.new) (L.faults link.old) (L.faults link.new) report) }
-    ensures refused { OnErr result ((before after : Exporter) × (found : Found) × Flushes moment found before after flush_state.old flush_state.new
-        writer.old writer.new update.old update.new (W.to_come words.old) (W.to_come words.new)) }
-    ensures unused { OnErr result (link.new ≡ link.old) }
-    ensures aimed { L.aimed link.new ≡ L.aimed link.old }
-    ensures never_falls { L.faults link.old ≤ L.faults link.new }
-{
-    send_flush(
-        rt,
-        alloc,
-        &mut state.lock(rt),
-        flush_state,
-        writer,
-        update,
-        moment,
-        words,
-        link,
-    )
-}
-
-/// Registers the exporter's own counters in the state behind a lock, as `Telemetry::new` does.
-fn register_locked<R: Wait>(
-    rt: &R,
-    alloc: Global,
-    state: &Mutex<State>,
-    transport: &'static str,
-) -> Result<Telemetry, Memory>
-    ensures all { IfOk result (λ telemetry. counters_of telemetry ≡ own_counters) }
-    ensures registered { IfOk result (λ telemetry. (before after : Exporter) × FoldsTo (Registers transport.now) before telemetry after) }
-    ensures refused { OnErr result ((before after : Exporter) × RegistersSome transport.now before own_counters after) }
-{
-    Telemetry::new(alloc, &mut state.lock(rt), transport)
-}
-
 impl Forwarder {
-    /// A forwarder of this state that has not run. Its labels are copied, for its lines.
+    /// A forwarder with the root pass of its state that has not run. Its labels are copied, for its lines.
     pub(crate) fn new(
         alloc: Global,
         configuration: ForwarderConfiguration,
         counts_own: bool,
-        state: Arc<Mutex<State>>,
+        own: HeldPass,
     ) -> Result<Forwarder, Memory>
         requires least { 6 ≤ configuration.max_payload_len }
         requires most { configuration.max_payload_len ≤ 4294967295 }
-        ensures { IfOk result (IsMadeWith configuration counts_own) }
+        requires root { (view_of own.pass).number ≡ 0 }
+        ensures made { IfOk result (λ made. (settings : DogStatsDSettings) → counts_own ≡ settings.telemetry → view_of own.pass ≡ lender (opening (Built settings)) → IsMadeWith configuration settings made) }
+        ensures state { IfOk result (λ made. made.state ≡ arc_value own.state) }
     {
         let labels = configuration.global_labels.iter().into_labels(alloc)?;
         let on_stream = configuration.is_length_prefixed();
         let mut update = TelemetryUpdate::default();
         update.clear();
         Ok(Forwarder {
-            state,
+            own,
             flush_state: FlushState::new(alloc),
             writer: PayloadWriter::new(
                 alloc,
@@ -156,7 +122,8 @@ impl Forwarder {
         &self.configuration.remote_addr
     }
 
-    /// Flushes the state, and sends the payloads by a link that is aimed at the forwarder's address.
+    /// Flushes the state, and sends the payloads by a link that is aimed at the forwarder's address. While they are sent others may
+    /// have their turns.
     fn send<R: Wait, L: Link, W: Words>(
         &mut self,
         rt: &R,
@@ -166,24 +133,23 @@ impl Forwarder {
         link: &mut L,
     ) -> Result<FlushReport, Memory>
         requires { L.aimed link.old ≡ Some (remote_of self.old) }
-        ensures sent { IfOk result (SendsSome moment self.old self.new (W.to_come words.old) (W.to_come words.new)
+        ensures sent { IfOk result (SendsState moment self.old self.new (W.to_come words.old) (W.to_come words.new)
             (L.sent link.old) (L.sent link.new) (L.faults link.old) (L.faults link.new)) }
-        ensures refused { OnErr result (FlushesSome moment self.old self.new (W.to_come words.old) (W.to_come words.new)) }
+        ensures refused { OnErr result (FlushesState moment self.old self.new (W.to_come words.old) (W.to_come words.new)) }
         ensures unused { OnErr result (link.new ≡ link.old) }
         ensures aimed { L.aimed link.new ≡ L.aimed link.old }
         ensures never_falls { L.faults link.old ≤ L.faults link.new }
     {
-        send_locked(
+        let dropped = self.own.write_flush(
             rt,
             alloc,
-            &self.state,
             &mut self.flush_state,
             &mut self.writer,
             &mut self.update,
             moment,
             words,
-            link,
-        )
+        )?;
+        Ok(send_written(&mut self.writer, &mut self.update, dropped, link))
     }
 
     /// Whether it counts its own work, and its flushes told of an update.
@@ -202,19 +168,17 @@ impl Forwarder {
 
     /// Takes the exporter's own counters out of the forwarder. Where it has none yet they are registered.
     fn take_telemetry<R: Wait>(&mut self, rt: &R, alloc: Global) -> Result<Telemetry, Memory>
-        ensures counted_in { IfOk result (IsCountedIn (transport_of (remote_of self.old)) self.old.telemetry) }
-        ensures taken { self.new ≡ record self.old { telemetry = None } }
+        ensures counted_in { IfOk result (λ counts. IsCountedIn (transport_of (remote_of self.old)) self.old.telemetry counts self.old.knows self.new.knows) }
+        ensures taken { self.new ≡ record self.old { telemetry = None; knows = self.new.knows } }
         ensures none_yet { OnErr result (self.old.telemetry ≡ None) }
-        ensures refused { OnErr result ((before after : Exporter) × RegistersSome (transport_of (remote_of self.old)) before own_counters after) }
+        ensures refused { OnErr result (RegistersSomeSeen (transport_of (remote_of self.old)) self.old.knows own_counters self.new.knows) }
     {
         match self.telemetry.take() {
             Some(telemetry) => Ok(telemetry),
-            None => register_locked(
-                rt,
-                alloc,
-                &self.state,
-                self.configuration.remote_addr.transport_id(),
-            ),
+            None => {
+                let transport = self.configuration.remote_addr.transport_id();
+                Telemetry::seen(rt, alloc, &mut self.own, transport)
+            }
         }
     }
 
@@ -229,8 +193,7 @@ impl Forwarder {
     /// first time they are registered.
     fn count<R: Wait>(&mut self, rt: &R, alloc: Global) -> Result<(), Memory>
         ensures counted { OnOk result (CountsOwn self.old self.new) }
-        ensures uncounted { OnErr result (IsUncounted self.old) }
-        ensures refused { OnErr result (self.new ≡ self.old) }
+        ensures uncounted { OnErr result (IsUncounted self.old self.new) }
     {
         if !self.is_to_count() {
             return Ok(());
@@ -268,5 +231,24 @@ impl Forwarder {
         self.count(rt, alloc)?;
         self.end();
         Ok(report)
+    }
+
+    /// Lends a pass of the state, for a thread that registers. It has seen what the forwarder has seen.
+    pub fn lend_pass(&mut self) -> Result<StatePass, Memory>
+        ensures lent { IfOk result (λ pass. IsPass self.old.state pass × (view_of pass ≡ child self.old.knows)) }
+        ensures child { IfOk result (λ pass. ¬ ((view_of pass).number ≡ 0)) }
+        ensures knows { OnOk result (self.new ≡ record self.old { knows = lender self.old.knows }) }
+        ensures refused { OnErr result (self.new ≡ self.old) }
+    {
+        self.own.lend()
+    }
+
+    /// Takes a pass back: what it registered, and all that it was told of, is in each flush that follows.
+    pub fn take_back(&mut self, pass: StatePass)
+        requires pass { IsPass self.old.state pass }
+        requires lent { ¬ ((view_of pass).number ≡ 0) }
+        ensures { self.new ≡ record self.old { knows = taker self.old.knows (view_of pass) } }
+    {
+        self.own.take_back(pass);
     }
 }

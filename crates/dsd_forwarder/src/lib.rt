@@ -1,5 +1,5 @@
 //! What a service sends its metrics to a DogStatsD agent with: a recorder, which threads register series at and count through,
-//! and a forwarder, which sends what was counted. Both are of one exporter's state, which stands behind a lock.
+//! and a forwarder, which sends what was counted. Both are of one exporter's state, which they share in turns.
 //!
 //! A recorder of the whole program, a counter of it, and a flush that is sent:
 //!
@@ -16,6 +16,7 @@ mod building;
 mod configuration;
 mod forwarder;
 mod held;
+mod held_pass;
 mod own_counters;
 mod recorder;
 mod registering;
@@ -27,7 +28,4 @@ pub use forwarder::Forwarder;
 pub use held::{HeldCounter, HeldGauge, HeldHistogram};
 pub use own_counters::{OWN_COUNTERS, OwnCounter};
 pub use recorder::DogStatsDRecorder;
-pub use registering::{
-    register_and_lend_counter, register_and_lend_gauge, register_and_lend_histogram,
-};
 pub use telemetry::{OwnCount, Telemetry};

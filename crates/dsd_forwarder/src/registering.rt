@@ -1,14 +1,19 @@
-//! What a recorder does to the state behind its lock: a series is registered, and lent.
+//! What a recorder does with a pass of the state that it shares: a series is registered, and lent.
 
-ghost use Rattle.std.specs.Prelude.{◌≡◌, ◌⊎◌, IfOk, OnErr};
-ghost use Rattle.dsd_forwarder.specs.Registering.{RegistersCounter, RegistersGauge, RegistersHistogram, GivesCounter, GivesGauge, GivesHistogram, IsLoneCounter, IsLoneGauge, IsLoneHistogram};
+ghost use Rattle.std.specs.Prelude.{◌≡◌, IfOk, OnErr};
+ghost use Rattle.metrics_core.specs.declared.kinds.MetricKind.TheVariants as kinds;
+ghost use Rattle.shared_turns.specs.Passes.{view_of};
+ghost use Rattle.shared_flushes.specs.Passes.{IsPass};
+ghost use Rattle.dsd_exporter.specs.Lending.{LendsCounter, LendsGauge, LendsHistogram};
+ghost use Rattle.dsd_forwarder.specs.Registering.{HandsOut, MayRegister, IsHandedCounter, IsHandedGauge, IsHandedHistogram, IsLoneCounter, IsLoneGauge, IsLoneHistogram};
 
-use dsd_exporter::{Lent, State};
+use dsd_exporter::Lent;
 use flushed_cells::{CounterPass, DsdCounter, DsdGauge, GaugePass};
-use metrics_core::{Fixed, Key, Memory, SeriesId};
+use metrics_core::{Fixed, Key, Memory, MetricKind, SeriesId};
 use sample_queue::{DsdHistogram, SamplePass, SampleQueue};
+use shared_flushes::{SharedState, StatePass};
 use std::alloc::Global;
-use std::sync::Arc;
+use std::sync::{Arc, Wait};
 
 /// A counter that stands in no state, with its only pass.
 fn lone_counter(alloc: Global, id: SeriesId) -> Result<Lent<Arc<DsdCounter>, CounterPass>, Memory>
@@ -49,50 +54,68 @@ fn lone_histogram(
     })
 }
 
-/// Registers a counter, as `State::register_counter` does, and lends it. Where no series could be made for it, past 2^64 - 1
+/// Registers a counter with a pass, as `SharedState::register` does, and lends it. Where no series could be made for it, past 2^64 - 1
 /// series, what is lent stands in no state. Where lending is refused the series stays registered.
-pub fn register_and_lend_counter(
-    state: &mut State,
+pub(crate) fn register_counter<R: Wait>(
+    rt: &R,
     alloc: Global,
+    state: &SharedState,
+    pass: &mut StatePass,
     key: &Key,
 ) -> Result<Lent<Arc<DsdCounter>, CounterPass>, Memory>
-    ensures given { IfOk result (λ lent. GivesCounter key.now lent state.old state.new) }
-    ensures refused { OnErr result ((state.new ≡ state.old) ⊎ RegistersCounter key.now state.old state.new) }
+    requires { IsPass state.now pass.old }
+    ensures pass { IsPass state.now pass.new }
+    ensures handed { IfOk result IsHandedCounter }
+    ensures given { IfOk result (λ lent. HandsOut kinds.Counter LendsCounter IsLoneCounter key.now lent (view_of pass.old) (view_of pass.new)) }
+    ensures refused { OnErr result (MayRegister kinds.Counter key.now (view_of pass.old) (view_of pass.new)) }
+    ensures number { (view_of pass.new).number ≡ (view_of pass.old).number }
 {
-    let id = state.register_counter(alloc, key)?;
-    match state.lend_counter(alloc, id)? {
+    let id = state.register(rt, alloc, pass, MetricKind::Counter, key)?;
+    match state.lend_counter(rt, alloc, pass, id)? {
         Some(lent) => Ok(lent),
         None => lone_counter(alloc, id),
     }
 }
 
-/// Registers a gauge and lends it, as `register_and_lend_counter` does a counter.
-pub fn register_and_lend_gauge(
-    state: &mut State,
+/// Registers a gauge with a pass and lends it, as `register_counter` does a counter.
+pub(crate) fn register_gauge<R: Wait>(
+    rt: &R,
     alloc: Global,
+    state: &SharedState,
+    pass: &mut StatePass,
     key: &Key,
 ) -> Result<Lent<Arc<DsdGauge>, GaugePass>, Memory>
-    ensures given { IfOk result (λ lent. GivesGauge key.now lent state.old state.new) }
-    ensures refused { OnErr result ((state.new ≡ state.old) ⊎ RegistersGauge key.now state.old state.new) }
+    requires { IsPass state.now pass.old }
+    ensures pass { IsPass state.now pass.new }
+    ensures handed { IfOk result IsHandedGauge }
+    ensures given { IfOk result (λ lent. HandsOut kinds.Gauge LendsGauge IsLoneGauge key.now lent (view_of pass.old) (view_of pass.new)) }
+    ensures refused { OnErr result (MayRegister kinds.Gauge key.now (view_of pass.old) (view_of pass.new)) }
+    ensures number { (view_of pass.new).number ≡ (view_of pass.old).number }
 {
-    let id = state.register_gauge(alloc, key)?;
-    match state.lend_gauge(alloc, id)? {
+    let id = state.register(rt, alloc, pass, MetricKind::Gauge, key)?;
+    match state.lend_gauge(rt, alloc, pass, id)? {
         Some(lent) => Ok(lent),
         None => lone_gauge(alloc, id),
     }
 }
 
-/// Registers a histogram and lends it, as `register_and_lend_counter` does a counter.
-pub fn register_and_lend_histogram(
-    state: &mut State,
+/// Registers a histogram with a pass and lends it, as `register_counter` does a counter.
+pub(crate) fn register_histogram<R: Wait>(
+    rt: &R,
     alloc: Global,
+    state: &SharedState,
+    pass: &mut StatePass,
     key: &Key,
 ) -> Result<Lent<Arc<DsdHistogram>, SamplePass<Fixed>>, Memory>
-    ensures given { IfOk result (λ lent. GivesHistogram key.now lent state.old state.new) }
-    ensures refused { OnErr result ((state.new ≡ state.old) ⊎ RegistersHistogram key.now state.old state.new) }
+    requires { IsPass state.now pass.old }
+    ensures pass { IsPass state.now pass.new }
+    ensures handed { IfOk result IsHandedHistogram }
+    ensures given { IfOk result (λ lent. HandsOut kinds.Histogram LendsHistogram IsLoneHistogram key.now lent (view_of pass.old) (view_of pass.new)) }
+    ensures refused { OnErr result (MayRegister kinds.Histogram key.now (view_of pass.old) (view_of pass.new)) }
+    ensures number { (view_of pass.new).number ≡ (view_of pass.old).number }
 {
-    let id = state.register_histogram(alloc, key)?;
-    match state.lend_histogram(alloc, id)? {
+    let id = state.register(rt, alloc, pass, MetricKind::Histogram, key)?;
+    match state.lend_histogram(rt, alloc, pass, id)? {
         Some(lent) => Ok(lent),
         None => lone_histogram(alloc, id),
     }

@@ -3,13 +3,16 @@
 ghost use Rattle.std.specs.Prelude.{◌≡◌, ◌⊎◌, IfOk, OnErr};
 ghost use Rattle.std.specs.List.{FoldsTo};
 ghost use Rattle.dsd_forwarder.specs.OwnCounters.{own_key, own_counters};
-ghost use Rattle.dsd_forwarder.specs.Registering.{RegistersCounter};
-ghost use Rattle.dsd_forwarder.specs.Telemetry.{Holds, Registers, RegistersSome, AddsTo, EachAdds, counters_of};
+ghost use Rattle.metrics_core.specs.declared.kinds.MetricKind.TheVariants as kinds;
+ghost use Rattle.shared_turns.specs.Passes.{view_of};
+ghost use Rattle.dsd_forwarder.specs.Registering.{MayRegister, RegistersCounter};
+ghost use Rattle.dsd_forwarder.specs.Telemetry.{Holds, Registers, RegistersSome, RegistersSeen, RegistersSomeSeen, AddsTo, EachAdds, counters_of};
 
 use crate::held::HeldCounter;
+use crate::held_pass::HeldPass;
 use crate::own_counters::{OWN_COUNTERS, OwnCounter};
 use dsd_exporter::{State, TelemetryUpdate};
-use metrics_core::{Memory, SeriesId};
+use metrics_core::{Memory, MetricKind, SeriesId};
 use std::alloc::Global;
 use std::marker::Model;
 use std::sync::Wait;
@@ -71,6 +74,37 @@ fn register_own(
     Ok(OwnCount { counter, held })
 }
 
+/// Registers one of the exporter's own counters with a pass of the state that it is in, and lends it.
+fn register_own_seen<R: Wait>(
+    rt: &R,
+    alloc: Global,
+    own: &mut HeldPass,
+    transport: &'static str,
+    counter: OwnCounter,
+) -> Result<OwnCount, Memory>
+    ensures counter { IfOk result (λ count. count.counter ≡ counter) }
+    ensures registered { IfOk result (λ count. RegistersSeen transport.now (view_of own.old.pass) count (view_of own.new.pass)) }
+    ensures refused { OnErr result ((view_of own.new.pass ≡ view_of own.old.pass)
+        ⊎ MayRegister kinds.Counter (own_key transport.now counter) (view_of own.old.pass) (view_of own.new.pass)) }
+    ensures state { own.new.state ≡ own.old.state }
+    ensures number { (view_of own.new.pass).number ≡ (view_of own.old.pass).number }
+{
+    let key = counter.key(alloc, transport)?;
+    let id = own
+        .state
+        .register(rt, alloc, &mut own.pass, MetricKind::Counter, &key)?;
+    match own.state.lend_counter(rt, alloc, &mut own.pass, id)? {
+        Some(lent) => Ok(OwnCount {
+            counter,
+            held: Some(HeldCounter::new(lent)),
+        }),
+        None => Ok(OwnCount {
+            counter,
+            held: None,
+        }),
+    }
+}
+
 /// The exporter's own counters, which stand in its state beside the others. A contract sees them in order of registration.
 #[derive(Drop)]
 pub struct Telemetry {
@@ -101,6 +135,26 @@ impl Telemetry {
         let mut counts = Vec::with_capacity(alloc, OWN_COUNTERS.len())?;
         for counter in OWN_COUNTERS {
             counts.push(register_own(alloc, state, transport, counter)?)?;
+        }
+        Ok(Telemetry { counts })
+    }
+
+    /// Registers the counters as `new` does, in a state that is shared: each is an entry of the pass.
+    pub(crate) fn seen<R: Wait>(
+        rt: &R,
+        alloc: Global,
+        own: &mut HeldPass,
+        transport: &'static str,
+    ) -> Result<Telemetry, Memory>
+        ensures all { IfOk result (λ telemetry. counters_of telemetry ≡ own_counters) }
+        ensures registered { IfOk result (λ telemetry. FoldsTo (RegistersSeen transport.now) (view_of own.old.pass) telemetry (view_of own.new.pass)) }
+        ensures refused { OnErr result (RegistersSomeSeen transport.now (view_of own.old.pass) own_counters (view_of own.new.pass)) }
+        ensures state { own.new.state ≡ own.old.state }
+        ensures number { (view_of own.new.pass).number ≡ (view_of own.old.pass).number }
+    {
+        let mut counts = Vec::with_capacity(alloc, OWN_COUNTERS.len())?;
+        for counter in OWN_COUNTERS {
+            counts.push(register_own_seen(rt, alloc, own, transport, counter)?)?;
         }
         Ok(Telemetry { counts })
     }

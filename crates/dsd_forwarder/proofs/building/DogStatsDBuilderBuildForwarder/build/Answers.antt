@@ -1,4 +1,5 @@
 use Rattle.std.proofs.Common.{ap, subst}
+use Rattle.dsd_exporter.specs.Exporter.{settings_of}
 use Rattle.dsd_forwarder.specs.Building.{IsMadeWith}
 use Rattle.dsd_forwarder.specs.declared.configuration.ForwarderConfiguration.{ForwarderConfiguration}
 use Rattle.dsd_forwarder.proofs.building.DogStatsDBuilderBuildForwarder.build.Goals as goal
@@ -17,5 +18,5 @@ returns-in-Ok-clause-built c =
     record {
       configuration = configuration;
       settings = record { remote = are.remote; limit = are.limit; interval = are.interval; write_timeout = are.write_timeout; labels = are.labels };
-      made = subst (λ t. IsMadeWith configuration t c.in-Ok.both.1) (ap (λ s. s.telemetry) are.configuration) c.in-Ok.ensures;
+      made = subst (λ t. IsMadeWith configuration t c.in-Ok.both.1) (ap settings_of are.configuration) c.in-Ok.ensures.made;
     }

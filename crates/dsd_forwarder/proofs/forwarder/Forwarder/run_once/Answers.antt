@@ -1,5 +1,5 @@
-use Rattle.std.proofs.Common.{sym, subst, inr}
-use Rattle.dsd_forwarder.specs.Forwarding.{IsSentUncounted, begun}
+use Rattle.std.proofs.Common.{inr}
+use Rattle.dsd_forwarder.specs.Forwarding.{begun}
 use Rattle.dsd_forwarder.proofs.Given.{on_err}
 use Rattle.dsd_forwarder.proofs.Runs.{sends_from}
 use Rattle.dsd_forwarder.proofs.forwarder.Forwarder.run_once.Goals as goal
@@ -14,9 +14,7 @@ returns-in_err-count-clause-refused g c =
     let now_faults = g.L.Link.faults c.send.new.link in
     let sends = sends_from c.args.moment c.begin.new.self (begun c.args.self.now) c.send.new.self to_come left told (g.L.Link.sent c.aim.new.self) tells
     faults (g.L.Link.faults c.aim.new.self) now_faults c.in_ok-report.report c.in_ok-report.ensures.sent c.begin.ensures c.aim.ensures.sent c.aim.ensures.never_falls in
-    on_err c.from_residual-in_err-count.result _ (inr (inr
-    (subst (λ e. IsSentUncounted c.args.moment c.args.self.now e to_come left told tells faults now_faults) (sym c.in_err-count.ensures.refused)
-    (record { report = c.in_ok-report.report; sends = sends; uncounted = c.in_err-count.ensures.uncounted }))))
+    on_err c.from_residual-in_err-count.result _ (inr (inr (record { report = c.in_ok-report.report; sent = c.send.new.self; sends = sends; uncounted = c.in_err-count.ensures.uncounted })))
 
 pub returns-clause-run : goal.returns-clause-run
 returns-clause-run g c = record {
