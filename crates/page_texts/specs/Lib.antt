@@ -1,1 +1,2 @@
 pub mod Rendered
+pub mod Written

@@ -9,3 +9,4 @@ mod render;
 mod text_sink;
 
 pub use render::Render;
+pub use text_sink::TextSink;
