@@ -1,0 +1,12 @@
+pub mod Setups
+pub mod Left
+pub mod Paging
+pub mod Owning
+pub mod Fitting
+pub mod Numbering
+pub mod Standing
+pub mod Texts
+pub mod Beside
+pub mod Reaching
+pub mod Heads
+pub mod Crossing
