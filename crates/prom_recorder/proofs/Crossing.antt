@@ -2,24 +2,23 @@
 use denote.Param.Send.{IsSend, IsSync, sendable, view_send, view_sync}
 use denote.Param.SendFields.{declared_send, declared_sync}
 use Rattle.std.proofs.Crossing.{crosses}
-use Rattle.std.proofs.mem.ManuallyDrop.TheSendSync as manually_drop
-use Rattle.once_cell.proofs.race.once_box.OnceBox.TheSendSync as once_box
-use Rattle.prom_exporter.proofs.Crossing.{state-send}
-use Rattle.prom_recorder.specs.contracts.shared.LockedState as Locked
-use Rattle.prom_recorder.specs.contracts.shared.SharedState as Shared
+use Rattle.shared_turns.proofs.pass.TurnPass.TheSendSync as passes
+use Rattle.shared_recorder.proofs.Crossing.{kept-send, recorder-send as inner-send, recorder-sync as inner-sync}
+use Rattle.prom_recorder.specs.contracts.own_pass.OwnPass as Own
+use Rattle.prom_recorder.specs.contracts.shared.Shared as Shared
 use Rattle.prom_recorder.specs.contracts.recorder.PrometheusRecorder as Recorder
 use Rattle.prom_recorder.specs.contracts.recorder.PrometheusRecorder.TheInside as recorder
 use Rattle.prom_recorder.specs.contracts.handle.PrometheusHandle as Handle
 use Rattle.prom_recorder.specs.contracts.handle.PrometheusHandle.TheInside as handle
 
-locked-send : IsSend Locked.the_row
-locked-send = declared_send Locked.the_type (search (sendable, crosses, manually_drop.the_send, state-send) depth 20, tt)
+own-send : IsSend Own.the_row
+own-send = declared_send Own.the_type (search (sendable, crosses, inner-send, inner-sync) depth 20, (search (sendable, crosses, passes.the_send, kept-send) depth 20, tt))
 
 shared-send : IsSend Shared.the_row
-shared-send = declared_send Shared.the_type (search (sendable, crosses, locked-send) depth 20, (search (sendable, crosses, once_box.the_send) depth 20, tt))
+shared-send = declared_send Shared.the_type (search (sendable, crosses, inner-send, inner-sync) depth 20, (search (sendable, crosses, own-send) depth 20, tt))
 
 shared-sync : IsSync Shared.the_row
-shared-sync = declared_sync Shared.the_type (search (sendable, crosses, locked-send) depth 20, (search (sendable, crosses, once_box.the_sync) depth 20, tt))
+shared-sync = declared_sync Shared.the_type (search (sendable, crosses, inner-send, inner-sync) depth 20, (search (sendable, crosses, own-send) depth 20, tt))
 
 pub recorder-send : IsSend Recorder.the_row
 recorder-send = view_send _ _ _ _ _ (declared_send recorder.the_type (search (sendable, crosses, shared-send, shared-sync) depth 20, tt))

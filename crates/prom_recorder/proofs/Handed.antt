@@ -1,8 +1,11 @@
--- What is lent is the handle of a cell, with a pass of this cell that has made no call; and registering a series and then lending it hands it out.
-use Rattle.std.proofs.Common.{◌≡◌, ◌⊎◌, ◌∙◌, Option, Some, None, sym, ap, subst, inl, inr}
+-- What is lent is the handle of a cell, with a pass of this cell that has made no call; and registering a series with a pass and then lending it hands it out.
+use Rattle.std.proofs.Common.{◌≡◌, ◌⊎◌, ◌∙◌, ℕ, List, [], ◌∷◌, ◌++◌, Option, Some, None, refl, sym, ap, subst, inl, inr}
 use Rattle.std.specs.Prelude.{Result, Ok, Err, OnErr}
-use Rattle.legal_history.specs.History.{first}
+use Rattle.legal_history.specs.declared.history.Entry.{Entry}
+use Rattle.legal_history.specs.declared.history.View.{View}
+use Rattle.legal_history.specs.History.{entry, first, said}
 use Rattle.metrics_core.specs.declared.kinds.SeriesId.{SeriesId}
+use Rattle.metrics_core.specs.declared.kinds.MetricKind.{MetricKind}
 use Rattle.metrics_core.specs.declared.kinds.MetricKind.TheVariants as kinds
 use Rattle.metrics_facade.specs.Handles.{Fits}
 use Rattle.series_cells.specs.declared.counter.PromCounter.{PromCounter}
@@ -12,10 +15,17 @@ use Rattle.series_cells.specs.Pass.{IsCounterPass, IsGaugePass}
 use Rattle.sample_queue.specs.Passes.{IsSamplePass}
 use Rattle.histogram_series.specs.Entries.{TimedQueue}
 use Rattle.metrics_core.specs.Keys.{KeyText}
-use Rattle.prom_exporter.specs.State.{number_given}
-use Rattle.prom_exporter.specs.Exporter.{Exporter, state_of}
+use Rattle.prom_exporter.specs.declared.lent.Lent.{Lent}
+use Rattle.prom_exporter.specs.State.{no_series}
+use Rattle.prom_exporter.specs.Exporter.{Exporter}
 use Rattle.prom_exporter.specs.Lending.{TimedPass, LendsCounter, LendsGauge, LendsHistogram}
-use Rattle.prom_recorder.specs.Handing.{CounterLent, GaugeLent, HistogramLent, IsHandedCounter, IsHandedGauge, IsHandedHistogram, IsNewCounter, IsNewGauge, IsNewHistogram, RegistersCounter, RegistersGauge, RegistersHistogram, HandsCounter, HandsGauge, HandsHistogram, LendsCounterOrNew, LendsGaugeOrNew, LendsHistogramOrNew}
+use Rattle.shared_turns.specs.Passes.{Waits}
+use Rattle.shared_recorder.specs.declared.entries.RecorderEntry.{RecorderEntry}
+use Rattle.shared_recorder.specs.declared.entries.RecorderEntry.TheVariants.{Built, Register}
+use Rattle.shared_recorder.specs.Setup.{Called}
+use Rattle.shared_recorder.specs.Stands.{Makes, KnowsBuilt}
+use Rattle.shared_recorder.specs.Lending.{Lends, IsOwn}
+use Rattle.prom_recorder.specs.Handing.{CounterLent, GaugeLent, HistogramLent, IsHandedCounter, IsHandedGauge, IsHandedHistogram, IsNewCounter, IsNewGauge, IsNewHistogram, HandsSeries, HandsSpare}
 
 counter_fits : (handle : Option PromCounter) (cell : PromCounter) (pass : CellPass) → handle ≡ Some cell → IsCounterPass cell pass → Fits IsCounterPass handle pass
 counter_fits handle cell pass is fits = subst (λ h. Fits IsCounterPass h pass) (sym is) fits
@@ -97,38 +107,46 @@ pub on_any_err : {T E P : Type 0} (r : Result T E) → P → OnErr r P
 on_any_err (Ok _) p = tt
 on_any_err (Err _) p = p
 
-pub hands_lent_counter : (key : KeyText) (old between new : Exporter) (id : SeriesId) (found : Option CounterLent) (lent : CounterLent) → RegistersCounter key old between → id ≡ record { kind = kinds.Counter; number = number_given kinds.Counter key (state_of old) } → LendsCounter id found between new → found ≡ Some lent → HandsCounter key lent old new
-hands_lent_counter key old between new id found lent registers is lends some =
-    (between, registers, inl (subst (λ o. LendsCounter (record { kind = kinds.Counter; number = number_given kinds.Counter key (state_of old) }) o between new) some (subst (λ i. LendsCounter i found between new) is lends)))
+-- ---- the history
 
-pub hands_new_counter : (key : KeyText) (old between new : Exporter) (id : SeriesId) (found : Option CounterLent) → RegistersCounter key old between → id ≡ record { kind = kinds.Counter; number = number_given kinds.Counter key (state_of old) } → LendsCounter id found between new → found ≡ None → (lent : CounterLent) → IsNewCounter id lent → HandsCounter key lent old new
-hands_new_counter key old between new id found registers is lends none lent it =
-    let left = subst (λ o. LendsCounter id o between new) none lends in
-    subst (λ i. (x : Exporter) × RegistersCounter key old x × LendsCounterOrNew i lent x new) is (between, registers, inr (left.0, left.1, it))
+module _ {H P : Type 0} (kind : MetricKind) (lends : SeriesId → Option (Lent H P) → Exporter → Exporter → Type 0) (key : KeyText) (v between w : View RecorderEntry) (id : SeriesId) where
+  pub hands_series : (found : Option (Lent H P)) (lent : Lent H P) → lent.id ≡ id → Makes (Register kind key id.number) v between → Lends (lends id found) between w → found ≡ Some lent → HandsSeries kind lends key lent v w
+  hands_series found lent is makes lent_to some = (
+    between,
+    subst (λ (i : SeriesId). Makes (Register kind key i.number) v between) (sym is) makes,
+    subst (λ (i : SeriesId). Lends (lends i (Some lent)) between w) (sym is) (subst (λ o. Lends (lends id o) between w) some lent_to),
+  )
 
-pub stands_counter : (key : KeyText) (old between new : Exporter) → RegistersCounter key old between → new ≡ between → (new ≡ old) ⊎ RegistersCounter key old new
-stands_counter key old between new registers same = inr (subst (λ x. RegistersCounter key old x) (sym same) registers)
+  pub hands_spare : (is_new : SeriesId → Lent H P → Type 0) (found : Option (Lent H P)) (lent : Lent H P) → lent.id ≡ id → Makes (Register kind key id.number) v between → Lends (lends id found) between w → found ≡ None → is_new id lent
+      → HandsSpare kind lends is_new key lent v w
+  hands_spare is_new found lent is makes none_lent none new = (
+    between,
+    subst (λ (i : SeriesId). Makes (Register kind key i.number) v between) (sym is) makes,
+    subst (λ (i : SeriesId). Lends (lends i None) between w) (sym is) (subst (λ o. Lends (lends id o) between w) none none_lent),
+    subst (λ (i : SeriesId). is_new i lent) (sym is) new,
+  )
 
-pub hands_lent_gauge : (key : KeyText) (old between new : Exporter) (id : SeriesId) (found : Option GaugeLent) (lent : GaugeLent) → RegistersGauge key old between → id ≡ record { kind = kinds.Gauge; number = number_given kinds.Gauge key (state_of old) } → LendsGauge id found between new → found ≡ Some lent → HandsGauge key lent old new
-hands_lent_gauge key old between new id found lent registers is lends some =
-    (between, registers, inl (subst (λ o. LendsGauge (record { kind = kinds.Gauge; number = number_given kinds.Gauge key (state_of old) }) o between new) some (subst (λ i. LendsGauge i found between new) is lends)))
+-- a lending tells what the pass has then seen, whatever was lent
+pub lends_waits : (lends : Exporter → Exporter → Type 0) (v w : View RecorderEntry) → Lends lends v w → Waits v w
+lends_waits lends v w l = (l.0, l.3, l.7)
 
-pub hands_new_gauge : (key : KeyText) (old between new : Exporter) (id : SeriesId) (found : Option GaugeLent) → RegistersGauge key old between → id ≡ record { kind = kinds.Gauge; number = number_given kinds.Gauge key (state_of old) } → LendsGauge id found between new → found ≡ None → (lent : GaugeLent) → IsNewGauge id lent → HandsGauge key lent old new
-hands_new_gauge key old between new id found registers is lends none lent it =
-    let left = subst (λ o. LendsGauge id o between new) none lends in
-    subst (λ i. (x : Exporter) × RegistersGauge key old x × LendsGaugeOrNew i lent x new) is (between, registers, inr (left.0, left.1, it))
+pub called_last : (c : RecorderEntry) (cs : List RecorderEntry) → Called c (cs ++ c ∷ [])
+called_last c [] = inl refl
+called_last c (d ∷ ds) = inr (called_last c ds)
 
-pub stands_gauge : (key : KeyText) (old between new : Exporter) → RegistersGauge key old between → new ≡ between → (new ≡ old) ⊎ RegistersGauge key old new
-stands_gauge key old between new registers same = inr (subst (λ x. RegistersGauge key old x) (sym same) registers)
-
-pub hands_lent_histogram : (key : KeyText) (old between new : Exporter) (id : SeriesId) (found : Option HistogramLent) (lent : HistogramLent) → RegistersHistogram key old between → id ≡ record { kind = kinds.Histogram; number = number_given kinds.Histogram key (state_of old) } → LendsHistogram id found between new → found ≡ Some lent → HandsHistogram key lent old new
-hands_lent_histogram key old between new id found lent registers is lends some =
-    (between, registers, inl (subst (λ o. LendsHistogram (record { kind = kinds.Histogram; number = number_given kinds.Histogram key (state_of old) }) o between new) some (subst (λ i. LendsHistogram i found between new) is lends)))
-
-pub hands_new_histogram : (key : KeyText) (old between new : Exporter) (id : SeriesId) (found : Option HistogramLent) → RegistersHistogram key old between → id ≡ record { kind = kinds.Histogram; number = number_given kinds.Histogram key (state_of old) } → LendsHistogram id found between new → found ≡ None → (lent : HistogramLent) → IsNewHistogram id lent → HandsHistogram key lent old new
-hands_new_histogram key old between new id found registers is lends none lent it =
-    let left = subst (λ o. LendsHistogram id o between new) none lends in
-    subst (λ i. (x : Exporter) × RegistersHistogram key old x × LendsHistogramOrNew i lent x new) is (between, registers, inr (left.0, left.1, it))
-
-pub stands_histogram : (key : KeyText) (old between new : Exporter) → RegistersHistogram key old between → new ≡ between → (new ≡ old) ⊎ RegistersHistogram key old new
-stands_histogram key old between new registers same = inr (subst (λ x. RegistersHistogram key old x) (sym same) registers)
+-- a registration that was just made is the pass's own
+pub is_own : (kind : MetricKind) (key : KeyText) (id : SeriesId) (v between : View RecorderEntry) (built : Exporter) → id.kind ≡ kind → Makes (Register kind key id.number) v between → KnowsBuilt built v
+    → built.settings.idle ≡ None → ¬ (id.number ≡ no_series) → IsOwn kind id between
+is_own kind key id v between built kind_is m knows never few =
+    let entry_is = Register kind key id.number in
+    let begins = m.4.begins in
+    let behind = said v.number (entry_is ∷ []) in
+    let whole : m.0 ≡ entry 0 (Built built) ∷ (knows.0 ++ begins.0) = sym begins.1 ∙ ap (λ (l : List (Entry RecorderEntry)). l ++ begins.0) knows.1 in (
+      built,
+      ((knows.0 ++ begins.0) ++ behind, ap (λ (u : View RecorderEntry). u.seen) m.7 ∙ ap (λ (l : List (Entry RecorderEntry)). l ++ behind) whole),
+      never,
+      kind_is,
+      key,
+      subst (λ (u : View RecorderEntry). Called entry_is u.mine) (sym m.7) (called_last entry_is v.mine),
+      few,
+    )

@@ -1,2 +1,3 @@
 mod Handed
+mod Agreeing
 pub mod Crossing

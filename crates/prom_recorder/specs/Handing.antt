@@ -1,8 +1,9 @@
--- What a recorder does to its state when it hands out a series, and what it hands out.
-use Rattle.std.specs.Prelude.{◌≡◌, ◌⊎◌, Option, Some}
+-- What a recorder hands out of a series, and what its history has of it.
+use Rattle.std.specs.Prelude.{◌≡◌, ◌⊎◌, ℕ, Option, Some, None}
 use Rattle.legal_history.specs.declared.history.View.{View}
 use Rattle.legal_history.specs.History.{child, first}
 use Rattle.metrics_core.specs.Keys.{KeyText}
+use Rattle.metrics_core.specs.declared.kinds.MetricKind.{MetricKind}
 use Rattle.metrics_core.specs.declared.kinds.MetricKind.TheVariants as kinds
 use Rattle.metrics_core.specs.declared.kinds.SeriesId.{SeriesId}
 use Rattle.metrics_core.specs.declared.calls.SeriesCall.{SeriesCall}
@@ -15,9 +16,14 @@ use Rattle.sample_queue.specs.Passes.{IsSamplePass}
 use Rattle.sample_queue.specs.Passes as samples
 use Rattle.histogram_series.specs.Entries.{TimedQueue, TimedCall}
 use Rattle.prom_exporter.specs.declared.lent.Lent.{Lent}
-use Rattle.prom_exporter.specs.State.{register, number_given}
-use Rattle.prom_exporter.specs.Exporter.{Exporter, state_of, AddsCounter, AddsGauge, AddsHistogram}
-use Rattle.prom_exporter.specs.Lending.{TimedPass, LendsCounter, LendsGauge, LendsHistogram, HasNoCounter, HasNoGauge, HasNoHistogram}
+use Rattle.prom_exporter.specs.State.{no_series}
+use Rattle.prom_exporter.specs.Exporter.{Exporter}
+use Rattle.prom_exporter.specs.Lending.{TimedPass}
+use Rattle.shared_turns.specs.Passes.{Waits}
+use Rattle.shared_recorder.specs.declared.entries.RecorderEntry.{RecorderEntry}
+use Rattle.shared_recorder.specs.declared.entries.RecorderEntry.TheVariants.{Register}
+use Rattle.shared_recorder.specs.Stands.{Makes, KnowsBuilt}
+use Rattle.shared_recorder.specs.Lending.{Lends}
 
 -- what is lent of each kind
 abbrev pub CounterLent : Type 0
@@ -78,40 +84,24 @@ pub record IsNewHistogram (id : SeriesId) (lent : HistogramLent) : Type 0 where
   pub pass : IsSamplePass queue lent.pass
   pub knows : samples.view_of lent.pass ≡ child first
 
--- ---- what becomes of the state
+-- ---- what becomes of the history
 
--- the series of a key is registered: where one with an equal key is live nothing changes, and otherwise a new one goes last
-abbrev pub RegistersCounter : KeyText → Exporter → Exporter → Type 0
-RegistersCounter key old new = (state_of new ≡ register kinds.Counter key (state_of old)) × ((new ≡ old) ⊎ AddsCounter key old new)
+module _ {H P : Type 0} (kind : MetricKind) (lends : SeriesId → Option (Lent H P) → Exporter → Exporter → Type 0) where
+  -- the series of the key was registered behind all that the pass had seen, and then it was lent, under the id that the registration gave
+  abbrev pub HandsSeries : KeyText → Lent H P → View RecorderEntry → View RecorderEntry → Type 0
+  HandsSeries key lent v w = (between : View RecorderEntry) × Makes (Register kind key lent.id.number) v between × Lends (lends lent.id (Some lent)) between w
 
-abbrev pub RegistersGauge : KeyText → Exporter → Exporter → Type 0
-RegistersGauge key old new = (state_of new ≡ register kinds.Gauge key (state_of old)) × ((new ≡ old) ⊎ AddsGauge key old new)
+  -- the same where no series with that id was live when it was to be lent: a new cell is, which no page shows
+  abbrev pub HandsSpare : (SeriesId → Lent H P → Type 0) → KeyText → Lent H P → View RecorderEntry → View RecorderEntry → Type 0
+  HandsSpare is_new key lent v w = (between : View RecorderEntry) × Makes (Register kind key lent.id.number) v between × Lends (lends lent.id None) between w × is_new lent.id lent
 
-abbrev pub RegistersHistogram : KeyText → Exporter → Exporter → Type 0
-RegistersHistogram key old new = (state_of new ≡ register kinds.Histogram key (state_of old)) × ((new ≡ old) ⊎ AddsHistogram key old new)
+  abbrev pub HandsOut : (SeriesId → Lent H P → Type 0) → KeyText → Lent H P → View RecorderEntry → View RecorderEntry → Type 0
+  HandsOut is_new key lent v w = HandsSeries key lent v w ⊎ HandsSpare is_new key lent v w
 
--- the series of an id is lent; where none is live a new cell is, which stands in no state, and the state stays as it is
-abbrev pub LendsCounterOrNew : SeriesId → CounterLent → Exporter → Exporter → Type 0
-LendsCounterOrNew id lent old new = LendsCounter id (Some lent) old new ⊎ (HasNoCounter id old × (new ≡ old) × IsNewCounter id lent)
+  -- where no idle timeout is set, it is the series of the key itself, if there weren't too many
+  abbrev pub IsItsOwn : KeyText → Lent H P → View RecorderEntry → View RecorderEntry → Type 0
+  IsItsOwn key lent v w = (built : Exporter) → KnowsBuilt built v → built.settings.idle ≡ None → ¬ (lent.id.number ≡ no_series) → HandsSeries key lent v w
 
-abbrev pub LendsGaugeOrNew : SeriesId → GaugeLent → Exporter → Exporter → Type 0
-LendsGaugeOrNew id lent old new = LendsGauge id (Some lent) old new ⊎ (HasNoGauge id old × (new ≡ old) × IsNewGauge id lent)
-
-abbrev pub LendsHistogramOrNew : SeriesId → HistogramLent → Exporter → Exporter → Type 0
-LendsHistogramOrNew id lent old new = LendsHistogram id (Some lent) old new ⊎ (HasNoHistogram id old × (new ≡ old) × IsNewHistogram id lent)
-
--- the series of a key is registered, and then lent under the id that the registration gives
-abbrev pub HandsCounter : KeyText → CounterLent → Exporter → Exporter → Type 0
-HandsCounter key lent old new =
-    (between : Exporter) × RegistersCounter key old between
-    × LendsCounterOrNew (record { kind = kinds.Counter; number = number_given kinds.Counter key (state_of old) }) lent between new
-
-abbrev pub HandsGauge : KeyText → GaugeLent → Exporter → Exporter → Type 0
-HandsGauge key lent old new =
-    (between : Exporter) × RegistersGauge key old between
-    × LendsGaugeOrNew (record { kind = kinds.Gauge; number = number_given kinds.Gauge key (state_of old) }) lent between new
-
-abbrev pub HandsHistogram : KeyText → HistogramLent → Exporter → Exporter → Type 0
-HandsHistogram key lent old new =
-    (between : Exporter) × RegistersHistogram key old between
-    × LendsHistogramOrNew (record { kind = kinds.Histogram; number = number_given kinds.Histogram key (state_of old) }) lent between new
+-- nothing was registered; or a series of the key was, and was not lent
+abbrev pub RegistersInPart : MetricKind → KeyText → View RecorderEntry → View RecorderEntry → Type 0
+RegistersInPart kind key v w = Waits v w ⊎ ((number : ℕ) × (between : View RecorderEntry) × Makes (Register kind key number) v between × Waits between w)

@@ -1,2 +1,4 @@
 pub mod Handing
+pub mod Agreeing
 pub mod Installing
+pub mod Showing

@@ -5,7 +5,7 @@ ghost use Rattle.metrics_core.specs.Outside.{Rose, GrewBy, GrewByPrefix};
 ghost use Rattle.metrics_registry.specs.Live.{IsNumbered};
 ghost use Rattle.prom_exporter.specs.State.{register, number_given, describe};
 ghost use Rattle.prom_exporter.specs.Lending.{LendsCounter, LendsGauge, LendsHistogram};
-ghost use Rattle.prom_exporter.specs.Stepped.{DrainsEach, DrainsInPart};
+ghost use Rattle.prom_exporter.specs.Stepped.{DrainsEach, DrainsInPart, KeepsUp};
 ghost use Rattle.prom_exporter.specs.Exporter.{state_of, AreTimely, shown_body};
 ghost use Rattle.shared_recorder.specs.Pages.{MakesPage, MakesPart};
 
@@ -119,6 +119,14 @@ impl KeptState {
         let _count = self.state.counter_count();
         self.state.run_upkeep(rt, alloc)?;
         Ok(self.state.render_to_write(rt, alloc, moment, sink))
+    }
+
+    /// Drains all histograms and publishes what is said. Where memory is refused nothing is published.
+    pub(crate) fn keep_up<R: Wait>(&mut self, rt: &R, alloc: Global) -> Result<(), Memory>
+        ensures kept { OnOk result (KeepsUp self.old self.new) }
+        ensures refused { OnErr result (DrainsEach DrainsInPart self.old self.new) }
+    {
+        self.state.run_upkeep(rt, alloc)
     }
 
     /// Lends a counter.

@@ -11,6 +11,7 @@ ghost use Rattle.shared_turns.specs.Passes.{view_of, Waits};
 ghost use Rattle.shared_turns.specs.Turns.{Inside, Counted, Left, opening};
 ghost use Rattle.prom_exporter.specs.Exporter.{Exporter, AreTimely, shown_body};
 ghost use Rattle.prom_exporter.specs.Lending.{LendsCounter, LendsGauge, LendsHistogram};
+ghost use Rattle.prom_exporter.specs.Stepped.{KeepsUp};
 ghost use Rattle.shared_recorder.specs.declared.entries.RecorderEntry.TheVariants.{Built, Register, Describe, Page};
 ghost use Rattle.shared_recorder.specs.Setup.{gone_of};
 ghost use Rattle.shared_recorder.specs.Stands.{StandsFor, Makes, LooksAt};
@@ -439,6 +440,32 @@ impl SharedRecorder {
             Ok(()) => Ok(sink.into_text()),
             // This sink fails only where memory is refused, since each piece of a page is a text.
             Err(_) => Err(Memory),
+        }
+    }
+
+    /// Drains the histograms and publishes what is said of metrics, as a page does before it is shown. The entry is that of a page which
+    /// removed nothing. Where memory is refused there is no entry.
+    pub fn run_upkeep<R: Wait>(
+        &self,
+        rt: &R,
+        alloc: Global,
+        pass: &mut SharedPass,
+    ) -> Result<(), Memory>
+        requires { IsPass self.now pass.old }
+        ensures pass { Stays self.now pass.old pass.new }
+        ensures kept { OnOk result ((y : Exporter) × Paged KeepsUp y (view_of pass.old) (view_of pass.new)) }
+        ensures refused { OnErr result (Waits (view_of pass.old) (view_of pass.new)) }
+    {
+        let mut state = self.turns.enter(rt, &mut pass.seat);
+        let before = Snapshot::of(&*state);
+        match state.keep_up(rt, alloc) {
+            Ok(()) => {
+                self.count_page::<Brand>(&mut pass.seat, before, &state);
+                pass.entries = pass.entries.wrapping_add(1);
+                self.turns.leave(&mut pass.seat, state);
+                Ok(())
+            }
+            Err(Memory) => Err(self.refuse(&mut pass.seat, state)),
         }
     }
 
