@@ -1,5 +1,5 @@
 -- What is handed out of a series that was registered, and what is held of it.
-use Rattle.std.proofs.Common.{◌≡◌, ◌⊎◌, ℕ, List, [], ◌∷◌, ap, sym, subst, inl, inr, ◌∙◌}
+use Rattle.std.proofs.Common.{◌≡◌, ◌⊎◌, ap, sym, subst, inl, inr, ◌∙◌}
 use Rattle.std.specs.Prelude.{Option, Some, None, Result, Ok, Err, OnErr}
 use Rattle.std.specs.Arc.{arc_value}
 use mathlib.Core.Logic.{dite}
@@ -10,7 +10,6 @@ use Rattle.metrics_core.specs.declared.kinds.SeriesId.{SeriesId}
 use Rattle.metrics_core.specs.Keys.{KeyText}
 use Rattle.legal_history.specs.declared.history.View.{View}
 use Rattle.flushed_cells.specs.Passes as flushed
-use Rattle.sample_queue.specs.Passes as queued
 use Rattle.sample_queue.specs.Passes.{IsSamplePass}
 use Rattle.dsd_exporter.specs.declared.lent.Lent.{Lent}
 use Rattle.dsd_exporter.specs.State.{no_series}
@@ -23,7 +22,7 @@ use Rattle.shared_flushes.specs.Registrations.{Called}
 use Rattle.shared_flushes.specs.Stands.{During, IsOwn, Makes}
 use Rattle.shared_flushes.proofs.Named.{called_last}
 use Rattle.dsd_forwarder.specs.Held.{CounterLease}
-use Rattle.dsd_forwarder.specs.Registering.{HandsOut, MayRegister, IsHandedCounter, IsHandedGauge, IsHandedHistogram, IsLoneCounter, IsLoneGauge, IsLoneHistogram, RegistersCounter}
+use Rattle.dsd_forwarder.specs.Registering.{HandsOut, IsHandedCounter, IsHandedGauge, IsHandedHistogram, IsLoneCounter, IsLoneGauge, IsLoneHistogram, RegistersCounter}
 use Rattle.dsd_forwarder.specs.Telemetry.{Holds}
 
 pub on_err : {A E : Type 0} (r : Result A E) (X : Type 0) → X → OnErr r X

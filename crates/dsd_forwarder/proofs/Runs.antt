@@ -1,6 +1,5 @@
 -- What was sent by a link that was aimed before.
-use Rattle.std.proofs.Common.{◌≡◌, ℕ, ◌≤◌, List, Option, Some, subst, arith}
-use Rattle.dsd_exporter.specs.Exporter.{Exporter}
+use Rattle.std.proofs.Common.{◌≡◌, ℕ, ◌≤◌, List, Option, subst, arith}
 use Rattle.dsd_exporter.specs.Links.{SentText}
 use Rattle.dsd_exporter.specs.declared.sending.FlushReport.{FlushReport}
 use Rattle.dsd_forwarder.specs.Forwarding.{ForwarderText, SendsState}

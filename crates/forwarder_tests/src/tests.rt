@@ -1,4 +1,8 @@
-//! With ample memory, a forwarder's first run sends what was counted, and its second one what the first one did.
+//! With ample memory, a forwarder's first run sends what was counted, and its second one what the first one did; and what a pass
+//! registered that was taken back is sent.
+
+ghost use Rattle.std.specs.Prelude.{◌≡◌, IfOk};
+ghost use Rattle.std.specs.Arc.{arc_value};
 
 use dsd_exporter::{AggregationMode, BuildError, DogStatsDBuilder, MemoryLink};
 use dsd_forwarder::*;
@@ -66,6 +70,8 @@ enum Look {
     Samples,
     /// A counter and a gauge, as the settings say.
     Settings,
+    /// What was registered with a pass.
+    ByPass,
 }
 
 /// The first run sends the counter alone, and the second one the exporter's own counters behind it.
@@ -115,7 +121,9 @@ fn look_at<R: Wait>(
     forwarder: &mut Forwarder,
     link: &mut MemoryLink,
     look: Look,
-) -> Result<bool, Fail> {
+) -> Result<bool, Fail>
+    requires { arc_value recorder.now.state ≡ forwarder.old.state }
+{
     match look {
         Look::OwnCounters => {
             count(rt, alloc, recorder)?;
@@ -129,6 +137,7 @@ fn look_at<R: Wait>(
             count_and_set(rt, alloc, recorder)?;
             Ok(sends_with_settings(rt, alloc, forwarder, link)?)
         }
+        Look::ByPass => Ok(sends_what_a_pass_registered(rt, alloc, recorder, forwarder, link)?),
     }
 }
 
@@ -146,7 +155,9 @@ fn with_settings(alloc: Global, builder: DogStatsDBuilder) -> Result<DogStatsDBu
 }
 
 /// A recorder and a forwarder: with settings of lines, or with sampling and room for two values.
-fn built(alloc: Global, look: Look) -> Result<(DogStatsDRecorder, Forwarder), BuildError> {
+fn built(alloc: Global, look: Look) -> Result<(DogStatsDRecorder, Forwarder), BuildError>
+    ensures { IfOk result (λ made. arc_value made.0.state ≡ made.1.state) }
+{
     let Ok(builder) = DogStatsDBuilder::new(alloc) else {
         return Err(BuildError::Memory);
     };
@@ -194,6 +205,26 @@ fn is_there(alloc: Global, cell: &RecorderOnceCell<DogStatsDRecorder>) -> Result
     }
 }
 
+/// A registration with a pass that was taken back is in the next flush.
+fn sends_what_a_pass_registered<R: Wait>(
+    rt: &R,
+    alloc: Global,
+    recorder: &DogStatsDRecorder,
+    forwarder: &mut Forwarder,
+    link: &mut MemoryLink,
+) -> Result<bool, Memory>
+    requires { arc_value recorder.now.state ≡ forwarder.old.state }
+{
+    let mut pass = forwarder.lend_pass()?;
+    let key = Key::from_static_name("seen");
+    let lent = recorder.register_counter_seen(rt, alloc, &mut pass, &key)?;
+    HeldCounter::new(lent).increment(rt, 1);
+    let entries = pass.calls();
+    forwarder.take_back(pass);
+    forwarder.run_once(rt, alloc, 0, &mut Lcg::new(0), link)?;
+    Ok(entries == 1 && has_line(link, 0, 0, "seen:1|c"))
+}
+
 #[test]
 fn a_run_sends_what_the_last_one_did(rt: HostRuntime) -> Result<(), Fail> {
     assert!(rt; holds(&rt, rt.alloc(), Look::OwnCounters)?);
@@ -209,6 +240,12 @@ fn a_sample_is_sent_with_its_rate(rt: HostRuntime) -> Result<(), Fail> {
 #[test]
 fn lines_are_as_the_settings_say(rt: HostRuntime) -> Result<(), Fail> {
     assert!(rt; holds(&rt, rt.alloc(), Look::Settings)?);
+    Ok(())
+}
+
+#[test]
+fn what_a_pass_registered_is_sent(rt: HostRuntime) -> Result<(), Fail> {
+    assert!(rt; holds(&rt, rt.alloc(), Look::ByPass)?);
     Ok(())
 }
 
