@@ -4,4 +4,6 @@
 #[cfg(test)]
 mod idle_series;
 #[cfg(test)]
+mod passes;
+#[cfg(test)]
 mod prometheus;
