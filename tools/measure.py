@@ -128,14 +128,13 @@ def written(lines):
 
 def run(words, script):
     """Runs words over a script, and returns the seconds, the bytes of memory at the peak, and what came on standard error."""
-    begun = time.perf_counter()
-    with open(script.name, "rb") as source:
-        child = subprocess.Popen(words, stdin=source, stdout=subprocess.DEVNULL, stderr=subprocess.PIPE)
-        said = child.stderr.read().decode()
-        _, status, used = os.wait4(child.pid, 0)
-    if status:
-        sys.exit("%s: status %d: %s" % (words, status, said))
-    return time.perf_counter() - begun, used.ru_maxrss * 1024, said
+    with open(script.name, "rb") as source, tempfile.NamedTemporaryFile("r") as note:
+        begun = time.perf_counter()
+        ended = subprocess.run(["/usr/bin/time", "-f", "%M", "-o", note.name, *words], stdin=source, stdout=subprocess.DEVNULL, stderr=subprocess.PIPE, text=True)
+        seconds, size = time.perf_counter() - begun, int(note.read().split()[-1]) * 1024
+    if ended.returncode:
+        sys.exit("%s: status %d: %s" % (words, ended.returncode, ended.stderr))
+    return seconds, size, ended.stderr
 
 
 def least(words, script):
