@@ -1,0 +1,11 @@
+pub mod Cuts
+pub mod Digits
+pub mod Plain
+pub mod Loops
+pub mod Joined
+pub mod Decimals
+pub mod TagForms
+pub mod Exact
+pub mod Spellings
+pub mod Streams
+pub mod PayloadLines
