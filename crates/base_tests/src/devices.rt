@@ -1,7 +1,7 @@
 //! Sources and sinks, in memory and over std.
 
 use metrics_core::{
-    ByteSource, Discard, Failed, MemorySink, MemorySource, Reading, Sink, Source, Writing,
+    ByteSource, Discard, Failed, Memory, MemorySink, MemorySource, Reading, Sink, Source, Writing,
     write_whole,
 };
 use std::alloc::Global;
@@ -9,51 +9,48 @@ use std::test::Fail;
 
 #[test]
 fn a_reader_and_a_writer(rt: HostRuntime) {
-    let mut source = Reading::new(b"abc".as_slice());
     let mut buf = [0u8; 2];
-    assert_eq!(rt; source.read(&mut buf), Ok(2));
-    assert_eq!(rt; buf.as_slice(), b"ab".as_slice());
+    let mut source = Reading::new(b"abc".as_slice());
+    let read = source.read(&mut buf);
     let mut sink = Writing::new(Vec::new(rt.alloc()));
-    assert_eq!(rt; sink.write(&buf), Ok(2));
-    assert_eq!(rt; (source.faults(), sink.faults()), (0, 0));
+    let written = sink.write(&buf);
+    let unfailing = source.faults() == 0 && sink.faults() == 0;
+    assert!(rt; unfailing && [read, written] == [Ok(2), Ok(2)] && buf == *b"ab");
 }
 
-/// A source of three bytes that gives at most two a read, and whose second read fails.
-fn failing_source(alloc: Global) -> Result<MemorySource, Fail> {
-    let bytes = Vec::from_slice(alloc, b"abc")?;
-    Ok(MemorySource::new(bytes, 2, Vec::from_slice(alloc, &[1])?))
-}
-
-/// What four reads of a source answer.
-fn four_reads(source: &mut MemorySource, buf: &mut [u8]) -> [Result<usize, Failed>; 4] {
-    [
-        source.read(buf),
-        source.read(buf),
-        source.read(buf),
-        source.read(buf),
-    ]
-}
-
-#[test]
-fn a_source_gives_little_and_fails_once(rt: HostRuntime) -> Result<(), Fail> {
-    let mut source = failing_source(rt.alloc())?;
+/// Whether a source of `abc` that gives at most two bytes a read fails at the second one alone.
+fn fails_at_the_second(source: &mut MemorySource) -> bool {
     let mut buf = [0u8; 4];
-    let answers = four_reads(&mut source, &mut buf);
-    assert_eq!(rt; answers, [Ok(2), Err(Failed), Ok(1), Ok(0)]);
-    assert_eq!(rt; buf.as_slice(), b"cb\0\0".as_slice());
-    assert_eq!(rt; source.faults(), 1);
-    Ok(())
+    let answers = [
+        source.read(&mut buf),
+        source.read(&mut buf),
+        source.read(&mut buf),
+        source.read(&mut buf),
+    ];
+    answers == [Ok(2), Err(Failed), Ok(1), Ok(0)] && buf == *b"cb\0\0" && source.faults() == 1
+}
+
+/// Whether a sink of at most two bytes a write that fails at the fourth one takes the bytes around it.
+fn fails_at_the_fourth(sink: &mut MemorySink) -> bool {
+    let answers = [write_whole(sink, b"abc"), write_whole(sink, b"def")];
+    let written = sink.written() == b"abcde".as_slice();
+    written && answers == [Ok(()), Err(Failed)] && sink.faults() == 1
+}
+
+/// Whether a source and a sink that give and take little fail once.
+fn fail_once(alloc: Global) -> Result<[bool; 2], Memory> {
+    let bytes = Vec::from_slice(alloc, b"abc")?;
+    let mut source = MemorySource::new(bytes, 2, Vec::from_slice(alloc, &[1])?);
+    let mut sink = MemorySink::new(alloc, 2, Vec::from_slice(alloc, &[3])?);
+    Ok([
+        fails_at_the_second(&mut source),
+        fails_at_the_fourth(&mut sink),
+    ])
 }
 
 #[test]
-fn a_sink_takes_little_and_fails_once(rt: HostRuntime) -> Result<(), Fail> {
-    let alloc = rt.alloc();
-    let failing = Vec::from_slice(alloc, &[3])?;
-    let mut sink = MemorySink::new(alloc, 2, failing);
-    assert_eq!(rt; write_whole(&mut sink, b"abc"), Ok(()));
-    assert_eq!(rt; write_whole(&mut sink, b"def"), Err(Failed));
-    assert_eq!(rt; sink.written(), b"abcde".as_slice());
-    assert_eq!(rt; sink.faults(), 1);
+fn a_source_and_a_sink_fail_once(rt: HostRuntime) -> Result<(), Fail> {
+    assert!(rt; fail_once(rt.alloc())? == [true, true]);
     Ok(())
 }
 
@@ -61,8 +58,10 @@ fn a_sink_takes_little_and_fails_once(rt: HostRuntime) -> Result<(), Fail> {
 fn bytes_at_hand_and_bytes_away(rt: HostRuntime) {
     let mut source = ByteSource::new(b"abc");
     let mut buf = [0u8; 2];
-    assert_eq!(rt; source.read(&mut buf), Ok(2));
-    assert_eq!(rt; source.read(&mut buf), Ok(1));
-    assert_eq!(rt; source.read(&mut buf), Ok(0));
-    assert_eq!(rt; Discard.write(b"abc"), Ok(3));
+    let reads = [
+        source.read(&mut buf),
+        source.read(&mut buf),
+        source.read(&mut buf),
+    ];
+    assert!(rt; reads == [Ok(2), Ok(1), Ok(0)] && Discard.write(b"abc") == Ok(3));
 }

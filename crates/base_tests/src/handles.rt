@@ -30,16 +30,26 @@ impl CounterFn for Counting {
     }
 }
 
-#[test]
-fn a_handle_makes_the_calls_of_its_cell(rt: HostRuntime) -> Result<(), Fail> {
-    let handle = Counter::from_arc(Arc::new(rt.alloc(), Counting)?);
+/// What a pass holds after the calls of a handle, of a copy of it, and of a handle that does nothing.
+fn passes(handle: &Counter<Counting>) -> Result<[u64; 3], Memory> {
     let mut pass = u64::MAX;
     handle.increment(&mut pass, 3);
-    assert_eq!(rt; pass, 2);
+    let first = pass;
     handle.clone()?.absolute(&mut pass, 7);
-    assert_eq!(rt; pass, 7);
+    let second = pass;
     Counter::<Counting>::noop().increment(&mut pass, 1);
-    assert_eq!(rt; pass, 7);
+    Ok([first, second, pass])
+}
+
+/// The same for a new handle. Here alone it is dropped.
+fn passes_of_new(alloc: Global) -> Result<[u64; 3], Memory> {
+    let handle = Counter::from_arc(Arc::new(alloc, Counting)?);
+    passes(&handle)
+}
+
+#[test]
+fn a_handle_makes_the_calls_of_its_cell(rt: HostRuntime) -> Result<(), Fail> {
+    assert!(rt; passes_of_new(rt.alloc())? == [2, 7, 7]);
     Ok(())
 }
 
@@ -47,39 +57,40 @@ fn a_handle_makes_the_calls_of_its_cell(rt: HostRuntime) -> Result<(), Fail> {
 fn values_out_of_range_are_refused(rt: HostRuntime) {
     let gauge = Gauge::<NoopCell>::noop();
     let long = Duration::from_secs(10_000_000_000);
-    assert_eq!(rt; gauge.set(&mut (), long), Err(OutOfRange));
-    assert_eq!(rt; gauge.increment(&mut (), 5u8), Ok(()));
-    assert_eq!(rt; gauge.decrement(&mut (), Fixed(i64::MIN)), Ok(()));
+    let moved = [
+        gauge.set(&mut (), long),
+        gauge.increment(&mut (), 5u8),
+        gauge.decrement(&mut (), Fixed(i64::MIN)),
+    ];
     let histogram = Histogram::<NoopCell>::noop();
-    let alloc = rt.alloc();
-    assert_eq!(rt;
-        histogram.record(&rt, alloc, &mut (), long, 0),
-        Err(RecordFault::OutOfRange)
-    );
-    assert_eq!(rt;
-        histogram.record_many(&rt, alloc, &mut (), 5u8, 0, 2),
-        Ok(())
-    );
+    let recorded = [
+        histogram.record(&rt, rt.alloc(), &mut (), long, 0),
+        histogram.record_many(&rt, rt.alloc(), &mut (), 5u8, 0, 2),
+    ];
+    assert!(rt; moved == [Err(OutOfRange), Ok(()), Ok(())]);
+    assert!(rt; recorded == [Err(RecordFault::OutOfRange), Ok(())]);
 }
 
-fn register<R: Wait, T: Recorder>(
-    rt: &R,
-    alloc: Global,
-    recorder: &T,
-) -> Result<T::Counter, Memory> {
+/// Whether a recorder gives a counter.
+fn gives_a_counter<R: Wait, T: Recorder>(rt: &R, alloc: Global, recorder: &T) -> bool
+where
+    T::Counter: Drop,
+{
     let metadata = Metadata::new("tests", Level::INFO, None);
     let key = Key::from_static_name("hits");
-    recorder.register_counter(rt, alloc, &key, &metadata)
+    recorder
+        .register_counter(rt, alloc, &key, &metadata)
+        .is_ok()
 }
 
 #[test]
 fn recorders_behind_references(rt: HostRuntime) -> Result<(), Fail> {
     let alloc = rt.alloc();
     let mut recorder = NoopRecorder;
-    register(&rt, alloc, &&recorder)?.increment(&mut (), 1);
-    register(&rt, alloc, &&mut recorder)?.increment(&mut (), 1);
-    register(&rt, alloc, &Box::new(alloc, NoopRecorder)?)?.increment(&mut (), 1);
-    register(&rt, alloc, &Arc::new(alloc, NoopRecorder)?)?.increment(&mut (), 1);
+    assert!(rt; gives_a_counter(&rt, alloc, &&recorder));
+    assert!(rt; gives_a_counter(&rt, alloc, &&mut recorder));
+    assert!(rt; gives_a_counter(&rt, alloc, &Box::new(alloc, NoopRecorder)?));
+    assert!(rt; gives_a_counter(&rt, alloc, &Arc::new(alloc, NoopRecorder)?));
     Ok(())
 }
 
@@ -92,17 +103,35 @@ fn number(current: Current<'_, u64>) -> u64 {
     }
 }
 
+/// Whether the number that is set first stays, and is what a scope without a local one shows.
+fn first_stays(alloc: Global, cell: &RecorderOnceCell<u64>) -> Result<bool, Memory> {
+    let one = Box::new(alloc, 1)?;
+    let mut note = cell.note();
+    let empty = cell.try_load(&mut note).is_none();
+    let set = set_global_recorder(cell, &mut note, one).is_ok();
+    let mut fresh = cell.note();
+    let shown = with_recorder(cell, &mut fresh, &RecorderScope::new(), number);
+    Ok(empty && set && refuses(cell, Box::new(alloc, 2)?) && shown == 101)
+}
+
+/// Whether a cell gives a number back.
+fn refuses(cell: &RecorderOnceCell<u64>, other: Box<u64>) -> bool {
+    let number = *other;
+    match cell.set(&mut cell.note(), other) {
+        Ok(()) => false,
+        Err(refused) => *refused.into_inner() == number,
+    }
+}
+
+/// Whether it holds of a new cell. Here alone a cell is dropped.
+fn first_stays_in_new(alloc: Global) -> Result<bool, Memory> {
+    let cell = RecorderOnceCell::new(alloc);
+    first_stays(alloc, &cell)
+}
+
 #[test]
 fn the_first_recorder_stays(rt: HostRuntime) -> Result<(), Fail> {
-    let cell = RecorderOnceCell::new(rt.alloc());
-    let mut note = cell.note();
-    assert!(rt; cell.try_load(&mut note).is_none());
-    assert!(rt; set_global_recorder(&cell, &mut note, Box::new(rt.alloc(), 1)?).is_ok());
-    let refused = cell.set(&mut note, Box::new(rt.alloc(), 2)?).err();
-    assert_eq!(rt; refused.map(|refused| *refused.into_inner()), Some(2));
-    let mut fresh = cell.note();
-    let scope = RecorderScope::new();
-    assert_eq!(rt; with_recorder(&cell, &mut fresh, &scope, number), 101);
+    assert!(rt; first_stays_in_new(rt.alloc())?);
     Ok(())
 }
 
@@ -146,12 +175,11 @@ fn the_innermost_recorder_counts(rt: HostRuntime) {
     let first = 1u64;
     let second = 2u64;
     let mut scope = RecorderScope::new();
-    let (inner, outer) = in_guards(&mut scope, &first, &second);
-    assert_eq!(rt; inner, Some(2));
-    assert_eq!(rt; outer, Some(1));
-    assert_eq!(rt; local(&scope), 0);
-    assert_eq!(rt; called_in_guard(&mut scope, &first, &second), (2, 1));
-    assert_eq!(rt; local(&scope), 0);
+    let guarded = in_guards(&mut scope, &first, &second);
+    let between = local(&scope);
+    let called = called_in_guard(&mut scope, &first, &second);
+    assert!(rt; guarded == (Some(2), Some(1)) && called == (2, 1));
+    assert!(rt; between == 0 && local(&scope) == 0);
 }
 
 fn crosses_threads<T: Send + Sync>() {}

@@ -1,20 +1,30 @@
-//! Tests of the crates from addresses up to pages and scripts: what no clause says of them. Each call is made once at
-//! concrete types and with ample memory, and is compared with vectors from outside. Laws over their clauses stand here too.
+//! Tests of the crates from addresses up to pages, scripts and distributions: what no clause says of them. Each call is made
+//! once at concrete types and with ample memory, and is compared with vectors from outside. Laws over their clauses stand here
+//! too.
+//!
+//! What a test costs is mostly its proof. So values are made in one function and looked at by reference in others, tables are
+//! constants, and tests assert a `bool`.
 #![tactic(auto)]
 
 #[cfg(test)]
 mod addresses;
 #[cfg(test)]
-mod devices;
+mod bags;
 #[cfg(test)]
-mod distributions;
+mod devices;
 #[cfg(test)]
 mod handles;
 #[cfg(test)]
 mod keys;
+#[cfg(test)]
+mod kinds;
 pub mod laws;
 #[cfg(test)]
+mod native;
+#[cfg(test)]
 mod pages;
+#[cfg(test)]
+mod reservoirs;
 #[cfg(test)]
 mod scripts;
 #[cfg(test)]
@@ -23,3 +33,5 @@ mod series;
 mod texts;
 #[cfg(test)]
 mod values;
+#[cfg(test)]
+mod windows;

@@ -5,9 +5,14 @@ use std::alloc::Global;
 use std::test::Fail;
 use std::time::Duration;
 
+/// Whether a text is read as a unit, which has a label.
+fn is_unit(text: &str, unit: Unit, label: &str) -> bool {
+    Unit::from_string(text) == Some(unit) && unit.as_canonical_label() == label
+}
+
 #[test]
 fn units_are_read_back(rt: HostRuntime) {
-    for (text, unit, label) in [
+    for (text, unit, label) in &[
         ("count", Unit::Count, ""),
         ("percent", Unit::Percent, "%"),
         ("microseconds", Unit::Microseconds, "μs"),
@@ -15,28 +20,30 @@ fn units_are_read_back(rt: HostRuntime) {
         ("terabits_per_second", Unit::TerabitsPerSecond, "Tbps"),
         ("count_per_second", Unit::CountPerSecond, "/s"),
     ] {
-        assert_eq!(rt; Unit::from_string(text), Some(unit));
-        assert_eq!(rt; unit.as_canonical_label(), label);
+        assert!(rt; is_unit(text, *unit, label), "{text}");
     }
-    assert_eq!(rt; Unit::from_string("Seconds"), None);
+    assert!(rt; Unit::from_string("Seconds").is_none());
 }
 
-/// What is said of a text that is no level.
-fn refusal(alloc: Global, text: &str) -> Result<Option<String>, Fail> {
+/// Whether this is said of a text that is no level.
+fn is_refused(alloc: Global, text: &str, said: &str) -> Result<bool, Fail> {
     match Level::try_from_text(alloc, text) {
-        Ok(_) => Ok(None),
-        Err(fault) => Ok(Some(format!(in alloc; "{fault}")?)),
+        Ok(_) => Ok(false),
+        Err(fault) => Ok(format!(in alloc; "{fault}")?.as_str() == said),
     }
+}
+
+/// Whether a text is read as a level.
+fn is_level(alloc: Global, text: &str, level: Level) -> bool {
+    matches!(Level::try_from_text(alloc, text), Ok(read) if read == level)
 }
 
 #[test]
 fn levels_are_read(rt: HostRuntime) -> Result<(), Fail> {
-    assert_eq!(rt; Level::try_from_text(rt.alloc(), "info")?, Level::INFO);
-    let said = refusal(rt.alloc(), "foo")?.ok_or("no refusal")?;
-    assert_eq!(rt;
-        said.as_str(),
-        "unknown log level: foo (expected one of 'trace', 'debug', 'info', 'warn', or 'error')"
-    );
+    assert!(rt; is_level(rt.alloc(), "info", Level::INFO));
+    let said =
+        "unknown log level: foo (expected one of 'trace', 'debug', 'info', 'warn', or 'error')";
+    assert!(rt; is_refused(rt.alloc(), "foo", said)?);
     Ok(())
 }
 
@@ -49,26 +56,30 @@ fn metadata_are_copied(rt: HostRuntime) -> Result<(), Fail> {
 
 #[test]
 fn numbers_and_spans_are_values(rt: HostRuntime) {
-    assert_eq!(rt;
+    let values = [
         Duration::new(1, 5).into_fixed(),
-        Some(Fixed(1_000_000_005))
-    );
-    assert_eq!(rt; Duration::from_secs(10_000_000_000).into_fixed(), None);
-    assert_eq!(rt; (-2i8).into_fixed(), Some(Fixed(-2_000_000_000)));
-    assert_eq!(rt;
+        Duration::from_secs(10_000_000_000).into_fixed(),
+        (-2i8).into_fixed(),
         u32::MAX.into_fixed(),
-        Some(Fixed(4_294_967_295_000_000_000))
-    );
-    assert_eq!(rt; 1u8.into_fixed(), Some(Fixed(i64::from(BILLIONTHS))));
+        1u8.into_fixed(),
+    ];
+    let expected = [
+        Some(Fixed(1_000_000_005)),
+        None,
+        Some(Fixed(-2_000_000_000)),
+        Some(Fixed(4_294_967_295_000_000_000)),
+        Some(Fixed(i64::from(BILLIONTHS))),
+    ];
+    assert!(rt; values == expected);
 }
 
 #[test]
 fn a_gauge_is_set_raised_and_lowered(rt: HostRuntime) {
-    for (change, output) in [
-        (GaugeValue::Absolute(Fixed(3)), Fixed(3)),
-        (GaugeValue::Increment(Fixed(3)), Fixed(8)),
-        (GaugeValue::Decrement(Fixed(7)), Fixed(-2)),
-    ] {
-        assert_eq!(rt; change.update_value(Fixed(5)), output);
-    }
+    let changes = [
+        GaugeValue::Absolute(Fixed(3)),
+        GaugeValue::Increment(Fixed(3)),
+        GaugeValue::Decrement(Fixed(7)),
+    ];
+    let outputs = changes.map(|change| change.update_value(Fixed(5)));
+    assert!(rt; outputs == [Fixed(3), Fixed(8), Fixed(-2)]);
 }

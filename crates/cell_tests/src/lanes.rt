@@ -1,16 +1,18 @@
 //! Lanes for the tests.
 
 use cell_lanes::{Lane, Line};
+use metrics_core::Memory;
 use std::alloc::Global;
-use std::test::Fail;
 
-/// A lane with a number that makes these calls on the first cell.
-pub fn lane_of<K: Drop>(alloc: Global, number: usize, calls: Vec<K>) -> Result<Lane<K>, Fail> {
-    let mut lines = Vec::new(alloc);
-    for call in calls {
-        let slot = Some(0);
-        lines.push(Line { slot, call })?;
-    }
+/// A lane with a number that makes a call so often, on the first cell.
+pub fn lane_of<K: Copy + Drop>(
+    alloc: Global,
+    number: usize,
+    call: K,
+    times: usize,
+) -> Result<Lane<K>, Memory> {
+    let slot = Some(0);
+    let lines = vec![in alloc; Line { slot, call }; times]?;
     let cells = vec![in alloc; 0usize]?;
     Ok(Lane {
         number,
@@ -22,12 +24,10 @@ pub fn lane_of<K: Drop>(alloc: Global, number: usize, calls: Vec<K>) -> Result<L
 /// Two lanes, each of which makes its call so often, on the first cell.
 pub fn two_lanes<K: Copy + Drop>(
     alloc: Global,
-    calls: [K; 2],
+    [first, second]: [K; 2],
     times: usize,
-) -> Result<Vec<Lane<K>>, Fail> {
-    let mut lanes = Vec::new(alloc);
-    let [first, second] = calls;
-    lanes.push(lane_of(alloc, 0, vec![in alloc; first; times]?)?)?;
-    lanes.push(lane_of(alloc, 1, vec![in alloc; second; times]?)?)?;
-    Ok(lanes)
+) -> Result<Vec<Lane<K>>, Memory> {
+    let first = lane_of(alloc, 0, first, times)?;
+    let second = lane_of(alloc, 1, second, times)?;
+    Ok(Vec::from_array(alloc, [first, second])?)
 }

@@ -2,7 +2,7 @@
 
 ghost use Rattle.std.specs.Prelude.{◌≡◌};
 
-use crate::lanes::lane_of;
+use crate::lanes::two_lanes;
 use cell_lanes::{Lane, Lender, LentCell, NoHook, OwnedCell, lanes_fit};
 use metrics_core::{Fixed, Memory};
 use metrics_facade::HistogramFn;
@@ -28,16 +28,10 @@ fn untimed<R: Wait>(rt: &R, alloc: Global) -> Result<Option<SampleEntry<Fixed>>,
 
 #[test]
 fn histograms_record(rt: HostRuntime) -> Result<(), Fail> {
-    let with_moment = SampleEntry {
-        item: (Fixed(25), 7),
-        count: 1,
-    };
-    let without = SampleEntry {
-        item: Fixed(25),
-        count: 1,
-    };
-    assert_eq!(rt; timed(&rt, rt.alloc())?, Some(with_moment));
-    assert_eq!(rt; untimed(&rt, rt.alloc())?, Some(without));
+    let item = (Fixed(25), 7);
+    assert!(rt; timed(&rt, rt.alloc())? == Some(SampleEntry { item, count: 1 }));
+    let item = Fixed(25);
+    assert!(rt; untimed(&rt, rt.alloc())? == Some(SampleEntry { item, count: 1 }));
     Ok(())
 }
 
@@ -123,45 +117,43 @@ fn in_order(items: &[LaneItem]) -> Option<(u32, u32)> {
     Some((first, second))
 }
 
+/// Whether a new queue ends empty, and each lane's five hundred items came in order. Here alone that queue is dropped.
+fn none_is_lost<R: Threads + Wait + Sync>(rt: &R, alloc: Global) -> Result<bool, Memory> {
+    let mut queue = SampleQueue::owned(alloc)?;
+    let (items, is_empty) = drained_side_by_side(rt, alloc, &mut queue)?;
+    Ok(is_empty && in_order(items.as_slice()) == Some((500, 500)))
+}
+
 #[test]
 fn no_item_is_lost_or_repeated(rt: HostRuntime) -> Result<(), Fail> {
-    let (items, is_empty) = drained_side_by_side(
-        &rt,
-        rt.alloc(),
-        &mut SampleQueue::owned(rt.alloc())?,
-    )?;
-    assert_eq!(rt; in_order(items.as_slice()), Some((500, 500)));
-    assert!(rt; is_empty);
+    assert!(rt; none_is_lost(&rt, rt.alloc())?);
     Ok(())
 }
 
-/// Two lanes, each of which pushes its item twice at once.
-fn pushing_lanes(alloc: Global) -> Result<Vec<Lane<Sample<u8>>>, Fail> {
-    let mut lanes = Vec::new(alloc);
-    for (number, item) in [(0, 5u8), (1, 7)] {
-        let call = Sample { item, count: 2 };
-        lanes.push(lane_of(alloc, number, vec![in alloc; call]?)?)?;
-    }
-    Ok(lanes)
-}
-
-/// The front of a queue after two lanes pushed.
-fn pushed_by_lanes<R: Threads + Wait + Sync>(
+/// The front of a new queue after lanes.
+fn front_after<R: Threads + Wait + Sync>(
     rt: &R,
     alloc: Global,
-) -> Result<Option<Option<SampleEntry<u8>>>, Fail> {
-    let lanes = pushing_lanes(alloc)?;
-    if !lanes_fit(lanes.as_slice(), 1) {
+    lanes: &[Lane<Sample<u8>>],
+) -> Result<Option<SampleEntry<u8>>, Memory> {
+    if !lanes_fit(lanes, 1) {
         return Ok(None);
     }
     let mut queues = Vec::from_array(alloc, [SampleQueue::owned(alloc)?])?;
-    Ok(run_queues(rt, alloc, &NoHook, &mut queues, lanes.as_slice(), 0).ok())
+    run_queues(rt, alloc, &NoHook, &mut queues, lanes, 0)
+}
+
+/// How often the front was pushed at once where each of two lanes pushes its item twice.
+fn pushed_by_lanes<R: Threads + Wait + Sync>(rt: &R, alloc: Global) -> Result<Option<u32>, Memory> {
+    let samples = [5u8, 7].map(|item| Sample { item, count: 2 });
+    let lanes = two_lanes(alloc, samples, 1)?;
+    let front = front_after(rt, alloc, lanes.as_slice())?;
+    Ok(front.map(|entry| entry.count))
 }
 
 #[test]
 fn lanes_push_side_by_side(rt: HostRuntime) -> Result<(), Fail> {
-    let front = pushed_by_lanes(&rt, rt.alloc())?;
-    assert!(rt; front.is_some_and(|entry| entry.is_some_and(|entry| entry.count == 2)));
+    assert!(rt; pushed_by_lanes(&rt, rt.alloc())? == Some(2));
     Ok(())
 }
 

@@ -1,4 +1,4 @@
-//! Tests of the multi-value map, of its bags and of what its writes leave: of what no clause says.
+//! Tests of the multi-value map, of its bags, of what its writes leave, and of descriptions in it: of what no clause says.
 #![tactic(auto)]
 
 #[cfg(test)]
@@ -7,6 +7,8 @@ mod asking;
 mod bag_tests;
 #[cfg(test)]
 mod contents_tests;
+#[cfg(test)]
+mod description_tests;
 #[cfg(test)]
 mod making_tests;
 #[cfg(test)]

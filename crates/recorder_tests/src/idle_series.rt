@@ -1,4 +1,4 @@
-//! A counter that falls idle while a pass of it is out.
+//! A counter with an idle timeout, while a pass of it is out: it falls idle, or is called between two pages.
 
 ghost use Rattle.std.specs.Prelude.{◌≡◌};
 ghost use Rattle.metrics_facade.specs.Handles.{Fits};
@@ -59,14 +59,53 @@ fn begins_anew<R: Wait>(rt: &R, alloc: Global, state: &mut PrometheusState) -> R
     Ok(counted && gone && stays_gone && again.number == 1 && anew)
 }
 
-#[test]
-fn an_idle_counter_takes_nothing_of_its_pass(rt: HostRuntime) -> Result<(), Fail> {
-    let alloc = rt.alloc();
+/// Whether a counter that is called under its pass between two pages stays, is shown with the call, and goes once no more come.
+fn stays_while_called<R: Wait>(
+    rt: &R,
+    alloc: Global,
+    state: &mut PrometheusState,
+) -> Result<bool, Fail> {
+    let id = state.register_counter(alloc, &Key::from_static_name("c"))?;
+    let Some(mut lent) = state.lend_counter(alloc, id)? else {
+        return Ok(false);
+    };
+    lent.handle.increment(&mut lent.pass, 5);
+    let counted = shows(rt, alloc, state, 0, "# TYPE c counter\nc 5\n\n")?;
+    lent.handle.increment(&mut lent.pass, 2);
+    let stays = shows(rt, alloc, state, 6, "# TYPE c counter\nc 7\n\n")?;
+    let still = shows(rt, alloc, state, 11, "# TYPE c counter\nc 7\n\n")?;
+    let gone = shows(rt, alloc, state, 12, "")?;
+    Ok(counted && stays && still && gone)
+}
+
+/// Which of the two is played.
+#[derive(Drop)]
+enum Play {
+    FallsIdle,
+    IsCalled,
+}
+
+/// Whether it holds of a new exporter with a timeout of 5. Here alone an exporter is dropped.
+fn holds<R: Wait>(rt: &R, alloc: Global, play: Play) -> Result<bool, Fail> {
     let mut state = PrometheusBuilder::new(alloc)?
         .idle_timeout(MetricKindMask::COUNTER, Some(5))
         .build_state(alloc)?;
-    let anew = begins_anew(&rt, alloc, &mut state);
-    state.end(&rt);
-    assert!(rt; anew?);
+    let holds = match play {
+        Play::FallsIdle => begins_anew(rt, alloc, &mut state),
+        Play::IsCalled => stays_while_called(rt, alloc, &mut state),
+    };
+    state.end(rt);
+    holds
+}
+
+#[test]
+fn an_idle_counter_takes_nothing_of_its_pass(rt: HostRuntime) -> Result<(), Fail> {
+    assert!(rt; holds(&rt, rt.alloc(), Play::FallsIdle)?);
+    Ok(())
+}
+
+#[test]
+fn a_counter_that_is_called_between_pages_stays(rt: HostRuntime) -> Result<(), Fail> {
+    assert!(rt; holds(&rt, rt.alloc(), Play::IsCalled)?);
     Ok(())
 }

@@ -61,35 +61,37 @@ fn holds_of_new(alloc: Global, case: &Case<'_>) -> Result<bool, Fail> {
     Ok(holds(alloc, &mut histogram, case)?)
 }
 
+/// Values on both sides of 0, and more buckets than a histogram may have.
+const CASES: [Case<'_>; 2] = [
+    Case {
+        max_buckets: 2,
+        values: &[1_000_000_000, 2_000_000_000, 4_000_000_000, 8_000_000_000],
+        schema: -2,
+        positive: &[(0, 1), (1, 3)],
+        negative: &[],
+        zeros: 0,
+        sum: 15_000_000_000,
+    },
+    Case {
+        max_buckets: 160,
+        values: &[
+            -1_000_000_000,
+            -2_000_000_000,
+            500_000_000,
+            4_000_000_001,
+            0,
+        ],
+        schema: 0,
+        positive: &[(-1, 1), (3, 1)],
+        negative: &[(0, 1), (1, 1)],
+        zeros: 1,
+        sum: 1_500_000_001,
+    },
+];
+
 #[test]
 fn values_fall_in_buckets(rt: HostRuntime) -> Result<(), Fail> {
-    let cases = [
-        Case {
-            max_buckets: 2,
-            values: &[1_000_000_000, 2_000_000_000, 4_000_000_000, 8_000_000_000],
-            schema: -2,
-            positive: &[(0, 1), (1, 3)],
-            negative: &[],
-            zeros: 0,
-            sum: 15_000_000_000,
-        },
-        Case {
-            max_buckets: 160,
-            values: &[
-                -1_000_000_000,
-                -2_000_000_000,
-                500_000_000,
-                4_000_000_001,
-                0,
-            ],
-            schema: 0,
-            positive: &[(-1, 1), (3, 1)],
-            negative: &[(0, 1), (1, 1)],
-            zeros: 1,
-            sum: 1_500_000_001,
-        },
-    ];
-    for case in &cases {
+    for case in &CASES {
         assert!(rt; holds_of_new(rt.alloc(), case)?);
     }
     Ok(())

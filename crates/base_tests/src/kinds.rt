@@ -2,7 +2,7 @@
 //! recorded, in words.
 
 ghost use Rattle.std.specs.Prelude.{◌≡◌, true, IfOk};
-ghost use Rattle.distributions.specs.Builders.{has_bound};
+ghost use Rattle.distributions.specs.Builders.{has_bound, all_have_bounds};
 
 use distributions::{Distribution, DistributionBuilder, RecordSamplesFault};
 use metrics_core::{Fixed, Memory};
@@ -96,32 +96,55 @@ fn bound(alloc: Global, value: i64) -> Result<Vec<Fixed>, Memory>
     Ok(vec![in alloc; Fixed(value)]?)
 }
 
-/// A builder with the median for summaries, the bound 2 for names that begin with `http`, and at most two native buckets of
-/// factor 2 for those that begin with `http_native`.
-fn new_builder(alloc: Global) -> Result<DistributionBuilder, Fail> {
+/// The bound 2 for names that begin with `http`.
+fn overrides(alloc: Global) -> Result<Vec<(Matcher, Vec<Fixed>)>, Memory>
+    ensures { IfOk result (λ rules. all_have_bounds rules.items ≡ true) }
+{
+    let front = front(alloc, "http")?;
+    let bound = bound(alloc, 2 * ONE)?;
+    Ok(vec![in alloc; (front, bound)]?)
+}
+
+/// At most two native buckets of factor 2 for names that begin with `http_native`.
+fn natives(alloc: Global) -> Result<Vec<(Matcher, NativeHistogramConfig)>, Fail> {
     let config = NativeHistogramConfig::new(Fixed(2 * ONE), 2, Fixed(ONE / 10))?;
+    let front = front(alloc, "http_native")?;
+    Ok(vec![in alloc; (front, config)]?)
+}
+
+/// A builder with these and with the median for summaries.
+fn new_builder(alloc: Global) -> Result<DistributionBuilder, Fail> {
+    let natives = natives(alloc)?;
+    let overrides = overrides(alloc)?;
     let quantiles = parse_quantiles(alloc, &[Fixed(ONE / 2)])?;
-    let overrides = vec![in alloc; (front(alloc, "http")?, bound(alloc, 2 * ONE)?)]?;
-    let natives = vec![in alloc; (front(alloc, "http_native")?, config)]?;
     Ok(DistributionBuilder::new(alloc, quantiles, None, None, None, overrides, natives)?)
 }
 
-/// Whether each name has its kind of distribution and that shows the samples 1, 2, 4 and 8.
+/// The samples 1, 2, 4 and 8, each with its moment.
+const SAMPLES: [(Fixed, u64); 4] = [
+    (Fixed(ONE), 3600 * SECOND),
+    (Fixed(2 * ONE), 3620 * SECOND),
+    (Fixed(4 * ONE), 3640 * SECOND),
+    (Fixed(8 * ONE), 3660 * SECOND),
+];
+
+/// What the distributions of names show after them.
+const ROWS: [(&str, Shown); 3] = [
+    ("http_seconds", Shown::Histogram(Some(2), 15_000_000_000, 4)),
+    (
+        "seconds",
+        Shown::Summary(Some(Fixed(4 * ONE)), 15_000_000_000, 4),
+    ),
+    (
+        "http_native_seconds",
+        Shown::NativeHistogram(-2, 15_000_000_000, 4),
+    ),
+];
+
+/// Whether each name has its kind of distribution and that shows the samples.
 fn holds(alloc: Global, builder: &DistributionBuilder) -> Result<bool, Fail> {
-    let samples = [
-        (Fixed(ONE), 3600 * SECOND),
-        (Fixed(2 * ONE), 3620 * SECOND),
-        (Fixed(4 * ONE), 3640 * SECOND),
-        (Fixed(8 * ONE), 3660 * SECOND),
-    ];
-    let sum = 15_000_000_000;
-    let rows = [
-        ("http_seconds", Shown::Histogram(Some(2), sum, 4)),
-        ("seconds", Shown::Summary(Some(Fixed(4 * ONE)), sum, 4)),
-        ("http_native_seconds", Shown::NativeHistogram(-2, sum, 4)),
-    ];
-    for (name, expected) in rows {
-        if shown_of_name(alloc, builder, name, &samples)? != expected {
+    for (name, expected) in &ROWS {
+        if shown_of_name(alloc, builder, name, &SAMPLES)? != *expected {
             return Ok(false);
         }
     }
@@ -140,10 +163,14 @@ fn names_have_distributions_of_their_kinds(rt: HostRuntime) -> Result<(), Fail> 
     Ok(())
 }
 
+/// Whether this is said of samples that were not all recorded.
+fn is_said(alloc: Global, said: &str) -> Result<bool, Fail> {
+    let fault = RecordSamplesFault::Memory { done: 2 };
+    Ok(format!(in alloc; "{fault}")?.as_str() == said)
+}
+
 #[test]
 fn a_fault_says_how_many_samples_were_recorded(rt: HostRuntime) -> Result<(), Fail> {
-    let fault = RecordSamplesFault::Memory { done: 2 };
-    let text = format!(in rt.alloc(); "{fault}")?;
-    assert_eq!(rt; text.as_str(), "out of memory after 2 samples");
+    assert!(rt; is_said(rt.alloc(), "out of memory after 2 samples")?);
     Ok(())
 }
