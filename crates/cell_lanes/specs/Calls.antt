@@ -1,5 +1,5 @@
 -- How what a lane asks for stands in a history.
-use Rattle.std.specs.Prelude.{◌≡◌, ◌⊎◌, ℕ, ◌%◌, ◌^◌, ◌≤◌, List, [], ◌∷◌, ◌++◌, length}
+use Rattle.std.specs.Prelude.{◌≡◌, ◌⊎◌, ℕ, ◌+◌, ◌%◌, ◌^◌, ◌≤◌, List, [], ◌∷◌, ◌++◌, length}
 use Rattle.legal_history.specs.declared.history.Entry.{Entry}
 use Rattle.legal_history.specs.declared.history.View.{View}
 use Rattle.legal_history.specs.History.{after, calls, looked, Sees}
@@ -22,6 +22,9 @@ module _ {M : Type 0} where
   abbrev pub Shows : {R : Type 0} → (List M → R) → View M → R → View M → Type 0
   Shows value_of v reading w = (log : List (Entry M)) × Sees v log × (reading ≡ value_of (calls log)) × (w ≡ looked v log)
 
-  -- n is, modulo 2 ^ 64, the number of calls that were counted: of those of a history that begins with all that the pass had seen. For the root with no other pass out it is the number of all calls
-  abbrev pub CountsCalls : View M → ℕ → Type 0
-  CountsCalls v n = (count : ℕ) × (n ≡ count % 2 ^ 64) × ((log : List (Entry M)) × Sees v log × (count ≤ length log)) × (v.number ≡ 0 → v.out ≡ 0 → count ≡ length v.seen)
+  -- n is, modulo 2 ^ 64, how many calls were counted of a history that begins with all that the pass had seen; the pass has then seen that history.
+  -- The root finds all of its calls counted, but for one at most of each pass that is out
+  abbrev pub CountsCalls : View M → ℕ → View M → Type 0
+  CountsCalls v n w =
+      (count : ℕ) × (n ≡ count % 2 ^ 64)
+      × ((log : List (Entry M)) × Sees v log × (count ≤ length log) × (v.number ≡ 0 → length log ≤ count + v.out) × (w ≡ looked v log))

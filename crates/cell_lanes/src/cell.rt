@@ -58,9 +58,10 @@ pub trait SharedCell: Send + Sync + Drop {
         ensures made { OnOk result (Made (stands_as call.now) (view pass.old) (view pass.new)) }
         ensures refused { OnErr result (view pass.new ≡ view pass.old) };
 
-    /// Reads the cell with a pass.
+    /// Reads the cell with its root pass.
     fn read<R: Wait>(&self, rt: &R, pass: &mut Self::Pass) -> Self::Reading
-        requires { is_pass self.now pass.old }
+        requires pass { is_pass self.now pass.old }
+        requires root { (view pass.old).number ≡ 0 }
         ensures pass { is_pass self.now pass.new }
         ensures read { reads (view pass.old) result (view pass.new) };
 
@@ -120,15 +121,15 @@ pub trait ValueCell: SharedCell {
         ensures value { Shows value_of (Self.view pass.old) result (Self.view pass.new) };
 }
 
-/// A cell that counts the calls that are made on it. Reading the count changes nothing.
+/// A cell that counts the calls that are made on it.
 pub trait CountedCell: ValueCell {
-    ghost use Rattle.std.specs.Prelude.{◌≡◌};
     ghost use Rattle.cell_lanes.specs.Calls.{CountsCalls};
 
-    /// The number of calls that were counted, modulo 2^64. Where no other pass is out it is the number of all calls.
+    /// The number of calls that were counted, modulo 2^64, of a beginning of the history that has all that the pass had seen.
+    /// The pass has then seen that beginning. Of the root's, all calls are counted but one at most of each pass that is out:
+    /// where none is, it is the number of all calls.
     fn updates(&self, pass: &mut Self::Pass) -> u64
         requires { Self.is_pass self.now pass.old }
         ensures pass { Self.is_pass self.now pass.new }
-        ensures same { Self.view pass.new ≡ Self.view pass.old }
-        ensures count { CountsCalls (Self.view pass.old) result };
+        ensures count { CountsCalls (Self.view pass.old) result (Self.view pass.new) };
 }

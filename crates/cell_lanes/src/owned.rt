@@ -161,10 +161,11 @@ impl<C: ValueCell> OwnedCell<C> {
 impl<C: CountedCell> OwnedCell<C> {
     ghost use Rattle.cell_lanes.specs.Calls.{CountsCalls};
 
-    /// The number of calls that were counted, modulo 2^64. Where no pass is out it is the number of all calls.
+    /// The number of calls that were counted, modulo 2^64, of a beginning of the history that has all that the root pass had
+    /// seen. All of its calls are counted but one at most of each pass that is out: where none is, it is the number of all calls.
     pub fn updates(&mut self) -> u64
-        ensures count { CountsCalls self.old.root result }
-        ensures same { self.new ≡ self.old }
+        ensures count { CountsCalls self.old.root result self.new.root }
+        ensures cell { self.new.fixed ≡ self.old.fixed }
     {
         self.cell.updates(&mut self.root)
     }

@@ -20,13 +20,13 @@ use Rattle.flushed_cells.specs.Gauges as gauges
 use Rattle.sample_queue.specs.declared.calls.SampleEntry.{SampleEntry}
 use Rattle.sample_queue.specs.declared.calls.QueueCall.{QueueCall}
 use Rattle.sample_queue.specs.declared.calls.QueueCall.TheVariants.{Push, Pop}
-use Rattle.sample_queue.specs.Queues.{QueueStep}
+use Rattle.sample_queue.specs.Queues.{QueueStep, FoundEmpty}
 use Rattle.metrics_core.specs.declared.numbers.Fixed.{Fixed as FixedOf}
 use Rattle.metrics_registry.specs.Live.{LiveSeries}
 use Rattle.dsd_exporter.specs.Samples.{counter_asked, counter_behind, counter_after, gauge_asked, gauge_behind, gauge_after, but_first, waiting_behind, waiting_after, samples_in}
 use Rattle.dsd_exporter.specs.State.{with_cell_of}
 use Rattle.dsd_exporter.specs.Exporter.{CounterThing, GaugeThing, Queued, IsHome, counter_seen, gauge_seen, samples_seen}
-use Rattle.dsd_exporter.specs.Flushing.{TakesCounter, CallsCounter, PassesCounter, TakesGauge, CallsGauge, PassesGauge, TakesOne, TakesOut, FoundEmpty, Drains, TakesSamples, AreTaken, with_found}
+use Rattle.dsd_exporter.specs.Flushing.{TakesCounter, CallsCounter, PassesCounter, TakesGauge, CallsGauge, PassesGauge, TakesOne, TakesOut, Drains, TakesSamples, AreTaken, with_found}
 
 -- ---- counters
 

@@ -8,12 +8,14 @@ use Rattle.metrics_core.specs.Keys.{KeyText, LabelText}
 use Rattle.metrics_core.specs.Words.{Draws}
 use Rattle.metrics_registry.specs.Live.{LiveSeries}
 use Rattle.metrics_registry.specs.Places.{with_cell_at}
+use Rattle.sample_queue.specs.Queues.{FoundEmpty}
+use Rattle.sample_queue.proofs.TakenAll.{taken_all}
 use Rattle.dsd_writer.specs.Writers.{WriterText}
 use Rattle.dsd_exporter.specs.State.{DogStatsDSettings, words_for, histogram_items, items_of_histograms}
 use Rattle.dsd_exporter.specs.Updates.{UpdateText}
 use Rattle.dsd_exporter.specs.Exporter.{Exporter, Queued}
 use Rattle.dsd_exporter.specs.Samples.{samples_in}
-use Rattle.dsd_exporter.specs.Flushing.{AreTaken, Unchanged, MaybeDrained, TakesSamples, Sends, with_found, words_for_all, HistogramsFlushed, ChangesAt, HasKeyAt, Drains, FoundEmpty, DrawsFor, SendsSamples, SendsTaken, FlushesHistogram}
+use Rattle.dsd_exporter.specs.Flushing.{AreTaken, Unchanged, MaybeDrained, TakesSamples, Sends, with_found, words_for_all, HistogramsFlushed, ChangesAt, HasKeyAt, Drains, DrawsFor, SendsSamples, SendsTaken, FlushesHistogram}
 use Rattle.dsd_exporter.proofs.Taken.{key-same, key-next, next-taken}
 use Rattle.dsd_exporter.proofs.Sent.{sends_nothing, sends_then}
 use Rattle.dsd_exporter.proofs.Draining.{drains_same}
@@ -51,6 +53,7 @@ histogram_flushed settings kept keeps place old mid new w v u n to_come left dra
           drained = drains.1;
           drains = drains.3.0;
           empty = drains.3.1;
+          all = taken_all drains.1.root drains.3.1;
           samples = ap (λ (h : Queued). samples_in h.taken) sent;
           taken = clears.3 ∙ ap (λ (h : Queued). record h { taken = [] }) cleared;
         },

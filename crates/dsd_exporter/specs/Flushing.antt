@@ -4,7 +4,7 @@ use Rattle.std.specs.List.{FoldsTo}
 use Rattle.legal_history.specs.declared.history.Entry.{Entry}
 use Rattle.legal_history.specs.declared.history.View.{View}
 use Rattle.legal_history.specs.History.{calls, after, Sees}
-use Rattle.legal_history.specs.Object.{Runs, Told}
+use Rattle.legal_history.specs.Object.{Runs}
 use Rattle.metrics_core.specs.declared.kinds.MetricKind.{MetricKind}
 use Rattle.metrics_core.specs.declared.kinds.MetricKind.TheVariants as kinds
 use Rattle.metrics_core.specs.declared.numbers.Fixed.{Fixed as FixedOf}
@@ -24,7 +24,7 @@ use Rattle.flushed_cells.specs.Gauges.{GaugeStep, gauge_start}
 use Rattle.sample_queue.specs.declared.calls.SampleEntry.{SampleEntry}
 use Rattle.sample_queue.specs.declared.calls.QueueCall.{QueueCall}
 use Rattle.sample_queue.specs.declared.calls.QueueCall.TheVariants.{Pop}
-use Rattle.sample_queue.specs.Queues.{QueueStep, Called}
+use Rattle.sample_queue.specs.Queues.{Called, FoundEmpty, HasTakenAll}
 use Rattle.dsd_writer.specs.Lines.{ItemText, lines_of, spelled_values}
 use Rattle.dsd_writer.specs.Results.{Written, written_of}
 use Rattle.dsd_writer.specs.Writers.{WriterText, SameSettings, timed, sampled, item_of}
@@ -68,10 +68,6 @@ TakesOne v e w = Called (Pop e) v w
 abbrev pub TakesOut : View (QueueCall FixedOf) → List (SampleEntry FixedOf) → View (QueueCall FixedOf) → Type 0
 TakesOut v es w = FoldsTo TakesOne v es w
 
--- the queue was empty at a moment at which it had all the calls that the pass has seen
-abbrev pub FoundEmpty : View (QueueCall FixedOf) → Type 0
-FoundEmpty v = Told QueueStep [] v []
-
 -- entries went from the queue to those that were taken out, and nothing else changed
 pub record Drains (s t : Queued) : Type 0 where
   pub cell : t.cell ≡ s.cell
@@ -79,11 +75,12 @@ pub record Drains (s t : Queued) : Type 0 where
   pub root : TakesOut s.root out t.root
   pub taken : t.taken ≡ s.taken ++ out
 
--- A flush of a histogram drains its queue until that was empty at a moment, and takes all samples.
+-- A flush of a histogram drains its queue until that was empty at a moment, and takes all samples: those of all entries that the exporter has seen pushed.
 pub record TakesSamples (s : Queued) (x : List FixedOf) (t : Queued) : Type 0 where
   pub drained : Queued
   pub drains : Drains s drained
   pub empty : FoundEmpty drained.root
+  pub all : HasTakenAll drained.root
   pub samples : x ≡ samples_in drained.taken
   pub taken : t ≡ record drained { taken = [] }
 

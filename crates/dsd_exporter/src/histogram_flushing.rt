@@ -2,6 +2,7 @@
 
 ghost use Rattle.std.specs.Prelude.{◌≡◌, ◌<◌, ◌++◌, ℕ, List, ◌∷◌, [], length, OnOk, OnErr};
 ghost use Rattle.std.specs.Option.{option_copied};
+ghost use Rattle.sample_queue.specs.Queues.{FoundEmpty};
 ghost use Rattle.dsd_writer.specs.Lines.{spelled_values};
 ghost use Rattle.dsd_writer.specs.Writers.{Writes, item_of, sampled};
 ghost use Rattle.dsd_exporter.specs.State.{line_letter};
@@ -10,7 +11,7 @@ ghost use Rattle.dsd_exporter.specs.Samples.{samples_in};
 ghost use Rattle.dsd_exporter.specs.Updates.{rate_in};
 ghost use Rattle.metrics_core.specs.Words.{Draws};
 ghost use Rattle.metrics_core.specs.declared.numbers.Fixed.{Fixed as FixedOf};
-ghost use Rattle.dsd_exporter.specs.Flushing.{rate_of, samples_item, ChangesAt, Drains, FoundEmpty, MaybeDrained, Sends, SendsTaken, DrawsFor, SendsSamples, FlushesHistogram, HistogramsFlushed};
+ghost use Rattle.dsd_exporter.specs.Flushing.{rate_of, samples_item, ChangesAt, Drains, MaybeDrained, Sends, SendsTaken, DrawsFor, SendsSamples, FlushesHistogram, HistogramsFlushed};
 
 use crate::configuration::StateConfiguration;
 use crate::queued::QueuedSamples;

@@ -5,8 +5,9 @@ ghost use Rattle.std.specs.Bool.{OnTrue, OnFalse};
 ghost use Rattle.std.specs.Arc.{arc_value};
 ghost use Rattle.legal_history.specs.History.{Settled, child};
 ghost use Rattle.sample_queue.specs.Passes.{IsSamplePass, view_of};
+ghost use Rattle.sample_queue.specs.Queues.{FoundEmpty};
 ghost use Rattle.dsd_exporter.specs.Exporter.{IsHome, empty_queue};
-ghost use Rattle.dsd_exporter.specs.Flushing.{Drains, FoundEmpty, IsSample, Offers};
+ghost use Rattle.dsd_exporter.specs.Flushing.{Drains, IsSample, Offers};
 ghost use Rattle.dsd_exporter.specs.Samples.{samples_in};
 ghost use Rattle.dsd_exporter.specs.Lending.{queue_out, queue_back};
 

@@ -21,7 +21,7 @@ use Rattle.evmap_core.specs.contracts.reader.ReadHandle as Handle
 
 module _ (K V M P S L H : RattleType) (hash : Hash.Ghosts K.Denot) (eq : PartialEq.Ghosts K.Denot) (whole : Eq.Ghosts V.Denot) (same : PartialEq.Ghosts V.Denot) (hashes : Hash.Ghosts V.Denot) (build : Build.Ghosts S.Denot H.Denot) (hasher : Hasher.Ghosts H.Denot) where
   pub Store-sync : IsSync K → IsSend V → IsSync V → IsSend M → IsSync M → IsSync S → IsSync (Store.the_row K V M P S L H hash eq whole same hashes build hasher)
-  Store-sync ky vs vy ms my sy = declared_sync (Store.the_type K V M P S L H hash eq whole same hashes build hasher) (search (sendable, inner.the_sync) depth 20, (search (sendable, crosses) depth 20, (search (sendable, crosses) depth 20, tt)))
+  Store-sync ky vs vy ms my sy = declared_sync (Store.the_type K V M P S L H hash eq whole same hashes build hasher) (search (sendable, inner.the_sync) depth 20, (search (sendable, crosses) depth 20, (search (sendable, crosses) depth 20, (search (sendable, crosses) depth 20, tt))))
 
   module _ (rule : Protocol.Ghosts Published (declared.Store K.Denot V.Denot M.Denot P.Denot S.Denot L.Denot H.Denot) (known_fronts.KnownFronts L.Denot V.Denot M.Denot P.Denot)) where
     pub Factory-send : IsSync K → IsSend V → IsSync V → IsSend M → IsSync M → IsSync S → IsSend (Factory.the_row K V M P S L H hash eq whole same hashes build hasher rule)

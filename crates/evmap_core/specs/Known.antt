@@ -1,5 +1,5 @@
 -- What a clause sees of a read handle and of a factory.
-use Rattle.std.specs.Prelude.{◌≡◌, Option, Some}
+use Rattle.std.specs.Prelude.{◌≡◌, List, Option, Some}
 use Rattle.std.specs.Option.{option_map}
 use Rattle.std.specs.Arc.{arc_value}
 use Rattle.std.specs.declared.alloc.Global.{Global}
@@ -12,7 +12,10 @@ use Rattle.evmap_core.specs.declared.store.Store.{Store}
 use Rattle.evmap_core.specs.declared.published.Published.{Published}
 use Rattle.evmap_core.specs.declared.factory.ReadHandleFactory.{ReadHandleFactory}
 use Rattle.evmap_core.specs.declared.reader.ReadHandle.{ReadHandle}
-use Rattle.evmap_core.specs.Front.{newcomer}
+use Rattle.evmap_contents.specs.declared.write.Write.{Write}
+use Rattle.evmap_contents.specs.declared.write.Contents.{Contents}
+use Rattle.evmap_core.specs.Stored.{writes_of}
+use Rattle.evmap_core.specs.Front.{StartsWith, newcomer, IsFrontFor}
 
 module _ {K V M P S L H : Type 0} where
   -- its reader; nothing while a guard has it, or where a guard was forgotten
@@ -42,3 +45,7 @@ module _ {K V M P S L H : Type 0} where
   -- a new handle of a map: its reader sits at the map's table, has seen nothing, and was told of nothing
   abbrev pub IsFresh : ReadHandle K V M P S L H → TableId → Type 0
   IsFresh h map = (known h ≡ Some newcomer) × (seat_of h ≡ Some map) × (map_of h ≡ map)
+
+-- whatever front is shown to the reader of a handle begins with these writes
+abbrev pub ShowsBehind : {K V M P S L H : Type 0} → (K → L) → (Contents L V M → Write L V M P → Contents L V M) → ReadHandle K V M P S L H → List (Write L V M P) → Type 0
+ShowsBehind {K} {V} {M} {P} {S} {L} {H} plain step h writes = (x : Store K V M P S L H) (w : KnownFronts L V M P) → IsFrontFor plain step (known h) x w → StartsWith (writes_of plain x) writes

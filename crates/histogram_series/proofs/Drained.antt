@@ -3,11 +3,13 @@ use Rattle.std.proofs.Common.{◌≡◌, [], ◌∷◌, ◌++◌, Option, None, 
 use Rattle.std.specs.Prelude.{is_some}
 use Rattle.std.proofs.lemmas.Fn.{FoldsTo-push}
 use Rattle.std.proofs.lemmas.List.{append-nil}
-use Rattle.sample_queue.specs.Queues.{popped, GivesOut}
+use Rattle.legal_history.specs.History.{calls}
+use Rattle.sample_queue.specs.Queues.{FoundEmpty, GivesOut, popped, pushed}
+use Rattle.sample_queue.proofs.TakenAll.{taken_all}
 use Rattle.histogram_series.specs.Entries.{TimedEntry, queued}
 use Rattle.histogram_series.specs.Series.{SampleSeries, IsHome, entries, but_waiting, recorded}
-use Rattle.histogram_series.specs.Drains.{TakesOne, TakesNext, FoundEmpty, Drains, Grows, with_none_waiting}
-use Rattle.histogram_series.proofs.Taken.{out-grows, out-home, empty-home}
+use Rattle.histogram_series.specs.Drains.{TakesOne, TakesNext, Drains, Grows, with_none_waiting}
+use Rattle.histogram_series.proofs.Taken.{out-grows, out-home, empty-none}
 
 pub drains-none : (s t : SampleSeries) → t ≡ s → Drains s t
 drains-none s t same = record { cell = ap (λ (u : SampleSeries). u.cell) same; kind = ap (λ (u : SampleSeries). u.kind) same; out = []; taken = ap (λ (u : SampleSeries). u.root) (sym same) }
@@ -32,14 +34,18 @@ module _ (s t : SampleSeries) (drains : Drains s t) where
   pub drains-same : IsHome s → entries t ≡ entries s
   drains-same home = (out-home s.root t.root drains.out home drains.taken).1
 
-  pub drains-empty : FoundEmpty t.root → IsHome s → queued t.root ≡ []
-  drains-empty empty home = empty-home t.root (out-home s.root t.root drains.out home drains.taken).0 empty
+  pub drains-empty : FoundEmpty t.root → queued t.root ≡ []
+  drains-empty empty = empty-none t.root empty
+
+  -- all that the series' own pass has seen pushed is recorded
+  pub drains-seen : t.stray ≡ None → FoundEmpty t.root → recorded t ≡ pushed (calls t.root.seen)
+  drains-seen none empty = ap (λ stray. but_waiting stray (popped t.root.mine)) none ∙ taken_all t.root empty
 
   pub drains-all : t.stray ≡ None → FoundEmpty t.root → IsHome s → recorded t ≡ entries s
   drains-all none empty home =
       ap (λ stray. but_waiting stray (popped t.root.mine)) none
       ∙ sym (append-nil (popped t.root.mine))
-      ∙ ap (λ es. popped t.root.mine ++ es) (sym (drains-empty empty home))
+      ∙ ap (λ es. popped t.root.mine ++ es) (sym (drains-empty empty))
       ∙ drains-same home
 
 -- the next entry was taken out, where there was one

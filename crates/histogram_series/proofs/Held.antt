@@ -7,9 +7,8 @@ use Rattle.legal_history.specs.History.{calls, calls_by, keep}
 use Rattle.legal_history.specs.Object.{Runs}
 use Rattle.legal_history.proofs.Orders.{not_kept}
 use Rattle.sample_queue.specs.declared.calls.QueueCall.TheVariants.{Push, Pop}
-use Rattle.sample_queue.specs.Queues.{Calls, Entries, QueueStep, pushed, popped}
+use Rattle.sample_queue.specs.Queues.{Calls, Entries, QueueStep, PushOrOwn, OthersPush, pushed, popped}
 use Rattle.histogram_series.specs.Entries.{TimedCall, TimedEntry, held_after, samples_of_entry}
-use Rattle.histogram_series.specs.Drains.{PushOrOwn, OthersPush}
 use Rattle.histogram_series.specs.Growth.{PushesStandBehind, CallsTellSamples}
 use Rattle.legal_history.proofs.Lists.{calls-append}
 

@@ -25,7 +25,7 @@ use Rattle.sample_queue.specs.declared.calls.QueueCall.TheVariants.{Pop}
 use Rattle.sample_queue.specs.Queues.{popped, GivesOut}
 use Rattle.histogram_series.proofs.Held.{popped-append}
 use Rattle.histogram_series.specs.Entries.{TimedEntry, TimedCall, samples_of_entry, samples_of_entries, listed}
-use Rattle.histogram_series.specs.Series.{kind_of, RecordsEntry, HasRecorded, but_waiting}
+use Rattle.histogram_series.specs.Series.{kind_of, RecordsEntry, AreInTurn, HasRecorded, but_waiting}
 
 -- what it keeps at any moments: of a summary, what it was built with and the number of samples
 Keeps : DistributionKind → List Sample → Distribution → Type 0
@@ -132,6 +132,17 @@ count-kept (NativeHistogram config) samples (variants.Summary a b c) kept = absu
 count-kept (Summary summary) samples (variants.Histogram a) kept = absurd kept
 count-kept (Summary summary) samples (variants.NativeHistogram a) kept = absurd kept
 
+stands-kept : (kind : DistributionKind) (samples : List Sample) (d : Distribution) → Keeps kind samples d → (NeverFall samples → StandsFor kind samples d)
+    → AreInTurn kind samples → StandsFor kind samples d
+unfolding Keeps
+stands-kept (Summary summary) samples d kept stands rising = stands rising
+stands-kept (Histogram bounds) samples (variants.Histogram histogram) kept stands rising = kept
+stands-kept (Histogram bounds) samples (variants.Summary a b c) kept stands rising = kept
+stands-kept (Histogram bounds) samples (variants.NativeHistogram a) kept stands rising = kept
+stands-kept (NativeHistogram config) samples (variants.NativeHistogram histogram) kept stands rising = kept
+stands-kept (NativeHistogram config) samples (variants.Summary a b c) kept stands rising = kept
+stands-kept (NativeHistogram config) samples (variants.Histogram a) kept stands rising = kept
+
 module _ {kind : DistributionKind} {es : List TimedEntry} {d : Distribution} (has : HasRecorded kind es d) where
   keeps-recorded : Keeps kind (samples_of_entries es) d
   keeps-recorded = keeps-all kind [] has.start d es (keeps-none kind has.start has.empty) has.records
@@ -144,9 +155,9 @@ module _ {kind : DistributionKind} {es : List TimedEntry} {d : Distribution} (ha
   pub recorded-count : count_of d ≡ in_64_bits (length (samples_of_entries es))
   recorded-count = count-kept kind (samples_of_entries es) d keeps-recorded
 
-  -- it stands for them where their moments never fall
-  pub recorded-stands : NeverFall (samples_of_entries es) → StandsFor kind (samples_of_entries es) d
-  recorded-stands rising = has.stands kind [] has.empty rising
+  -- it stands for them where a summary's moments never fall
+  pub recorded-stands : AreInTurn kind (samples_of_entries es) → StandsFor kind (samples_of_entries es) d
+  recorded-stands rising = stands-kept kind (samples_of_entries es) d keeps-recorded (has.stands kind [] has.empty) rising
 
   -- one more entry was recorded
   pub recorded-more : (e : TimedEntry) (new : Distribution) → RecordsEntry d e new → StandsForMore d (samples_of_entry e) new → HasRecorded kind (es ++ e ∷ []) new

@@ -2,4 +2,5 @@ mod Held
 mod Taken
 mod Kept
 mod Drained
+mod Windows
 mod Shown

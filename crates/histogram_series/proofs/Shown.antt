@@ -15,8 +15,11 @@ use Rattle.rolling_summaries.proofs.Held.{snapshot-window}
 use Rattle.distributions.specs.declared.distribution.Distribution.TheVariants as variants
 use Rattle.distributions.specs.Kinds.{NativeHistogram, Histogram, Summary, SummaryText}
 use Rattle.distributions.specs.Recording.{StandsFor, values_of}
-use Rattle.histogram_series.specs.Rows.{RowMaker, bucket_row, value_row, quantile_row, last_bucket_row, sum_and_count_rows, shown_rows, sample_rows, ShowsSamples}
-use Rattle.histogram_series.proofs.Kept.{values-length}
+use Rattle.histogram_series.specs.Entries.{TimedEntry, samples_of_entries}
+use Rattle.histogram_series.specs.Series.{HasRecorded}
+use Rattle.histogram_series.specs.Rows.{RowMaker, bucket_row, value_row, quantile_row, last_bucket_row, sum_and_count_rows, shown_rows, sample_rows, recorded_rows, ShowsSamples, ShowsRecorded}
+use Rattle.histogram_series.proofs.Kept.{values-length, recorded-stands, recorded-count}
+use Rattle.histogram_series.proofs.Windows.{summary-recorded}
 
 module _ (row : RowMaker) (t : ℕ) where
   bucket_rows : (values bounds : List ℤ) → map (λ (bucket : ℤ × ℕ). bucket_row row bucket.0 bucket.1) (map (λ bound. (bound, bucket_count bound values)) bounds) ≡ map (λ bound. bucket_row row bound (bucket_count bound values)) bounds
@@ -58,3 +61,23 @@ shows row t (Summary summary) samples (variants.Histogram a) stands before = abs
 shows row t (Summary summary) samples (variants.NativeHistogram a) stands before = absurd stands
 shows row t (NativeHistogram config) samples (variants.Histogram a) stands before = absurd stands
 shows row t (NativeHistogram config) samples (variants.Summary a b c) stands before = absurd stands
+
+module _ (row : RowMaker) (t : ℕ) where
+  summary_recorded : (built : SummaryText) (es : List TimedEntry) (w : windows.Summary) (quantiles : Arc (Vec ℕ Global) Global) (sum : ℤ) → HasRecorded (Summary built) es (variants.Summary w quantiles sum)
+      → shown_rows row t (variants.Summary w quantiles sum) ≡ recorded_rows row t (Summary built) es
+  summary_recorded built es w quantiles sum has =
+      let kept = summary-recorded built es (variants.Summary w quantiles sum) has in
+      let samples = samples_of_entries es in
+      let count : w.count ≡ sample_count (values_of samples) = recorded-count has ∙ ap in_64_bits (sym (values-length samples)) in
+      λ i. map (value_row row (snapshot_at t (kept.0 i))) (kept.1 i) ++ sum_and_count_rows row (kept.2 i) (count i)
+
+pub shows_recorded : ShowsRecorded
+shows_recorded row t (Histogram bounds) es (variants.Histogram h) has = histogram_shows row t bounds (samples_of_entries es) h (recorded-stands has tt)
+shows_recorded row t (Summary built) es (variants.Summary w quantiles sum) has = summary_recorded row t built es w quantiles sum has
+shows_recorded row t (NativeHistogram config) es (variants.NativeHistogram h) has = refl
+shows_recorded row t (Histogram bounds) es (variants.Summary a b c) has = absurd (recorded-stands has tt)
+shows_recorded row t (Histogram bounds) es (variants.NativeHistogram a) has = absurd (recorded-stands has tt)
+shows_recorded row t (Summary built) es (variants.Histogram a) has = absurd (summary-recorded built es (variants.Histogram a) has)
+shows_recorded row t (Summary built) es (variants.NativeHistogram a) has = absurd (summary-recorded built es (variants.NativeHistogram a) has)
+shows_recorded row t (NativeHistogram config) es (variants.Histogram a) has = absurd (recorded-stands has tt)
+shows_recorded row t (NativeHistogram config) es (variants.Summary a b c) has = absurd (recorded-stands has tt)

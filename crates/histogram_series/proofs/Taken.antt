@@ -6,9 +6,10 @@ use Rattle.legal_history.specs.declared.history.View.{View}
 use Rattle.legal_history.specs.History.{calls, calls_by, said}
 use Rattle.legal_history.proofs.Lists.{calls-append, none_added}
 use Rattle.sample_queue.specs.declared.calls.QueueCall.TheVariants.{Pop}
-use Rattle.sample_queue.specs.Queues.{pushed, popped}
+use Rattle.sample_queue.specs.Queues.{FoundEmpty, OthersPush, pushed, popped}
 use Rattle.histogram_series.specs.Entries.{TimedCall, TimedEntry, held_after, queued, entries_known}
-use Rattle.histogram_series.specs.Drains.{TakesOne, TakesOut, FoundEmpty, OthersPush, Grows}
+use Rattle.histogram_series.specs.Drains.{TakesOne, TakesOut, Grows}
+use Rattle.sample_queue.proofs.TakenAll.{holds_none}
 use Rattle.histogram_series.proofs.Held.{held-runs, held-append, popped-append, pushed-append, held-pushes, others-parts}
 
 abbrev pub Home : View TimedCall → Type 0
@@ -86,7 +87,6 @@ out-home v w (e ∷ out) home taken =
     let rest = out-home taken.0 w out one.0 taken.2 in
     (rest.0, rest.1 ∙ one.1)
 
--- and a queue that was found empty holds nothing
-pub empty-home : (v : View TimedCall) → Home v → FoundEmpty v → queued v ≡ []
-empty-home v home told =
-    ap (λ log. held_after [] (calls log)) (sym (told.1.whole home.0 home.1).0) ∙ held-runs [] (calls told.0) [] told.2
+-- nothing is left of what the pass has seen of a queue that it found empty
+pub empty-none : (v : View TimedCall) → FoundEmpty v → queued v ≡ []
+empty-none v empty = held-runs [] (calls v.seen) [] (holds_none v empty)

@@ -1,12 +1,11 @@
 -- What a drain does: it takes entries out of the queue and records them.
-use Rattle.std.specs.Prelude.{◌≡◌, ℕ, List, [], ◌∷◌, ◌++◌, Some, None, ⊤}
+use Rattle.std.specs.Prelude.{◌≡◌, List, ◌++◌, Some, None}
 use Rattle.std.specs.List.{FoldsTo}
 use Rattle.legal_history.specs.declared.history.Entry.{Entry}
 use Rattle.legal_history.specs.declared.history.View.{View}
 use Rattle.legal_history.specs.History.{calls}
-use Rattle.legal_history.specs.Object.{Told}
-use Rattle.sample_queue.specs.declared.calls.QueueCall.TheVariants.{Push, Pop}
-use Rattle.sample_queue.specs.Queues.{QueueStep, Called, pushed}
+use Rattle.sample_queue.specs.declared.calls.QueueCall.TheVariants.{Pop}
+use Rattle.sample_queue.specs.Queues.{Called, OthersPush, pushed}
 use Rattle.histogram_series.specs.Entries.{TimedEntry, TimedCall, entries_known}
 use Rattle.histogram_series.specs.Series.{SampleSeries}
 
@@ -16,10 +15,6 @@ TakesOne v e w = Called (Pop e) v w
 
 abbrev pub TakesOut : View TimedCall → List TimedEntry → View TimedCall → Type 0
 TakesOut v es w = FoldsTo TakesOne v es w
-
--- the queue was empty at a moment at which it had all the calls that the pass has seen
-abbrev pub FoundEmpty : View TimedCall → Type 0
-FoundEmpty v = Told QueueStep [] v []
 
 -- the next entry was taken out, and waits
 abbrev pub TakesNext : SampleSeries → SampleSeries → Type 0
@@ -37,16 +32,6 @@ pub record Drains (s t : SampleSeries) : Type 0 where
   pub taken : TakesOut s.root out t.root
 
 -- ---- how the entries grow beside other passes
-
--- a call is a push, or of the pass with this number
-abbrev pub PushOrOwn : ℕ → ℕ → TimedCall → Type 0
-PushOrOwn own by (Push e) = ⊤
-PushOrOwn own by (Pop e) = by ≡ own
-
--- the other passes made no calls but pushes
-abbrev pub OthersPush : ℕ → List (Entry TimedCall) → Type 0
-OthersPush own [] = ⊤
-OthersPush own (e ∷ es) = PushOrOwn own e.by e.call × OthersPush own es
 
 -- The history grew. Where the other passes made no calls but pushes, the entries grew by what they pushed, at the end.
 abbrev pub Grows : View TimedCall → View TimedCall → Type 0

@@ -10,6 +10,7 @@ use Rattle.sample_queue.specs.declared.calls.QueueCall.TheVariants.{Push, Pop}
 use Rattle.sample_queue.specs.declared.queue.SampleQueue.{SampleQueue}
 use Rattle.sample_queue.specs.Queues.{Calls, Entries, popped}
 use Rattle.rolling_summaries.specs.Window.{Sample}
+use Rattle.rolling_summaries.specs.Standing.{Addition}
 use Rattle.distributions.specs.Recording.{sample_of}
 
 -- an entry: a value with its moment, and how many samples it stands for; a call on the queue; the queue itself
@@ -28,6 +29,10 @@ samples_of_entry e = replicate e.count (sample_of e.item)
 
 abbrev pub samples_of_entries : List TimedEntry → List Sample
 samples_of_entries es = flat_map samples_of_entry es
+
+-- what an entry adds to a rolling summary
+abbrev pub addition_of : TimedEntry → Addition
+addition_of e = record { value = e.item.0.0; moment = e.item.1; samples = e.count }
 
 -- the calls on a histogram that entries come from, in order
 abbrev pub record_of : TimedEntry → Call

@@ -3,10 +3,9 @@ use Rattle.std.specs.Prelude.{◌≡◌, [], List, ◌++◌}
 use Rattle.legal_history.specs.declared.history.Entry.{Entry}
 use Rattle.legal_history.specs.declared.history.View.{View}
 use Rattle.legal_history.specs.History.{calls, calls_by}
-use Rattle.sample_queue.specs.Queues.{Calls, Entries, Leaves, pushed}
+use Rattle.sample_queue.specs.Queues.{Calls, Entries, Leaves, pushed, OthersPush}
 use Rattle.rolling_summaries.specs.Window.{timed_samples}
 use Rattle.histogram_series.specs.Entries.{TimedCall, TimedEntry, held_after, entries_known, records_of, samples_of_entries}
-use Rattle.histogram_series.specs.Drains.{OthersPush}
 
 -- what stands in a queue is what a queue of one thread holds after the calls
 abbrev pub HeldIsLeft : Type 0 → Type 0

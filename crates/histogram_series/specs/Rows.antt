@@ -6,17 +6,23 @@ use Rattle.metrics_core.specs.Keys.{LabelText}
 use Rattle.metrics_registry.specs.Quantiles.{nearest_rank}
 use Rattle.metrics_registry.specs.Cumulative.{bucket_count, sample_count, sample_sum}
 use Rattle.rolling_summaries.specs.Window.{Sample, window}
-use Rattle.rolling_summaries.specs.Summaries.{snapshot_at}
-use Rattle.rolling_summaries.specs.Standing.{NoneAfter}
+use Rattle.rolling_summaries.specs.Summaries.{empty_summary, snapshot_at}
+use Rattle.rolling_summaries.specs.Standing.{NoneAfter, added_all}
 use Rattle.prom_format.specs.Pages.{Row}
 use Rattle.distributions.specs.declared.distribution.Distribution.{Distribution}
 use Rattle.distributions.specs.declared.distribution.Distribution.TheVariants as variants
-use Rattle.distributions.specs.Kinds.{DistributionKind, NativeHistogram, Histogram, Summary}
+use Rattle.distributions.specs.Kinds.{DistributionKind, NativeHistogram, Histogram, Summary, SummaryText}
 use Rattle.distributions.specs.Recording.{StandsFor, values_of}
+use Rattle.histogram_series.specs.Entries.{TimedEntry, addition_of, samples_of_entries}
+use Rattle.histogram_series.specs.Series.{HasRecorded}
 
 -- a row of a series, from its suffix, the labels behind those of the series, and its value
 abbrev pub RowMaker : Type 0
 RowMaker = Option (List ℕ) → List LabelText → ℤ → Row
+
+-- the values that a rolling summary has in its window at a moment after these entries were added in turn, whatever their moments
+abbrev pub kept_values : ℕ → SummaryText → List TimedEntry → List ℤ
+kept_values t built es = snapshot_at t (added_all (empty_summary built.bucket_count built.bucket_duration) (map addition_of es))
 
 module _ (row : RowMaker) where
   -- the number of samples at most a bound; the number of all samples; their sum; the value at a quantile
@@ -47,19 +53,34 @@ module _ (row : RowMaker) where
       ++ sum_and_count_rows sum window.count
   shown_rows t (variants.NativeHistogram histogram) = []
 
-  -- the rows of samples by their kind of distribution
-  abbrev pub sample_rows : ℕ → DistributionKind → List Sample → List Row
-  sample_rows t (Histogram bounds) samples =
+  -- the rows of samples by their kind of distribution, where this is answered of the window of a summary that was built so
+  abbrev pub rows_by : (SummaryText → List ℤ) → DistributionKind → List Sample → List Row
+  rows_by windows (Histogram bounds) samples =
       map (λ bound. bucket_row bound (bucket_count bound (values_of samples))) bounds
       ++ last_bucket_row (sample_count (values_of samples))
       ∷ sum_and_count_rows (sample_sum (values_of samples)) (sample_count (values_of samples))
-  sample_rows t (Summary summary) samples =
-      map (value_row (window summary.bucket_duration (summary.bucket_count * summary.bucket_duration) t samples)) summary.quantiles
+  rows_by windows (Summary built) samples =
+      map (value_row (windows built)) built.quantiles
       ++ sum_and_count_rows (sample_sum (values_of samples)) (sample_count (values_of samples))
-  sample_rows t (NativeHistogram config) samples = []
+  rows_by windows (NativeHistogram config) samples = []
+
+  -- the rows of samples, where the window has those that are in it by their moments
+  abbrev pub sample_rows : ℕ → DistributionKind → List Sample → List Row
+  sample_rows t kind samples =
+      rows_by (λ built. window built.bucket_duration (built.bucket_count * built.bucket_duration) t samples) kind samples
+
+  -- the rows of entries that were recorded in turn, whatever their moments
+  abbrev pub recorded_rows : ℕ → DistributionKind → List TimedEntry → List Row
+  recorded_rows t kind es = rows_by (λ built. kept_values t built es) kind (samples_of_entries es)
 
 -- a distribution that stands for samples, none of them after a moment, shows their rows at that moment
 abbrev pub ShowsSamples : Type 0
 ShowsSamples =
     (row : RowMaker) (t : ℕ) (kind : DistributionKind) (samples : List Sample) (distribution : Distribution)
     → StandsFor kind samples distribution → NoneAfter t samples → shown_rows row t distribution ≡ sample_rows row t kind samples
+
+-- a distribution that has entries recorded shows their rows at any moment
+abbrev pub ShowsRecorded : Type 0
+ShowsRecorded =
+    (row : RowMaker) (t : ℕ) (kind : DistributionKind) (es : List TimedEntry) (distribution : Distribution)
+    → HasRecorded kind es distribution → shown_rows row t distribution ≡ recorded_rows row t kind es

@@ -1,11 +1,12 @@
 -- A histogram series as an exporter keeps it, and where its samples are.
-use Rattle.std.specs.Prelude.{◌≡◌, ◌-◌, List, [], map, take, length, Option, Some, None}
+use Rattle.std.specs.Prelude.{◌≡◌, ◌-◌, ⊤, List, [], map, take, length, Option, Some, None}
 use Rattle.std.specs.List.{FoldsTo}
 use Rattle.std.specs.Arc.{arc_value}
 use Rattle.legal_history.specs.declared.history.View.{View}
 use Rattle.legal_history.specs.History.{first, lender, taker}
 use Rattle.sample_queue.specs.Queues.{popped}
 use Rattle.rolling_summaries.specs.Window.{Sample}
+use Rattle.rolling_summaries.specs.Standing.{NeverFall}
 use Rattle.distributions.specs.declared.distribution.Distribution.{Distribution}
 use Rattle.distributions.specs.declared.distribution.Distribution.TheVariants as variants
 use Rattle.distributions.specs.Kinds.{DistributionKind, NativeHistogram, Histogram, Summary}
@@ -66,6 +67,12 @@ kind_of (variants.NativeHistogram histogram) = NativeHistogram histogram.config
 -- an entry was recorded
 abbrev pub RecordsEntry : Distribution → TimedEntry → Distribution → Type 0
 RecordsEntry old e new = RecordsTimes old (sample_of e.item) e.count new
+
+-- whether a distribution of a kind stands for the samples that were recorded may hang on their moments: a summary's are never to fall
+abbrev pub AreInTurn : DistributionKind → List Sample → Type 0
+AreInTurn (Summary summary) samples = NeverFall samples
+AreInTurn (Histogram bounds) samples = ⊤
+AreInTurn (NativeHistogram config) samples = ⊤
 
 -- A distribution has these entries recorded: it came from one of no samples by recording them in turn. Where moments never fall,
 -- it stands for their samples.

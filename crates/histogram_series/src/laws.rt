@@ -1,7 +1,7 @@
 //! Laws of histogram series.
 
 ghost use Rattle.histogram_series.specs.Growth.{HeldIsLeft, PushesStandBehind, CallsTellSamples};
-ghost use Rattle.histogram_series.specs.Rows.{ShowsSamples};
+ghost use Rattle.histogram_series.specs.Rows.{ShowsSamples, ShowsRecorded};
 
 /// What a series knows to stand in its queue is what a queue of one thread holds after the same calls.
 pub fn held_is_left<T>()
@@ -21,4 +21,9 @@ pub fn calls_tell_samples()
 /// A distribution shows the rows of the samples that it stands for.
 pub fn distributions_show_samples()
     ensures { ShowsSamples }
+{}
+
+/// A distribution shows the rows of what was recorded in it, whatever the moments.
+pub fn distributions_show_what_is_recorded()
+    ensures { ShowsRecorded }
 {}

@@ -4,9 +4,9 @@ ghost use Rattle.std.specs.Prelude.{◌≡◌, [], length, None, IfOk, OnOk, OnE
 ghost use Rattle.std.specs.Bool.{OnTrue, OnFalse};
 ghost use Rattle.std.specs.Arc.{arc_value};
 ghost use Rattle.metrics_core.specs.Numbers.{in_64_bits};
-ghost use Rattle.legal_history.specs.History.{child, Settled};
+ghost use Rattle.legal_history.specs.History.{calls, child, Settled};
 ghost use Rattle.sample_queue.specs.Passes.{IsSamplePass, view_of};
-ghost use Rattle.rolling_summaries.specs.Standing.{NeverFall};
+ghost use Rattle.sample_queue.specs.Queues.{FoundEmpty, pushed};
 ghost use Rattle.distributions.specs.Kinds.{DistributionKind};
 ghost use Rattle.distributions.specs.Recording.{StandsFor};
 ghost use Rattle.histogram_series.specs.Entries.{queued};
@@ -18,9 +18,11 @@ ghost use Rattle.histogram_series.specs.Series.{
   entries,
   recorded,
   recorded_samples,
+  kind_of,
+  AreInTurn,
   HasRecorded,
 };
-ghost use Rattle.histogram_series.specs.Drains.{FoundEmpty, TakesNext, with_none_waiting, Drains, Grows};
+ghost use Rattle.histogram_series.specs.Drains.{TakesNext, with_none_waiting, Drains, Grows};
 
 use cell_lanes::{Lender, LentCell, OwnedCell};
 use distributions::Distribution;
@@ -126,10 +128,13 @@ impl HistogramSeries {
         ensures none_waits { OnOk result (self.new.stray ≡ None) }
         ensures found_empty { OnOk result (FoundEmpty self.new.root) }
 
+        // After a drain that was not refused, all that the series' own pass has seen pushed is recorded.
+        ensures all_seen { OnOk result (recorded self.new ≡ pushed (calls self.new.root.seen)) }
+        ensures emptied { OnOk result (queued self.new.root ≡ []) }
+
         // Where no pass is out, no entry is lost and none comes; after a drain that was not refused all are recorded.
         ensures same_entries { IsHome self.old → entries self.new ≡ entries self.old }
         ensures all_recorded { OnOk result (IsHome self.old → recorded self.new ≡ entries self.old) }
-        ensures emptied { OnOk result (IsHome self.old → queued self.new.root ≡ []) }
     {
         self.record_stray(alloc)?;
         for _ in rt.forever() {
@@ -175,7 +180,8 @@ impl HistogramSeries {
     /// What the series keeps of the samples that were recorded so far.
     pub fn distribution(&self) -> &Distribution
         ensures recorded { HasRecorded self.now.kind (recorded self.now) result.now }
-        ensures stands { NeverFall (recorded_samples self.now) → StandsFor self.now.kind (recorded_samples self.now) result.now }
+        ensures kind { kind_of result.now ≡ self.now.kind }
+        ensures stands { AreInTurn self.now.kind (recorded_samples self.now) → StandsFor self.now.kind (recorded_samples self.now) result.now }
     {
         &self.distribution
     }

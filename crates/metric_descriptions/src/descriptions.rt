@@ -110,7 +110,7 @@ impl Descriptions {
         }
     }
 
-    /// A reader that was told of the last publish. `NoPlace` where no place is left for one.
+    /// A reader that was told of the last publish. `NoPlace` where no place was found for it, else `Memory`.
     pub fn reader<R: Wait>(
         &mut self,
         rt: &R,

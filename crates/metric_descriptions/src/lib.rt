@@ -10,7 +10,5 @@
 #![tactic(auto)]
 
 mod descriptions;
-#[cfg(test)]
-mod tests;
 
 pub use descriptions::{Described, DescriptionReader, Descriptions};

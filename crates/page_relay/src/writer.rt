@@ -1,6 +1,6 @@
 //! The writer of pages (Prometheus text exposition format, "Line format").
 
-ghost use Rattle.std.specs.Prelude.{◌≡◌, ◌++◌, All, map, string_bytes, IfErr, IfOk, OnErr, OnOk};
+ghost use Rattle.std.specs.Prelude.{◌≡◌, ◌++◌, All, map, string_bytes, Err, IfErr, IfOk, OnErr, OnOk};
 ghost use Rattle.std.specs.Option.{option_map};
 ghost use Rattle.metrics_core.specs.Outside.{GrewBy, GrewByPrefix};
 ghost use Rattle.prom_format.specs.Pages.{IsPage, IsPrintable, block_text, help_text, label_set_text, label_text, page_text, row_text, type_line_text};
@@ -13,14 +13,15 @@ use metrics_core::{Memory, Sink, write_whole};
 use prom_format::push_fixed;
 use std::alloc::Global;
 
-/// Writes a page, which can stand in a stream. Where the sink fails, a prefix of the page was written, and nothing where
-/// memory is refused.
+/// Writes a page, which can stand in a stream. Where the sink fails, a prefix of the page was written. Where memory is refused the
+/// sink wasn't used.
 pub fn write_page<K: Sink>(alloc: Global, page: &Page, sink: &mut K) -> Result<(), RelayFault>
     requires { All IsPrintable (families_of page.now) }
     ensures written { OnOk result (GrewBy (K.written sink.old) (K.written sink.new)
         (page_text (families_of page.now))) }
     ensures page { IsPage (page_text (families_of page.now)) (families_of page.now) }
     ensures refused { IfErr result (IsWritingFault (K.faults sink.old) (K.faults sink.new)) }
+    ensures memory { result ≡ Err RelayFault.Memory → sink.new ≡ sink.old }
     ensures prefix { OnErr result (GrewByPrefix (K.written sink.old) (K.written sink.new)
         (page_text (families_of page.now))) }
 {

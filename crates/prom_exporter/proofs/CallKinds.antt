@@ -1,5 +1,5 @@
 -- A call of the kind of the cell that it is on stands in the history as its entries.
-use Rattle.std.proofs.Common.{◌≡◌, ℕ, List, [], ◌∷◌, map, Option, refl, ap, ◌∙◌}
+use Rattle.std.proofs.Common.{◌≡◌, ℕ, map, Option, refl, ap, ◌∙◌}
 use Rattle.legal_history.specs.declared.history.View.{View}
 use Rattle.legal_history.specs.Mapped.{mapped_view}
 use Rattle.cell_lanes.specs.Calls.{Made}
@@ -17,7 +17,6 @@ use Rattle.histogram_series.specs.Entries.{TimedCall, TimedQueue}
 use Rattle.prom_exporter.specs.declared.lanes.LanePass.TheVariants as passes
 use Rattle.prom_exporter.specs.declared.lanes.SeriesCell.{SeriesCell}
 use Rattle.prom_exporter.specs.declared.lanes.SeriesCell.TheVariants as cells
-use Rattle.prom_exporter.specs.declared.lanes.SeriesEntry.{SeriesEntry}
 use Rattle.prom_exporter.specs.declared.lanes.SeriesEntry.TheVariants as entry
 use Rattle.prom_exporter.specs.LanePasses.{IsPassOf, TakesCall, StandsAsEntries, entries_made, pushes_asked}
 

@@ -56,7 +56,7 @@ module _ (K V M P S L H : RattleType) (hash : Hash.Ghosts K.Denot) (eq : Partial
   -- a copy of a map
   pub store-send : IsSend K → IsSync K → IsSend V → IsSync V → IsSend M → IsSync M → IsSend S → IsSync S → IsSend (Store.the_row K V M P S L H hash eq whole same hashes build hasher)
   store-send ks ky vs vy ms my ss sy =
-      declared_send (Store.the_type K V M P S L H hash eq whole same hashes build hasher) (search (sendable, crosses, inner.the_send) depth 20, (search (sendable, crosses) depth 20, (search (sendable, crosses) depth 20, tt)))
+      declared_send (Store.the_type K V M P S L H hash eq whole same hashes build hasher) (search (sendable, crosses, inner.the_send) depth 20, (search (sendable, crosses) depth 20, (search (sendable, crosses) depth 20, (search (sendable, crosses) depth 20, tt))))
 
 module _ (K V M P S L H X : RattleType) (key : Key.Ghosts K.Denot L.Denot) (hash : Hash.Ghosts K.Denot) (eq : PartialEq.Ghosts K.Denot) (same : PartialEq.Ghosts V.Denot) (hashes : Hash.Ghosts V.Denot) (keep : Keep.Ghosts P.Denot V.Denot)
     (build : Build.Ghosts S.Denot H.Denot) (hasher : Hasher.Ghosts H.Denot) (absorb : Absorb.Ghosts (declared.Store K.Denot V.Denot M.Denot P.Denot S.Denot L.Denot H.Denot) (Write K.Denot (Arc V.Denot Global) (Arc M.Denot Global) P.Denot) X.Denot)

@@ -1,5 +1,5 @@
 -- Cells of which no pass is out: what the exporter sees of them is the whole history.
-use Rattle.std.proofs.Common.{◌≡◌, List, [], ◌∷◌, ◌++◌, refl, sym, ap, subst, ◌∙◌, inl, inr, arith}
+use Rattle.std.proofs.Common.{◌≡◌, ℕ, ◌%◌, ◌^◌, length, List, [], ◌∷◌, ◌++◌, refl, sym, ap, subst, ◌∙◌, inl, inr, arith}
 use Rattle.std.specs.Prelude.{All}
 use Rattle.std.proofs.lemmas.List.Elements.{All-nil, All-cons, All-append}
 use Rattle.legal_history.specs.declared.history.View.{View}
@@ -12,7 +12,7 @@ use Rattle.metrics_core.specs.Keys.{KeyText}
 use Rattle.metrics_core.specs.declared.kinds.SeriesId.{SeriesId}
 use Rattle.metrics_registry.specs.Live.{LiveSeries}
 use Rattle.metrics_core.specs.declared.calls.SeriesCall.{SeriesCall}
-use Rattle.prom_exporter.specs.Shared.{Shared, IsHome, unused, Looks, TakesBack}
+use Rattle.prom_exporter.specs.Shared.{Shared, IsHome, unused, Counts, Looks, TakesBack}
 use Rattle.metrics_core.specs.declared.kinds.MetricKind.TheVariants.{Counter, Gauge, Histogram}
 use Rattle.prom_format.specs.Names.{sanitized_metric_name}
 use Rattle.prom_exporter.specs.Families.{ExporterSettings, distribution_of}
@@ -39,6 +39,28 @@ module _ {F : Type 0} where
 
   pub looks-home : (s t : Shared F) → IsHome s → Looks s t → t ≡ s
   looks-home s t home looks = looks.2 ∙ ap (λ log. record s { root = looked s.root log }) (looks.1.whole home.0 home.1).0
+
+-- where no pass is out, what is counted is the number of all calls, and nothing is seen that was not seen before
+module _ {F : Type 0} (s t : Shared F) (n : ℕ) (home : IsHome s) (counts : Counts s n t) where
+  log_whole : counts.1.2.0 ≡ s.root.seen
+  log_whole = (counts.1.2.1.whole home.0 home.1).0
+
+  counted_same : counts.0 ≡ s.root
+  counted_same = counts.1.2.4 ∙ ap (looked s.root) log_whole
+
+  pub counts-home : t ≡ s
+  counts-home =
+      let same : record s { root = counts.0 } ≡ s = ap (λ root. record s { root = root }) counted_same in
+      looks-home s t home (subst (λ (u : Shared F). Looks u t) same counts.2)
+
+  pub counts-all : n ≡ length s.root.seen % 2 ^ 64
+  counts-all =
+      let count : ℕ = counts.1.0 in
+      let long : length counts.1.2.0 ≡ length s.root.seen = ap length log_whole in
+      let least = counts.1.2.3 home.0 in
+      let most = counts.1.2.2 in
+      let all : count ≡ length s.root.seen = omega (arith, home.1, long, least, most) in
+      counts.1.1 ∙ ap (λ m. m % 2 ^ 64) all
 
 -- a new cell has no pass out
 pub unused-home : {F : Type 0} (es : List (LiveSeries (Shared F))) (e : LiveSeries (Shared F)) (cell : F) → e.cell ≡ unused cell → All (λ (s : LiveSeries (Shared F)). IsHome s.cell) es → All (λ (s : LiveSeries (Shared F)). IsHome s.cell) (es ++ e ∷ [])

@@ -1,7 +1,7 @@
 -- What the exporter keeps for its rows stays where a series gets another cell.
 use Rattle.std.proofs.Common.{◌≡◌, ℕ, zero, suc, List, [], ◌∷◌, length, take, refl, sym, ap, ◌∙◌, Some}
-use Rattle.std.specs.Prelude.{All, option_map, slice_get}
-use Rattle.std.proofs.lemmas.List.Elements.{All-nil, All-cons, All-head, All-tail}
+use Rattle.std.specs.Prelude.{option_map, slice_get}
+use Rattle.std.proofs.lemmas.List.Elements.{All-cons, All-head, All-tail}
 use Rattle.std.proofs.lemmas.Option.{same_Some}
 use Rattle.metrics_core.specs.Keys.{LabelText}
 use Rattle.metrics_registry.specs.Live.{LiveSeries}

@@ -12,9 +12,9 @@ use Rattle.metrics_core.specs.Kinds.{kind_eq}
 use Rattle.metrics_registry.specs.Live.{LiveSeries, IsBelowAll, Rises, AreOf, IsNumbered}
 use Rattle.prom_exporter.specs.Sampled.{Sampled}
 use Rattle.prom_exporter.specs.Exporter.{Exporter, SharedCounter, SharedGauge}
-use Rattle.prom_exporter.specs.LanePasses.{counter_thing, gauge_thing, histogram_thing, things_of, ids_of}
-use Rattle.prom_exporter.specs.LaneIndices.{gauge_index, histogram_index, HasIndex, HaveIndices, HaveOneIndex, IsOfOneKind, CounterHas, GaugeHas, HistogramHas}
-use Rattle.prom_exporter.proofs.LaneThings.{SeriesThing, at_behind}
+use Rattle.prom_exporter.specs.LanePasses.{counter_thing, gauge_thing, histogram_thing, ids_of}
+use Rattle.prom_exporter.specs.LaneIndices.{gauge_index, histogram_index, HasIndex, HaveIndices, HaveOneIndex, IsOfOneKind}
+use Rattle.prom_exporter.proofs.LaneThings.{at_behind}
 
 -- ---- lists, one behind the other
 

@@ -1,5 +1,5 @@
 -- What a round of lanes leaves of counters, gauges and histograms.
-use Rattle.std.proofs.Common.{◌≡◌, ℕ, zero, suc, ◌+◌, ◌<◌, ◌==◌, Bool, true, false, cond, List, [], ◌∷◌, ◌++◌, length, map, refl, sym, ap, subst, ◌∙◌, inl, inr, ⊎_elim, arith, append_assoc, drop}
+use Rattle.std.proofs.Common.{◌≡◌, ℕ, zero, suc, ◌+◌, ◌<◌, true, cond, List, [], ◌∷◌, ◌++◌, length, map, refl, sym, ap, subst, ◌∙◌, ⊎_elim, arith, append_assoc, drop}
 use Rattle.std.specs.Prelude.{Option, Some, None, IfSome, filter, flat_map, slice_index}
 use Rattle.std.specs.List.{AllByRecursion}
 use Rattle.std.proofs.lemmas.Bool.{cases_eq, eq-eqb, ne_eqb}
@@ -11,12 +11,12 @@ use Rattle.atomic_table.proofs.Lists.{at_map}
 use Rattle.legal_history.proofs.Steps.{one_at}
 use Rattle.legal_history.specs.declared.history.View.{View}
 use Rattle.legal_history.specs.History.{calls, keep}
-use Rattle.legal_history.specs.Order.{taken, IsOrder, GrewInOrder}
+use Rattle.legal_history.specs.Order.{taken, GrewInOrder}
 use Rattle.legal_history.specs.Mapped.{IsOneToOne, mapped_view}
 use Rattle.legal_history.proofs.Mapped.{taken-mapped, is_order-back}
 use Rattle.cell_lanes.specs.declared.lane.Line.{Line}
 use Rattle.cell_lanes.specs.declared.lane.Lane.{Lane}
-use Rattle.cell_lanes.specs.Things.{Thing, root_of}
+use Rattle.cell_lanes.specs.Things.{root_of}
 use Rattle.cell_lanes.specs.Lanes.{AllFit, LineFit, all_calls_on, calls_on, cell_calls, is_on}
 use Rattle.cell_lanes.proofs.Jobs.{all_calls}
 use Rattle.cell_lanes.proofs.Mapped.{StandsAsImages, grew_own}
@@ -30,8 +30,7 @@ use Rattle.series_cells.specs.declared.gauge.PromGauge.{PromGauge}
 use Rattle.sample_queue.specs.declared.calls.QueueCall.TheVariants.{Push, Pop}
 use Rattle.sample_queue.specs.Queues.{entry_of, popped}
 use Rattle.sample_queue.specs.Series.{sample_of_call}
-use Rattle.histogram_series.specs.Entries.{TimedCall, TimedEntry, TimedQueue, held_after, queued, record_of, records_of}
-use Rattle.prom_exporter.specs.declared.lanes.SeriesCell.{SeriesCell}
+use Rattle.histogram_series.specs.Entries.{TimedCall, TimedEntry, held_after, record_of, records_of}
 use Rattle.prom_exporter.specs.declared.lanes.SeriesCell.TheVariants as cells
 use Rattle.prom_exporter.specs.declared.lanes.SeriesEntry.{SeriesEntry}
 use Rattle.prom_exporter.specs.declared.lanes.SeriesEntry.TheVariants as entry
@@ -39,7 +38,7 @@ use Rattle.prom_exporter.specs.Sampled.{Sampled, calls_known}
 use Rattle.prom_exporter.specs.Exporter.{Exporter}
 use Rattle.prom_exporter.specs.LanePasses.{TakesCall, StandsAsEntries, counter_thing, gauge_thing, histogram_thing, entries_made, pushes_asked, things_of, unseen, unheard_series}
 use Rattle.prom_exporter.specs.LaneIndices.{gauge_index, histogram_index}
-use Rattle.prom_exporter.specs.LaneRounds.{IsRound, GrewByRecords, LeavesRecords, LeavesValues, records_on, records_some}
+use Rattle.prom_exporter.specs.LaneRounds.{IsRound, GrewByRecords, LeavesRecords, LeavesValues, records_some}
 use Rattle.prom_exporter.proofs.LaneIndices.{counter_has, gauge_has, histogram_has}
 use Rattle.prom_exporter.proofs.CallKinds.{histogram_entries}
 use Rattle.prom_exporter.proofs.LaneThings.{SeriesThing}

@@ -9,7 +9,7 @@ use Rattle.std.proofs.lemmas.Option.{same_Some}
 use Rattle.std.proofs.lemmas.List.{length-map}
 use mathlib.Core.Option.{some, some-ne-none, some-injective}
 use lib.ListN.{get_elem?}
-use Rattle.atomic_table.proofs.Lists.{at_longer, at_map}
+use Rattle.atomic_table.proofs.Lists.{at_longer}
 use Rattle.legal_history.proofs.Steps.{one_at}
 use Rattle.legal_history.specs.declared.history.View.{View}
 use Rattle.legal_history.specs.History.{Settled, lender, child, taker, longer}
@@ -37,7 +37,7 @@ use Rattle.prom_exporter.specs.Shared.{Shared, Looks, TakesBack, Makes, unmade, 
 use Rattle.prom_exporter.specs.Sampled.{Sampled, with_pass_out}
 use Rattle.prom_exporter.specs.Exporter.{Exporter, AllHome, SharedCounter, SharedGauge}
 use Rattle.prom_exporter.proofs.Home.{looks-home}
-use Rattle.prom_exporter.specs.LanePasses.{IsPassOf, Lasts, lasts_on, of_counter, of_gauge, of_histogram, counter_thing, gauge_thing, histogram_thing, things_of, ids_of, pass_known, unseen, unheard, unheard_series, frame_of}
+use Rattle.prom_exporter.specs.LanePasses.{IsPassOf, Lasts, lasts_on, of_counter, of_gauge, of_histogram, counter_thing, gauge_thing, histogram_thing, things_of, ids_of, pass_known, unheard, frame_of}
 
 -- ---- lists, one behind the other
 

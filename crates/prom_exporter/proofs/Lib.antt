@@ -26,3 +26,8 @@ mod Titles
 pub mod ValuePages
 pub mod SampledRows
 pub mod SampledPages
+mod KeptBuckets
+pub mod KeptWindows
+mod Ranges
+mod InRange
+pub mod TimelyPages

@@ -31,18 +31,12 @@ module _ {R : Type 0} (value_of : List SeriesCall → R) where
     λ home. subst (λ (u : View SeriesCall). Sees u u.seen) (sym shows.3) (sees-looked v shows.0 shows.1),
   )
 
--- where series never fall idle a look is all
+-- where series never fall idle a look is all: it tells how many calls there are
 pub look_noted : {F : Type 0} (moment : ℕ) (kind : MetricKind) (s t : Shared F) → Looks s t → IsNoted None moment kind s true t
-look_noted {F} moment kind s t looks = record {
+look_noted moment kind s t (log, sees, is) = record {
   seen = t;
-  looks = looks;
-  count = length t.root.seen % 2 ^ 64;
-  counts = (
-    length t.root.seen,
-    refl,
-    (t.root.seen, subst (λ (x : Shared F). Sees x.root x.root.seen) (sym looks.2) (sees-looked s.root looks.0 looks.1), omega arith),
-    λ root home. refl,
-  );
+  count = length log % 2 ^ 64;
+  counts = (looked s.root log, (length log, refl, (log, sees, omega arith, (λ root. omega arith), refl)), (log, sees-looked s.root log sees, is));
   stays_is = refl;
   left = refl;
 }

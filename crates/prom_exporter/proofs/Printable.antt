@@ -15,7 +15,7 @@ use Rattle.prom_format.specs.declared.families.FamilyType.{FamilyType}
 use Rattle.prom_format.proofs.NameLaws.{sanitized_metric_name-is_name, sanitized_label_name-is_name, full_name-is_name}
 use Rattle.prom_format.proofs.PageText.{page_read}
 use Rattle.prom_exporter.specs.State.{Series, PrometheusState, live}
-use Rattle.prom_exporter.specs.Families.{ExporterSettings, families_at, family_of, row_of, one_label, shown_unit, counter_suffix, counter_rows, gauge_rows, histogram_rows, summary_rows, sum_and_count_rows, distinct, names_of_kind, series_named, distribution_of, distribution_family}
+use Rattle.prom_exporter.specs.Families.{ExporterSettings, Windows, families_by, family_of, row_of, one_label, shown_unit, counter_suffix, counter_rows, gauge_rows, histogram_rows, summary_rows, sum_and_count_rows, distinct, names_of_kind, series_named, distribution_of, distribution_family}
 use Rattle.distributions.specs.Kinds.{DistributionKind, NativeHistogram, Histogram, Summary}
 use Rattle.metrics_registry.specs.Quantiles.{clamped}
 
@@ -117,8 +117,8 @@ histogram_printable settings s bounds series = (
   some_behind _ _ _,
 )
 
-summary_printable : (settings : ExporterSettings) (s : PrometheusState) (t : ℕ) (series : Series) → AreRowsOf (summary_rows settings s t series)
-summary_printable settings s t series = (
+summary_printable : (settings : ExporterSettings) (s : PrometheusState) (windows : Windows) (series : Series) → AreRowsOf (summary_rows settings s windows series)
+summary_printable settings s windows series = (
   all_append IsPrintableRow _ _
       (all_map IsPrintableRow _ (λ q. row_printable settings s series None (one_label (codes "quantile") (page_number (pos (clamped q)))) _ tt (refl, tt)) settings.quantiles)
       (sum_and_count_printable settings s series _),
@@ -160,10 +160,10 @@ all_mapped : {A B : Type 0} (P : A → Type 0) (Q : B → Type 0) (f : A → B) 
 all_mapped P Q f g [] h = tt
 all_mapped P Q f g (x ∷ xs) h = (g x h.0, all_mapped P Q f g xs h.1)
 
-distribution_printable : (settings : ExporterSettings) (s : PrometheusState) (t : ℕ) (name : List ℕ) (d : DistributionKind) → IsNameOf kinds.Histogram s name → IfSome (distribution_family settings s t name d) IsPrintable
-distribution_printable settings s t name (NativeHistogram config) is = tt
-distribution_printable settings s t name (Histogram bounds) is = family_printable settings s kinds.Histogram name None _ (histogram_rows settings s bounds) tt (histogram_printable settings s bounds) is
-distribution_printable settings s t name (Summary summary) is = family_printable settings s kinds.Histogram name None _ (summary_rows settings s t) tt (summary_printable settings s t) is
+distribution_printable : (settings : ExporterSettings) (s : PrometheusState) (windows : Windows) (name : List ℕ) (d : DistributionKind) → IsNameOf kinds.Histogram s name → IfSome (distribution_family settings s windows name d) IsPrintable
+distribution_printable settings s windows name (NativeHistogram config) is = tt
+distribution_printable settings s windows name (Histogram bounds) is = family_printable settings s kinds.Histogram name None _ (histogram_rows settings s bounds) tt (histogram_printable settings s bounds) is
+distribution_printable settings s windows name (Summary summary) is = family_printable settings s kinds.Histogram name None _ (summary_rows settings s windows) tt (summary_printable settings s windows) is
 
 first_too : {B : Type 0} (Q : B → Type 0) (o : Option B) (ys : List B) → IfSome o Q → AllByRecursion Q ys → AllByRecursion Q (cons_option o ys)
 first_too Q None ys q rest = rest
@@ -173,14 +173,14 @@ all_filter_mapped : {A B : Type 0} (P : A → Type 0) (Q : B → Type 0) (f : A 
 all_filter_mapped P Q f g [] h = tt
 all_filter_mapped P Q f g (x ∷ xs) h = first_too Q (f x) (filter_map f xs) (g x h.0) (all_filter_mapped P Q f g xs h.1)
 
-families_printable : (settings : ExporterSettings) (t : ℕ) (s : PrometheusState) → AllByRecursion IsPrintable (families_at settings t s)
-families_printable settings t s =
+families_printable : (settings : ExporterSettings) (windows : Windows) (s : PrometheusState) → AllByRecursion IsPrintable (families_by settings windows s)
+families_printable settings windows s =
     all_append IsPrintable _ _
     (all_append IsPrintable _ _
     (all_mapped (IsNameOf kinds.Counter s) IsPrintable _ (λ name is. family_printable settings s kinds.Counter name (counter_suffix settings) _ (counter_rows settings s) (suffix_named settings) (counter_printable settings s) is) _ (names_are kinds.Counter s))
     (all_mapped (IsNameOf kinds.Gauge s) IsPrintable _ (λ name is. family_printable settings s kinds.Gauge name None _ (gauge_rows settings s) tt (gauge_printable settings s) is) _ (names_are kinds.Gauge s)))
-    (all_filter_mapped (IsNameOf kinds.Histogram s) IsPrintable _ (λ name is. distribution_printable settings s t name (distribution_of settings name) is) _ (names_are kinds.Histogram s))
+    (all_filter_mapped (IsNameOf kinds.Histogram s) IsPrintable _ (λ name is. distribution_printable settings s windows name (distribution_of settings name) is) _ (names_are kinds.Histogram s))
 
--- the text of the families that a state shows at a moment is a page of exactly these families
-pub page_reads : (settings : ExporterSettings) (t : ℕ) (s : PrometheusState) → IsPage (page_text (families_at settings t s)) (families_at settings t s)
-page_reads settings t s = page_read (families_at settings t s) (All-from_recursion IsPrintable _ (families_printable settings t s))
+-- the text of the families of a state is a page of exactly these families, whatever is answered of windows
+pub page_reads : (settings : ExporterSettings) (windows : Windows) (s : PrometheusState) → IsPage (page_text (families_by settings windows s)) (families_by settings windows s)
+page_reads settings windows s = page_read (families_by settings windows s) (All-from_recursion IsPrintable _ (families_printable settings windows s))

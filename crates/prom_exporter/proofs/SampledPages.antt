@@ -1,9 +1,8 @@
 -- The blocks of the histograms' families: what is kept for them, and the text that it makes.
-use Rattle.std.proofs.Common.{◌≡◌, ℕ, zero, suc, ◌+◌, Bool, true, false, cond, List, [], ◌∷◌, ◌++◌, map, filter, None, Some, refl, sym, ap, subst, ◌∙◌, arith, add-zero, zero-add, append_assoc}
-use Rattle.std.specs.Prelude.{Option, IfSome, option_map, All, flat_map, filter_map, slice_get, bytes_eq, codes}
+use Rattle.std.proofs.Common.{◌≡◌, ℕ, suc, ◌+◌, Bool, true, false, List, [], ◌∷◌, ◌++◌, map, filter, None, Some, refl, sym, ap, ◌∙◌, arith, add-zero, zero-add}
+use Rattle.std.specs.Prelude.{Option, option_map, flat_map, filter_map, slice_get, bytes_eq, codes}
 use Rattle.std.specs.List.{AllByRecursion, enumerate_from, cons_option}
 use Rattle.std.proofs.lemmas.Grind.{flat_map-append}
-use Rattle.std.proofs.lemmas.List.Elements.{All-from_recursion, recursion_from_All}
 use Rattle.std.proofs.lemmas.Option.{none-some, same_Some, slice_get-map}
 use Rattle.std.proofs.lemmas.Slice.Eq.{bytes_eq-Decides}
 use Rattle.metrics_core.specs.Characters.{line}
@@ -13,15 +12,15 @@ use Rattle.metrics_registry.specs.Live.{LiveSeries, RegistryText}
 use Rattle.prom_format.specs.Names.{sanitized_metric_name}
 use Rattle.prom_format.specs.Lines.{shown_label_set}
 use Rattle.prom_format.specs.Pages.{Row, Family, row_text, block_text, body_text, label_set_text}
-use Rattle.distributions.specs.Kinds.{DistributionKind, NativeHistogram, Histogram, Summary, DistributionRules, kind_for}
+use Rattle.distributions.specs.Kinds.{DistributionKind, NativeHistogram, Histogram, Summary, DistributionRules}
 use Rattle.prom_exporter.specs.State.{Series, PrometheusState}
-use Rattle.prom_exporter.specs.Families.{ExporterSettings, distinct, names_of_kind, distribution_of, distribution_family, rules_of_settings, histogram_rows, summary_rows}
+use Rattle.prom_exporter.specs.Families.{ExporterSettings, distinct, names_of_kind, distribution_of, distribution_family, rules_of_settings, histogram_rows, summary_rows, kept_window}
 use Rattle.metric_descriptions.specs.Descriptions.{DescribedText}
 use Rattle.prom_exporter.specs.Exporter.{with_said}
 use Rattle.prom_exporter.specs.Kept.{FitsSettings}
 use Rattle.prom_exporter.specs.Naming.{NamingText, shown_name, title_text}
 use Rattle.prom_exporter.specs.Rows.{RowsText, label_set_of, name_at, places_of, rows_of, keys_of}
-use Rattle.prom_exporter.specs.Sampled.{Sampled, IsTimely, calls_recorded}
+use Rattle.prom_exporter.specs.Sampled.{Sampled, calls_recorded}
 use Rattle.prom_exporter.specs.SampledRows.{sampled_rows, shown_word, lines_if, lines_at, block_under, sampled_block, HasRowsOf}
 use Rattle.prom_exporter.specs.Shared.{Shared}
 use Rattle.prom_exporter.specs.Values.{named, grouped, series_of, sampled_series, state_recorded}
@@ -117,7 +116,7 @@ module _ {C G : Type 0} (settings : ExporterSettings) (t : ℕ) (said : Describe
     group n = (n, map (λ p. p.0) (named placed_name (all_placed live) n))
 
     block-by : (n : List ℕ) (kind : DistributionKind) → distribution_of settings n ≡ kind
-        → block_under naming settings.globals t live (shown_word kind) (group n) ≡ text_if (distribution_family settings state t n kind)
+        → block_under naming settings.globals t live (shown_word kind) (group n) ≡ text_if (distribution_family settings state (kept_window settings t) n kind)
     block-by n (NativeHistogram config) is = refl
     block-by n (Histogram bounds) is =
         let one = λ (e : LiveSeries Sampled) (same : sanitized_metric_name e.key.name ≡ n) (kind : HasKind settings e).
@@ -127,32 +126,27 @@ module _ {C G : Type 0} (settings : ExporterSettings) (t : ℕ) (said : Describe
         let from : built ≡ (rules_of_settings settings).summary = summary-built (rules_of_settings settings) n built is in
         let one = λ (e : LiveSeries Sampled) (same : sanitized_metric_name e.key.name ≡ n) (kind : HasKind settings e).
         summary_rows-are settings state t e built from (kind ∙ ap (distribution_of settings) same ∙ is) ∙ ap (λ m. sampled_rows t (shown_name naming None m) (labels settings state t e) e.cell) same in
-        ap (λ rows. title_text naming None (codes "summary") n ++ rows ++ line []) (all_rows-named n (summary_rows settings state t) one have)
+        ap (λ rows. title_text naming None (codes "summary") n ++ rows ++ line []) (all_rows-named n (summary_rows settings state (kept_window settings t)) one have)
 
-    block-named : (n : List ℕ) → sampled_block naming settings.globals t live distributions (group n) ≡ text_if (distribution_family settings state t n (distribution_of settings n))
+    block-named : (n : List ℕ) → sampled_block naming settings.globals t live distributions (group n) ≡ text_if (distribution_family settings state (kept_window settings t) n (distribution_of settings n))
     block-named n = ap (λ kind. block_under naming settings.globals t live (shown_word kind) (group n)) (fits n) ∙ block-by n (distribution_of settings n) refl
 
     blocks-named : (ns : List (List ℕ)) → flat_map (sampled_block naming settings.globals t live distributions) (placed_groups live ns)
-        ≡ body_text (filter_map (λ n. distribution_family settings state t n (distribution_of settings n)) ns)
+        ≡ body_text (filter_map (λ n. distribution_family settings state (kept_window settings t) n (distribution_of settings n)) ns)
     blocks-named [] = refl
     blocks-named (n ∷ ns) =
         (λ j. block-named n j ++ blocks-named ns j)
-        ∙ sym (body-cons (distribution_family settings state t n (distribution_of settings n)) (filter_map (λ m. distribution_family settings state t m (distribution_of settings m)) ns))
+        ∙ sym (body-cons (distribution_family settings state (kept_window settings t) n (distribution_of settings n)) (filter_map (λ m. distribution_family settings state (kept_window settings t) m (distribution_of settings m)) ns))
 
     -- the blocks are those of the families that a page shows
     pub blocks-sampled : flat_map (sampled_block naming settings.globals t live distributions) (rows_of settings.globals (keys_of live)).families
-        ≡ body_text (filter_map (λ n. distribution_family settings state t n (distribution_of settings n)) (names_of_kind kinds.Histogram state))
+        ≡ body_text (filter_map (λ n. distribution_family settings state (kept_window settings t) n (distribution_of settings n)) (names_of_kind kinds.Histogram state))
     blocks-sampled =
         ap (flat_map (sampled_block naming settings.globals t live distributions)) (families-placed live settings.globals)
         ∙ ap (λ names. flat_map (sampled_block naming settings.globals t live distributions) (placed_groups live (distinct names))) (names-seen 0 live)
         ∙ blocks-named (distinct (map metric (all_seen live)))
 
 -- ---- the series at a place
-
-all_at : {X : Type 0} (P : X → Type 0) (xs : List X) (k : ℕ) (x : X) → AllByRecursion P xs → slice_get xs k ≡ Some x → P x
-all_at P [] k x all at = absurd cc
-all_at P (y ∷ xs) zero x all at = subst P (same_Some y x at) all.0
-all_at P (y ∷ xs) (suc k) x all at = all_at P xs k x all.1 at
 
 -- what is found at a place is a series, whose label set is printed so
 pub record IsFoundAt (globals : List LabelText) (live : List (LiveSeries Sampled)) (place : ℕ) (labels : List ℕ) (cell : Sampled) : Type 0 where
@@ -179,17 +173,11 @@ pub found-at : (globals : List LabelText) (live : List (LiveSeries Sampled)) (ro
 found-at globals live rows place printed cell kept labels-at cell-at =
     found-by globals live place printed cell (slice_get live place) refl (sym (ap (λ (r : RowsText). slice_get r.label_sets place) kept) ∙ labels-at) cell-at
 
--- its lines, and that its samples have their moments in order
+-- its lines
 pub found-lines : (globals : List LabelText) (t : ℕ) (live : List (LiveSeries Sampled)) (name : List ℕ) (place : ℕ) (printed : List ℕ) (cell : Sampled) (found : IsFoundAt globals live place printed cell)
     → flat_map row_text (sampled_rows t name (shown_label_set globals found.series.key.labels) cell) ≡ lines_at globals t live name place
 found-lines globals t live name place printed cell found =
     ap (λ c. flat_map row_text (sampled_rows t name (shown_label_set globals found.series.key.labels) c)) found.cell_is ∙ sym (ap (lines_if globals t live name) found.at)
-
-pub found-timely : (globals : List LabelText) (t : ℕ) (live : List (LiveSeries Sampled)) (place : ℕ) (printed : List ℕ) (cell : Sampled) (found : IsFoundAt globals live place printed cell)
-    → All (λ (s : LiveSeries Sampled). IsTimely t s.cell) live → IsTimely t cell
-found-timely globals t live place printed cell found all =
-    let P : LiveSeries Sampled → Type 0 = λ s. IsTimely t s.cell in
-    subst (IsTimely t) (sym found.cell_is) (all_at P live place found.series (recursion_from_All P live all) found.at)
 
 -- no label set, or no series: no lines
 pub none-found : (globals : List LabelText) (t : ℕ) (live : List (LiveSeries Sampled)) (name : List ℕ) (place : ℕ) → None ≡ option_map (λ (s : LiveSeries Sampled). s.cell) (slice_get live place) → lines_at globals t live name place ≡ []

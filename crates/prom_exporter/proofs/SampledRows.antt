@@ -1,25 +1,20 @@
--- The rows of a histogram's recorded samples are those of its calls, by the kind that follows from its name.
-use Rattle.std.proofs.Common.{◌≡◌, ℕ, zero, suc, ◌-◌, ◌*◌, ◌≤◌, List, [], ◌∷◌, ◌++◌, map, take, drop, length, ℤ, pos, refl, sym, ap, subst, ◌∙◌, append_assoc, append-nil, None, Some}
-use Rattle.std.specs.Prelude.{replicate, flat_map, Option, All, codes}
-use Rattle.std.specs.List.{AllByRecursion}
-use Rattle.std.proofs.lemmas.Grind.{flat_map-append}
-use Rattle.std.proofs.lemmas.List.{map-append, take-append-drop}
-use Rattle.std.proofs.lemmas.List.Elements.{All-take, All-same, All-from_recursion, recursion_from_All}
+-- The rows of a histogram's recorded entries are those of its calls, by the kind that follows from its name.
+use Rattle.std.proofs.Common.{◌≡◌, ℕ, zero, suc, List, [], ◌∷◌, ◌++◌, map, ℤ, refl, sym, ap, ◌∙◌, None, Some}
+use Rattle.std.specs.Prelude.{replicate, Option}
+use Rattle.std.proofs.lemmas.List.{map-append}
 use Rattle.metrics_core.specs.Calls.{samples}
 use Rattle.metrics_core.specs.Keys.{LabelText}
-use Rattle.metrics_core.specs.Numbers.{page_number, whole}
-use Rattle.metrics_registry.specs.Quantiles.{clamped, nearest_rank}
+use Rattle.metrics_registry.specs.Quantiles.{clamped}
 use Rattle.metrics_registry.specs.Live.{LiveSeries}
 use Rattle.metrics_registry.specs.Cumulative.{bucket_count, sample_count, sample_sum}
-use Rattle.rolling_summaries.specs.Window.{Sample, timed_samples, window}
-use Rattle.rolling_summaries.specs.Standing.{NeverFall, NoneAfter}
-use Rattle.rolling_summaries.specs.StandingLaws.{NeverFall-prefix}
-use Rattle.distributions.specs.Kinds.{DistributionKind, NativeHistogram, Histogram, Summary, SummaryText, DistributionRules, kind_for, native_kind, bucket_kind, general_kind}
+use Rattle.rolling_summaries.specs.Window.{Sample, timed_samples}
+use Rattle.rolling_summaries.specs.Summaries.{empty_summary, snapshot_at}
+use Rattle.rolling_summaries.specs.Standing.{Addition, added_all}
+use Rattle.distributions.specs.Kinds.{DistributionKind, Histogram, Summary, SummaryText, DistributionRules, kind_for, native_kind, bucket_kind, general_kind}
 use Rattle.distributions.specs.Recording.{values_of, sample_of}
-use Rattle.histogram_series.specs.Entries.{TimedEntry, records_of, samples_of_entries, samples_of_entry, queued}
-use Rattle.histogram_series.specs.Series.{recorded, recorded_samples, all_samples, but_waiting}
-use Rattle.histogram_series.specs.Rows.{RowMaker, bucket_row, last_bucket_row, sum_and_count_rows, value_row, sample_rows}
-use Rattle.sample_queue.specs.Queues.{popped}
+use Rattle.histogram_series.specs.Entries.{TimedEntry, records_of, samples_of_entries, samples_of_entry, addition_of}
+use Rattle.histogram_series.specs.Series.{recorded}
+use Rattle.histogram_series.specs.Rows.{RowMaker, bucket_row, last_bucket_row, sum_and_count_rows, value_row, recorded_rows}
 use Rattle.prom_format.specs.Matchers.{MatcherText, rule_for}
 use Rattle.prom_format.specs.Names.{sanitized_metric_name, full_name}
 use Rattle.prom_format.specs.Lines.{shown_label_set}
@@ -27,40 +22,10 @@ use Rattle.native_histograms.specs.Native.{NativeText}
 use Rattle.prom_format.specs.Pages.{Row}
 use Rattle.distribution_rows.specs.Series.{series_row}
 use Rattle.prom_exporter.specs.State.{Series, PrometheusState}
-use Rattle.prom_exporter.specs.Families.{ExporterSettings, rules_of_settings, distribution_of, shown_unit, histogram_rows, summary_rows}
-use Rattle.prom_exporter.specs.Sampled.{Sampled, IsTimely, calls_recorded}
+use Rattle.prom_exporter.specs.Families.{ExporterSettings, rules_of_settings, shown_unit, histogram_rows, summary_rows, additions_of, kept_window}
+use Rattle.prom_exporter.specs.Sampled.{Sampled, calls_recorded}
 use Rattle.prom_exporter.specs.SampledRows.{sampled_rows}
 use Rattle.prom_exporter.specs.Values.{series_of, sampled_series}
-
--- ---- the recorded samples come first of all
-
-waiting-rest : (stray : Option TimedEntry) (es : List TimedEntry) → (rest : List TimedEntry) × (es ≡ but_waiting stray es ++ rest)
-waiting-rest None es = ([], sym (append-nil es))
-waiting-rest (Some e) es = (drop (length es - 1) es, sym (take-append-drop (length es - 1) es))
-
-recorded-first : (s : Sampled) → (more : List Sample) × (all_samples s.series ≡ recorded_samples s.series ++ more)
-recorded-first s =
-    let es = popped s.series.root.mine in
-    let behind = waiting-rest s.series.stray es in (
-      samples_of_entries (behind.0 ++ queued s.series.root),
-      ap (λ l. samples_of_entries (l ++ queued s.series.root)) behind.1
-          ∙ ap samples_of_entries (append_assoc (but_waiting s.series.stray es) behind.0 (queued s.series.root))
-          ∙ flat_map-append samples_of_entry (but_waiting s.series.stray es) (behind.0 ++ queued s.series.root),
-    )
-
-all-first : {A : Type 0} (P : A → Type 0) (xs ys : List A) → AllByRecursion P (xs ++ ys) → AllByRecursion P xs
-all-first P [] ys h = tt
-all-first P (x ∷ xs) ys h = (h.0, all-first P xs ys h.1)
-
-pub recorded-never_fall : (t : ℕ) (s : Sampled) → IsTimely t s → NeverFall (recorded_samples s.series)
-recorded-never_fall t s timely =
-    let parts = recorded-first s in NeverFall-prefix (recorded_samples s.series) parts.0 (subst NeverFall parts.1 timely.0)
-
-pub recorded-none_after : (t : ℕ) (s : Sampled) → IsTimely t s → NoneAfter t (recorded_samples s.series)
-recorded-none_after t s timely =
-    let parts = recorded-first s in
-    let P : Sample → Type 0 = λ sample. sample.moment ≤ t in
-    All-from_recursion P (recorded_samples s.series) (all-first P (recorded_samples s.series) parts.0 (recursion_from_All P _ (subst (NoneAfter t) parts.1 timely.1)))
 
 -- ---- the samples of calls
 
@@ -77,6 +42,11 @@ values-recorded (e ∷ es) =
 pub timed-recorded : (es : List TimedEntry) → timed_samples (records_of es) ≡ samples_of_entries es
 timed-recorded [] = refl
 timed-recorded (e ∷ es) = ap (λ l. samples_of_entry e ++ l) (timed-recorded es)
+
+-- what entries add to a rolling summary is what the calls that they come from add
+additions-recorded : (es : List TimedEntry) → additions_of (records_of es) ≡ map addition_of es
+additions-recorded [] = refl
+additions-recorded (e ∷ es) = ap (λ l. addition_of e ∷ l) (additions-recorded es)
 
 -- ---- kinds
 
@@ -112,9 +82,6 @@ module _ (settings : ExporterSettings) (s : PrometheusState) (t : ℕ) (e : Live
   abbrev pub labels : List LabelText
   labels = shown_label_set settings.globals e.key.labels
 
-  abbrev recorded_here : List Sample
-  recorded_here = recorded_samples e.cell.series
-
   -- the full name of its family
   abbrev pub full_name_of : List ℕ
   full_name_of = full_name (sanitized_metric_name e.key.name) (shown_unit settings s (sanitized_metric_name e.key.name)) None
@@ -132,14 +99,12 @@ module _ (settings : ExporterSettings) (s : PrometheusState) (t : ℕ) (e : Live
       → histogram_rows settings s bounds (seen e) ≡ sampled_rows t full_name_of labels e.cell
   histogram_rows-are bounds kind =
       ap (λ values. map (λ bound. bucket_row row bound (bucket_count bound values)) bounds ++ last_bucket_row row (sample_count values) ∷ ends values) (values-recorded entries_here)
-      ∙ sym (ap (λ (k : DistributionKind). sample_rows row t k recorded_here) kind)
+      ∙ sym (ap (λ (k : DistributionKind). recorded_rows row t k entries_here) kind)
 
   pub summary_rows-are : (built : SummaryText) → built ≡ (rules_of_settings settings).summary → e.cell.series.kind ≡ Summary built
-      → summary_rows settings s t (seen e) ≡ sampled_rows t full_name_of labels e.cell
+      → summary_rows settings s (kept_window settings t) (seen e) ≡ sampled_rows t full_name_of labels e.cell
   summary_rows-are built is kind =
-      let width = settings.bucket_duration in
-      let span = settings.bucket_count * settings.bucket_duration in
-      let shown : List ℤ = window width span t (timed_samples (records_of entries_here)) in
-      ap (λ rows. rows ++ ends (samples (records_of entries_here))) (clamped_rows (value_row row shown) settings.quantiles)
-      ∙ (λ j. map (value_row row (window width span t (timed-recorded entries_here j))) (map clamped settings.quantiles) ++ ends (values-recorded entries_here j))
-      ∙ sym (ap (λ (k : DistributionKind). sample_rows row t k recorded_here) (kind ∙ ap Summary is))
+      let kept : List Addition → List ℤ = λ added. snapshot_at t (added_all (empty_summary settings.bucket_count settings.bucket_duration) added) in
+      ap (λ rows. rows ++ ends (samples (records_of entries_here))) (clamped_rows (value_row row (kept (additions_of (records_of entries_here)))) settings.quantiles)
+      ∙ (λ j. map (value_row row (kept (additions-recorded entries_here j))) (map clamped settings.quantiles) ++ ends (values-recorded entries_here j))
+      ∙ sym (ap (λ (k : DistributionKind). recorded_rows row t k entries_here) (kind ∙ ap Summary is))

@@ -8,7 +8,6 @@ use Rattle.std.proofs.lemmas.List.{length-map}
 use Rattle.std.proofs.lemmas.List.Elements.{All-nil, All-head, All-tail, All-cons}
 use Rattle.legal_history.specs.declared.history.Entry.{Entry}
 use Rattle.legal_history.specs.History.{calls}
-use Rattle.cell_lanes.specs.Calls.{CountsCalls}
 use Rattle.metrics_core.specs.declared.calls.SeriesCall.{SeriesCall}
 use Rattle.metrics_core.specs.declared.kinds.MetricKind.{MetricKind}
 use Rattle.metrics_core.specs.declared.kinds.MetricKind.TheVariants as kinds
@@ -21,14 +20,14 @@ use Rattle.metrics_registry.specs.Recency.{Idle, note_left}
 use Rattle.metrics_registry.specs.Retained.{AskedAt, Retains}
 use Rattle.prom_format.specs.Pages.{body_text}
 use Rattle.prom_exporter.specs.State.{Series, kept_at, page_step, publish as publish_state}
-use Rattle.prom_exporter.specs.Families.{families_at}
+use Rattle.prom_exporter.specs.Families.{families_written}
 use Rattle.prom_exporter.specs.Rows.{keys_of}
-use Rattle.prom_exporter.specs.Shared.{Shared, IsHome, calls_seen}
+use Rattle.prom_exporter.specs.Shared.{Shared, IsHome, Counts, calls_seen}
 use Rattle.prom_exporter.specs.Values.{series_of, seen_series}
 use Rattle.metric_descriptions.specs.Descriptions.{DescribedText, publish}
-use Rattle.prom_exporter.specs.Exporter.{Exporter, AllHome, AreTimely, state_of, state_shown, page_body, shown_body}
+use Rattle.prom_exporter.specs.Exporter.{Exporter, AllHome, AreTimely, state_of, state_shown, written_page, written_body}
 use Rattle.prom_exporter.specs.Stepped.{IsNoted, AreNoted, AreCounted, DrainsInPart, DrainsWhole, AreDrained, DrainsEach, KeepsUp, Steps}
-use Rattle.prom_exporter.proofs.Home.{looks-home}
+use Rattle.prom_exporter.proofs.Home.{counts-home, counts-all}
 use Rattle.prom_exporter.proofs.Drained.{AreWhole, drained-rest, drained-timely, drained-known, drained-whole, whole-parts}
 use Rattle.prom_exporter.proofs.Counted.{all_known, fewer_step, keys_step, counted-rest, counted-whole, counted-timely, counted-known, whole-shown}
 
@@ -57,7 +56,7 @@ module _ (idle : Option Idle) (moment : ℕ) (kind : MetricKind) {F : Type 0} wh
   AtHome = All (λ series. IsHome series.cell)
 
   noted_at-home : (s t : Shared F) (stays : Bool) → IsHome s → IsNoted idle moment kind s stays t → IsHome t
-  noted_at-home s t stays home noted = rw (noted.left, looks-home s noted.seen home noted.looks) home
+  noted_at-home s t stays home noted = rw (noted.left, counts-home s noted.seen noted.count home noted.counts) home
 
   home_step : (e : LiveSeries (Shared F)) (rest : List (LiveSeries (Shared F))) (cell : Shared F) (stays : Bool) → IsHome cell → AtHome rest → AtHome (cond stays (record e { cell = cell } ∷ rest) rest)
   home_step e rest cell true home others = All-cons (λ (s : LiveSeries (Shared F)). IsHome s.cell) (record e { cell = cell }) rest home others
@@ -76,9 +75,9 @@ module _ (idle : Option Idle) (moment : ℕ) (kind : MetricKind) {F : Type 0} wh
     abbrev all_shown : List (LiveSeries (Shared F)) → List Series
     all_shown es = map series_of (map seen_series es)
 
-    count-home : (s : Shared F) (n : ℕ) → IsHome s → CountsCalls s.root n → n ≡ in_64_bits (update_count kind (calls_seen s))
-    count-home s n home counts =
-        counts.1 ∙ ap (λ m. m % 2 ^ 64) (counts.3 home.0 home.1 ∙ sym (plain (calls_seen s) ∙ length-map (calls s.root.seen) call_of ∙ length-calls s.root.seen))
+    count-home : (s t : Shared F) (n : ℕ) → IsHome s → Counts s n t → n ≡ in_64_bits (update_count kind (calls_seen s))
+    count-home s t n home counts =
+        counts-all s t n home counts ∙ ap (λ m. m % 2 ^ 64) (sym (plain (calls_seen s) ∙ length-map (calls s.root.seen) call_of ∙ length-calls s.root.seen))
 
     -- what the page step makes of a series, whose note is then this
     shown_step : (e : LiveSeries (Shared F)) (rest : List (LiveSeries (Shared F))) (note : Option (Option (ℕ × ℕ))) (tail : List Series) → tail ≡ all_shown rest
@@ -91,8 +90,8 @@ module _ (idle : Option Idle) (moment : ℕ) (kind : MetricKind) {F : Type 0} wh
     noted_shown [] new home is = ap all_shown (sym is)
     noted_shown (e ∷ old) new home (stays, cell, rest, noted, others, is) =
         let here = All-head (λ (s : LiveSeries (Shared F)). IsHome s.cell) e old home in
-        let seen : noted.seen ≡ e.cell = looks-home e.cell noted.seen here noted.looks in
-        let count = count-home e.cell noted.count here (subst (λ (s : Shared F). CountsCalls s.root noted.count) seen noted.counts) in
+        let seen : noted.seen ≡ e.cell = counts-home e.cell noted.seen noted.count here noted.counts in
+        let count = count-home e.cell noted.seen noted.count here noted.counts in
         let left : Option (Option (ℕ × ℕ)) = note_left idle kind e.cell.note noted.count moment in
         let cell_is : cell ≡ record e.cell { note = unwrap_or left e.cell.note } = noted.left ∙ ap (λ (s : Shared F). record s { note = unwrap_or (note_left idle kind s.note noted.count moment) s.note }) seen in
         let stays_is : stays ≡ is_some left = noted.stays_is ∙ ap (λ (s : Shared F). is_some (note_left idle kind s.note noted.count moment)) seen in
@@ -112,7 +111,6 @@ noted_under idle other moment kind same (e ∷ old) new (stays, cell, rest, note
       rest,
       record {
         seen = noted.seen;
-        looks = noted.looks;
         count = noted.count;
         counts = noted.counts;
         stays_is = noted.stays_is ∙ ap is_some rule;
@@ -255,5 +253,5 @@ module _ (moment : ℕ) (old new : Exporter) (home : AllHome old) (steps : Steps
   steps_shown =
       ap (λ l. record (state_of new) { histograms = l }) (whole-shown new.series.histograms (counted-whole idle moment steps.drained new.series.histograms steps.histograms drained_whole))
 
-  pub steps_page : shown_body moment new ≡ page_body moment old
-  steps_page = ap (λ s. body_text (families_at new.settings moment s)) steps_shown ∙ (λ j. body_text (families_at (steps.settings j) moment (steps_state j)))
+  pub steps_page : written_body moment new ≡ written_page moment old
+  steps_page = ap (λ s. body_text (families_written new.settings moment s)) steps_shown ∙ (λ j. body_text (families_written (steps.settings j) moment (steps_state j)))

@@ -1,5 +1,5 @@
 -- The lines above the rows of a family, from what is said of its name.
-use Rattle.std.proofs.Common.{◌≡◌, ℕ, Bool, List, ◌++◌, None, Some, refl, sym, ap, ◌∙◌, append_assoc}
+use Rattle.std.proofs.Common.{◌≡◌, ℕ, List, ◌++◌, None, Some, refl, sym, ap, ◌∙◌, append_assoc}
 use Rattle.std.specs.Prelude.{Option, option_map, option_and_then, if◌then◌else◌}
 use Rattle.metrics_core.specs.declared.units.Unit.{Unit as UnitOf}
 use Rattle.metric_descriptions.specs.declared.descriptions.Described.{Described}
@@ -10,7 +10,7 @@ use Rattle.prom_format.specs.Names.{full_name}
 use Rattle.prom_format.specs.Printed.{canonical_description}
 use Rattle.prom_format.specs.Lines.{help_line, type_line}
 use Rattle.prom_format.specs.Pages.{help_text}
-use Rattle.prom_exporter.specs.Naming.{NamingText, unit_in, help_in, shown_name, title_text}
+use Rattle.prom_exporter.specs.Naming.{NamingText, unit_in, help_in, title_text}
 
 abbrev Words : Type 0
 Words = List ℕ × Option UnitOf

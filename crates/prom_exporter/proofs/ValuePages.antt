@@ -13,7 +13,7 @@ use Rattle.prom_format.specs.declared.families.FamilyType.{FamilyType}
 use Rattle.prom_format.specs.declared.families.FamilyType.TheVariants as types
 use Rattle.prom_exporter.specs.State.{Series, PrometheusState}
 use Rattle.metric_descriptions.specs.Descriptions.{DescribedText}
-use Rattle.prom_exporter.specs.Families.{ExporterSettings, distinct, names_of_kind, counter_suffix, counter_rows, gauge_rows, distribution_of, distribution_family}
+use Rattle.prom_exporter.specs.Families.{ExporterSettings, distinct, names_of_kind, counter_suffix, counter_rows, gauge_rows, distribution_of, distribution_family, kept_window}
 use Rattle.prom_exporter.specs.Families as pages
 use Rattle.prom_exporter.specs.Exporter.{with_said}
 use Rattle.prom_exporter.specs.Naming.{NamingText, help_in, shown_name}
@@ -87,9 +87,9 @@ module _ {C G : Type 0} (settings : ExporterSettings) (t : ℕ) (said : Describe
 
   -- the families of distributions
   abbrev pub sampled_families : List Family
-  sampled_families = filter_map (λ n. distribution_family settings shown_state t n (distribution_of settings n)) (names_of_kind kinds.Histogram shown_state)
+  sampled_families = filter_map (λ n. distribution_family settings shown_state (kept_window settings t) n (distribution_of settings n)) (names_of_kind kinds.Histogram shown_state)
 
-  families_are : pages.families_at settings t shown_state ≡ (counter_families ++ gauge_families) ++ sampled_families
+  families_are : pages.families_written settings t shown_state ≡ (counter_families ++ gauge_families) ++ sampled_families
   families_are =
       (λ j.
       families_of_kind naming_of (counter_suffix settings) counter_shown settings.globals (counter_rows settings shown_state)
@@ -99,7 +99,7 @@ module _ {C G : Type 0} (settings : ExporterSettings) (t : ℕ) (said : Describe
       ++ sampled_families)
 
   -- the body of the page is the text of the groups, and that of the distributions
-  pub body-values : body_text (pages.families_at settings t shown_state) ≡ (body_text counter_families ++ body_text gauge_families) ++ body_text sampled_families
+  pub body-values : body_text (pages.families_written settings t shown_state) ≡ (body_text counter_families ++ body_text gauge_families) ++ body_text sampled_families
   body-values =
       ap body_text families_are
       ∙ flat_map-append block_text (counter_families ++ gauge_families) sampled_families

@@ -11,7 +11,7 @@ use Rattle.prom_format.specs.Names.{sanitized_metric_name}
 use Rattle.prom_format.specs.Pages.{Family, body_text}
 use Rattle.metric_descriptions.specs.Descriptions.{DescribedText}
 use Rattle.prom_exporter.specs.State.{PrometheusState, page_step}
-use Rattle.prom_exporter.specs.Families.{ExporterSettings, families_at, distribution_of}
+use Rattle.prom_exporter.specs.Families.{ExporterSettings, families_at, families_written, distribution_of}
 use Rattle.prom_exporter.specs.Shared.{Shared, IsHome, unused}
 use Rattle.prom_exporter.specs.Sampled.{Sampled, IsAtRest, IsTimely, unsampled}
 use Rattle.prom_exporter.specs.Values.{state_seen, state_recorded}
@@ -142,3 +142,11 @@ page_body moment exporter = body_shown exporter.settings moment (state_of export
 -- the body of the families that an exporter shows at a moment, as it is
 abbrev pub shown_body : ℕ → Exporter → List ℕ
 shown_body moment exporter = body_text (families_at exporter.settings moment (state_shown exporter))
+
+-- The same two bodies as they are written, whatever the moments of samples: the values of quantiles are those of what rolling summaries keep. Where
+-- the exporter is timely they are the two.
+abbrev pub written_page : ℕ → Exporter → List ℕ
+written_page moment exporter = body_text (families_written exporter.settings moment (page_step exporter.settings.idle moment (state_of exporter)))
+
+abbrev pub written_body : ℕ → Exporter → List ℕ
+written_body moment exporter = body_text (families_written exporter.settings moment (state_shown exporter))

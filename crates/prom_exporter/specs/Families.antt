@@ -1,11 +1,11 @@
 -- The families that a state shows at a moment (Prometheus text exposition format: counters, gauges, histograms, summaries).
-use Rattle.std.specs.Prelude.{ℕ, Bool, not, List, [], ◌∷◌, ◌++◌, map, ℤ, pos, Option, Some, None, filter, filter_map, flat_map, option_map, option_and_then, bytes_eq, codes, if◌then◌else◌, ◌*◌}
+use Rattle.std.specs.Prelude.{◌≡◌, ℕ, Bool, not, List, [], ◌∷◌, ◌++◌, map, ℤ, pos, Option, Some, None, filter, filter_map, flat_map, option_map, option_and_then, bytes_eq, codes, if◌then◌else◌, ◌*◌}
 use Rattle.metrics_core.specs.declared.kinds.MetricKind.{MetricKind}
 use Rattle.metrics_core.specs.declared.kinds.MetricKind.TheVariants as kinds
 use Rattle.metrics_core.specs.declared.units.Unit.{Unit as UnitOf}
 use Rattle.metrics_core.specs.Numbers.{page_number, whole}
 use Rattle.metrics_core.specs.Keys.{LabelText}
-use Rattle.metrics_core.specs.Calls.{counter_value, gauge_value, samples}
+use Rattle.metrics_core.specs.Calls.{Call, Record, counter_value, gauge_value, samples}
 use Rattle.prom_format.specs.Names.{sanitized_metric_name, full_name}
 use Rattle.prom_format.specs.Printed.{canonical_description}
 use Rattle.prom_format.specs.Lines.{shown_label_set}
@@ -19,6 +19,8 @@ use Rattle.metrics_registry.specs.Recency.{Idle}
 use Rattle.metrics_registry.specs.Quantiles.{clamped, quantile_of}
 use Rattle.metrics_registry.specs.Cumulative.{bucket_count, sample_count, sample_sum}
 use Rattle.rolling_summaries.specs.Window.{timed_samples, window}
+use Rattle.rolling_summaries.specs.Summaries.{empty_summary, snapshot_at}
+use Rattle.rolling_summaries.specs.Standing.{Addition, added_all, NeverFall, NoneAfter}
 use Rattle.native_histograms.specs.Native.{NativeText}
 use Rattle.distributions.specs.Kinds.{DistributionKind, NativeHistogram, Histogram, Summary, DistributionRules, kind_for}
 
@@ -82,15 +84,41 @@ histogram_rows settings s bounds series =
     ++ row_of settings s series (Some (codes "bucket")) (one_label (codes "le") (codes "+Inf")) (whole (sample_count (samples series.calls)))
     ∷ sum_and_count_rows settings s series (samples series.calls)
 
+-- what is answered of the window of a series: the values in it
+abbrev pub Windows : Type 0
+Windows = Series → List ℤ
+
 -- the values of a series' window at a moment
-abbrev pub window_of : ExporterSettings → ℕ → Series → List ℤ
+abbrev pub window_of : ExporterSettings → ℕ → Windows
 window_of settings t series =
     window settings.bucket_duration (settings.bucket_count * settings.bucket_duration) t (timed_samples series.calls)
 
--- summary: a row for each quantile of the window at a moment, sum and count
-abbrev pub summary_rows : ExporterSettings → PrometheusState → ℕ → Series → List Row
-summary_rows settings s t series =
-    map (λ q. row_of settings s series None (one_label (codes "quantile") (page_number (pos (clamped q)))) (quantile_of q (window_of settings t series))) settings.quantiles
+-- what a call on a histogram adds to a rolling summary, and what calls add in turn
+abbrev pub additions_of_call : Call → List Addition
+additions_of_call (Record v moment n) = record { value = v; moment = moment; samples = n } ∷ []
+additions_of_call _ = []
+
+abbrev pub additions_of : List Call → List Addition
+additions_of calls = flat_map additions_of_call calls
+
+-- The values that a rolling summary has in its window at a moment after the calls on a series were added in turn, whatever their
+-- moments. Where these never fall and none is after that moment, they are the values of the window.
+abbrev pub kept_window : ExporterSettings → ℕ → Windows
+kept_window settings t series =
+    snapshot_at t (added_all (empty_summary settings.bucket_count settings.bucket_duration) (additions_of series.calls))
+
+-- the moments of the samples of a series never fall, and none is after this moment
+abbrev pub IsInTime : ℕ → Series → Type 0
+IsInTime t series = NeverFall (timed_samples series.calls) × NoneAfter t (timed_samples series.calls)
+
+-- values with the same quantiles
+abbrev pub HaveSameQuantiles : List ℤ → List ℤ → Type 0
+HaveSameQuantiles one other = (q : ℤ) → quantile_of q one ≡ quantile_of q other
+
+-- summary: a row for each quantile of the window, sum and count
+abbrev pub summary_rows : ExporterSettings → PrometheusState → Windows → Series → List Row
+summary_rows settings s windows series =
+    map (λ q. row_of settings s series None (one_label (codes "quantile") (page_number (pos (clamped q)))) (quantile_of q (windows series))) settings.quantiles
     ++ sum_and_count_rows settings s series (samples series.calls)
 
 -- ---- what kind of distribution a name has
@@ -133,16 +161,24 @@ family_of settings s kind name suffix type rows = record {
 }
 
 -- a distribution's family; a native histogram has none
-abbrev pub distribution_family : ExporterSettings → PrometheusState → ℕ → List ℕ → DistributionKind → Option Family
-distribution_family settings s t name (NativeHistogram config) = None
-distribution_family settings s t name (Histogram bounds) =
+abbrev pub distribution_family : ExporterSettings → PrometheusState → Windows → List ℕ → DistributionKind → Option Family
+distribution_family settings s windows name (NativeHistogram config) = None
+distribution_family settings s windows name (Histogram bounds) =
     Some (family_of settings s kinds.Histogram name None types.Histogram (histogram_rows settings s bounds))
-distribution_family settings s t name (Summary summary) =
-    Some (family_of settings s kinds.Histogram name None types.Summary (summary_rows settings s t))
+distribution_family settings s windows name (Summary summary) =
+    Some (family_of settings s kinds.Histogram name None types.Summary (summary_rows settings s windows))
 
--- counters, then gauges, then distributions, each by metric name
-abbrev pub families_at : ExporterSettings → ℕ → PrometheusState → List Family
-families_at settings t s =
+-- counters, then gauges, then distributions, each by metric name, where this is answered of windows
+abbrev pub families_by : ExporterSettings → Windows → PrometheusState → List Family
+families_by settings windows s =
     map (λ name. family_of settings s kinds.Counter name (counter_suffix settings) types.Counter (counter_rows settings s)) (names_of_kind kinds.Counter s)
     ++ map (λ name. family_of settings s kinds.Gauge name None types.Gauge (gauge_rows settings s)) (names_of_kind kinds.Gauge s)
-    ++ filter_map (λ name. distribution_family settings s t name (distribution_of settings name)) (names_of_kind kinds.Histogram s)
+    ++ filter_map (λ name. distribution_family settings s windows name (distribution_of settings name)) (names_of_kind kinds.Histogram s)
+
+-- the families at a moment
+abbrev pub families_at : ExporterSettings → ℕ → PrometheusState → List Family
+families_at settings t s = families_by settings (window_of settings t) s
+
+-- the families as they are written at a moment: the same, where quantiles are those of what rolling summaries keep
+abbrev pub families_written : ExporterSettings → ℕ → PrometheusState → List Family
+families_written settings t s = families_by settings (kept_window settings t) s

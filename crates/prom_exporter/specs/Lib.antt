@@ -20,3 +20,5 @@ pub mod LanePasses
 pub mod LaneIndices
 pub mod LaneRounds
 pub mod Vectors
+pub mod Ranges
+pub mod Summaries

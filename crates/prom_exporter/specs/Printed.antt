@@ -1,5 +1,5 @@
 -- Rows of counters and gauges as they were printed last, which stay for the next page (this project's rule).
-use Rattle.std.specs.Prelude.{◌≡◌, ℕ, List, [], ◌∷◌, ◌++◌, take, drop, slice_get, ℤ, Option, Some, option_map, string_bytes}
+use Rattle.std.specs.Prelude.{◌≡◌, ℕ, List, [], ◌∷◌, ◌++◌, take, drop, slice_get, ℤ, Some, option_map, string_bytes}
 use Rattle.metrics_registry.specs.Live.{LiveSeries}
 use Rattle.prom_exporter.specs.Rows.{value_line}
 use Rattle.prom_exporter.specs.declared.cells.Billionths.{Billionths}

@@ -1,8 +1,7 @@
 -- A histogram as the exporter keeps it: its queue with all that was drained of it, and what the last page noted of it.
-use Rattle.std.specs.Prelude.{◌≡◌, ℕ, List, map, length, Option, None, All}
+use Rattle.std.specs.Prelude.{ℕ, List, length, Option, None}
 use Rattle.metrics_core.specs.Numbers.{in_64_bits}
 use Rattle.metrics_core.specs.Calls.{Call}
-use Rattle.legal_history.specs.History.{first}
 use Rattle.rolling_summaries.specs.Standing.{NeverFall, NoneAfter}
 use Rattle.distributions.specs.Kinds.{DistributionKind}
 use Rattle.histogram_series.specs.Entries.{TimedQueue, records_of}

@@ -1,21 +1,21 @@
 -- The lines that are written of histograms: the rows of each, and the block of each family.
-use Rattle.std.specs.Prelude.{◌≡◌, ℕ, List, [], ◌++◌, flat_map, slice_get, Option, Some, None, All, codes}
+use Rattle.std.specs.Prelude.{◌≡◌, ℕ, List, [], ◌++◌, flat_map, slice_get, Option, Some, None, codes}
 use Rattle.metrics_core.specs.Characters.{line}
 use Rattle.metrics_core.specs.Keys.{LabelText}
 use Rattle.metrics_registry.specs.Live.{LiveSeries}
 use Rattle.prom_format.specs.Lines.{shown_label_set}
 use Rattle.prom_format.specs.Pages.{Row, row_text}
 use Rattle.distributions.specs.Kinds.{DistributionKind, NativeHistogram, Histogram, Summary, DistributionRules, kind_for}
-use Rattle.histogram_series.specs.Series.{recorded_samples}
-use Rattle.histogram_series.specs.Rows.{sample_rows}
+use Rattle.histogram_series.specs.Series.{recorded}
+use Rattle.histogram_series.specs.Rows.{recorded_rows}
 use Rattle.distribution_rows.specs.Series.{series_row}
 use Rattle.prom_exporter.specs.Naming.{NamingText, shown_name, title_text}
 use Rattle.prom_exporter.specs.Rows.{RowsText, rows_of, keys_of}
-use Rattle.prom_exporter.specs.Sampled.{Sampled, IsTimely}
+use Rattle.prom_exporter.specs.Sampled.{Sampled}
 
--- the rows that a histogram shows at a moment, in a family of this name, with these labels: those of its recorded samples
+-- the rows that a histogram shows at a moment, in a family of this name, with these labels: those of what is recorded
 abbrev pub sampled_rows : ℕ → List ℕ → List LabelText → Sampled → List Row
-sampled_rows t name labels s = sample_rows (series_row name labels) t s.series.kind (recorded_samples s.series)
+sampled_rows t name labels s = recorded_rows (series_row name labels) t s.series.kind (recorded s.series)
 
 -- the word for the type of a family; native histograms have none
 abbrev pub shown_word : DistributionKind → Option (List ℕ)
@@ -45,8 +45,3 @@ module _ (naming : NamingText) (globals : List LabelText) (t : ℕ) (live : List
 -- what is kept for the rows of histograms is what they want
 abbrev pub HasRowsOf : List LabelText → List (LiveSeries Sampled) → RowsText → Type 0
 HasRowsOf globals live rows = rows ≡ rows_of globals (keys_of live)
-
--- the rows of histograms are defined at a moment, and what is kept for them is what they want
-pub record AreShown (globals : List LabelText) (t : ℕ) (live : List (LiveSeries Sampled)) (rows : RowsText) : Type 0 where
-  pub kept : HasRowsOf globals live rows
-  pub timely : All (λ series. IsTimely t series.cell) live

@@ -3,6 +3,7 @@ use Rattle.std.specs.Prelude.{◌≡◌, ℕ, List, Option, Some, None}
 use Rattle.legal_history.specs.declared.history.Entry.{Entry}
 use Rattle.legal_history.specs.declared.history.View.{View}
 use Rattle.legal_history.specs.History.{calls, looked, first, lender, taker, Sees}
+use Rattle.cell_lanes.specs.Calls.{CountsCalls}
 use Rattle.cell_lanes.specs.Things.{Thing}
 use Rattle.metrics_core.specs.declared.calls.SeriesCall.{SeriesCall}
 use Rattle.series_cells.specs.Values.{calls_of}
@@ -47,6 +48,10 @@ module _ {F : Type 0} where
   -- the exporter has looked on: it has seen a beginning of the history that has all that it had seen
   abbrev pub Looks : Shared F → Shared F → Type 0
   Looks s t = (log : List (Entry SeriesCall)) × Sees s.root log × (t ≡ record s { root = looked s.root log })
+
+  -- the exporter has counted the updates of a cell, modulo 2 ^ 64, and has then looked on
+  abbrev pub Counts : Shared F → ℕ → Shared F → Type 0
+  Counts s n t = (counted : View SeriesCall) × CountsCalls s.root n counted × Looks (record s { root = counted }) t
 
   -- one whose cell isn't made yet
   abbrev pub unmade : Shared (Option F)

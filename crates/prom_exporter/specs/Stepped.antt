@@ -2,26 +2,27 @@
 -- has, and removes those that are idle.
 use Rattle.std.specs.Prelude.{◌≡◌, ℕ, Bool, List, [], ◌∷◌, cond, Option, None, is_some, unwrap_or}
 use Rattle.std.specs.List.{AllZip}
-use Rattle.cell_lanes.specs.Calls.{CountsCalls}
+use Rattle.legal_history.specs.History.{calls}
 use Rattle.metrics_core.specs.declared.kinds.MetricKind.{MetricKind}
 use Rattle.metrics_core.specs.declared.kinds.MetricKind.TheVariants as kinds
 use Rattle.metrics_registry.specs.Live.{LiveSeries}
 use Rattle.metrics_registry.specs.Recency.{Idle, note_left}
+use Rattle.sample_queue.specs.Queues.{FoundEmpty, pushed}
 use Rattle.histogram_series.specs.Entries.{queued}
 use Rattle.histogram_series.specs.Series.{entries, recorded}
-use Rattle.histogram_series.specs.Drains.{Drains, Grows, FoundEmpty}
-use Rattle.prom_exporter.specs.Shared.{Shared, Looks}
+use Rattle.histogram_series.specs.Drains.{Drains, Grows}
+use Rattle.prom_exporter.specs.Shared.{Shared, Counts}
 use Rattle.prom_exporter.specs.Sampled.{Sampled, IsAtRest, updates_of}
 use Rattle.metric_descriptions.specs.Descriptions.{publish}
 use Rattle.prom_exporter.specs.Exporter.{Exporter}
 
 module _ (idle : Option Idle) (moment : ℕ) (kind : MetricKind) {F : Type 0} where
-  -- the exporter has looked on of a cell and then counted its updates: whether it stays, and with which note
+  -- The exporter has counted the updates of a cell and then looked on: whether the cell stays, and with which note. All calls that it saw when it counted are in the count
+  -- but one at most of each pass that is out, so a cell of which it has seen so many more than it had noted stays.
   pub record IsNoted (s : Shared F) (stays : Bool) (t : Shared F) : Type 0 where
     pub seen : Shared F
-    pub looks : Looks s seen
     pub count : ℕ
-    pub counts : CountsCalls seen.root count
+    pub counts : Counts s count seen
     pub stays_is : stays ≡ is_some (note_left idle kind seen.note count moment)
     pub left : t ≡ record seen { note = unwrap_or (note_left idle kind seen.note count moment) seen.note }
 
@@ -42,13 +43,14 @@ pub record DrainsInPart (s t : Sampled) : Type 0 where
   pub same_entries : IsAtRest s → entries t.series ≡ entries s.series
   pub note : t.note ≡ s.note
 
--- it was drained until its queue was empty at a moment: where no pass is out, all its samples are recorded then
+-- It was drained until its queue was empty at a moment: all that the exporter has seen pushed is recorded then. Where no pass is out that is all there is.
 pub record DrainsWhole (s t : Sampled) : Type 0 where
   pub in_part : DrainsInPart s t
   pub none_waits : t.series.stray ≡ None
   pub found_empty : FoundEmpty t.series.root
+  pub all_seen : recorded t.series ≡ pushed (calls t.series.root.seen)
+  pub emptied : queued t.series.root ≡ []
   pub all_recorded : IsAtRest s → recorded t.series ≡ entries s.series
-  pub emptied : IsAtRest s → queued t.series.root ≡ []
 
 -- each histogram keeps its number, its key and its place, and its cell changes so
 abbrev pub AreDrained : (Sampled → Sampled → Type 0) → List (LiveSeries Sampled) → List (LiveSeries Sampled) → Type 0

@@ -1,5 +1,5 @@
 -- Series as the exporter keeps them, and the state and the families that they make.
-use Rattle.std.specs.Prelude.{ℕ, List, [], ◌∷◌, ◌++◌, map, filter, ℤ, Option, None, bytes_eq, if◌then◌else◌}
+use Rattle.std.specs.Prelude.{ℕ, List, [], ◌∷◌, ◌++◌, map, filter, ℤ, Option, bytes_eq, if◌then◌else◌}
 use Rattle.metrics_core.specs.Numbers.{whole}
 use Rattle.metrics_core.specs.Keys.{KeyText, LabelText}
 use Rattle.metrics_core.specs.Calls.{Call, counter_value, gauge_value}

@@ -3,7 +3,7 @@
 ghost use Rattle.std.specs.Prelude.{◌≡◌, ◌-◌, ◌<◌, ◌≤◌, ◌⊎◌, IfErr, OnErr, OnOk};
 ghost use Rattle.metrics_core.specs.declared.kinds.MetricKind.TheVariants.{Counter, Gauge};
 ghost use Rattle.metrics_core.specs.Outside.{Rose, GrewBy, GrewByPrefix};
-ghost use Rattle.prom_exporter.specs.Exporter.{AreTimely, shown_body};
+ghost use Rattle.prom_exporter.specs.Exporter.{written_body};
 
 use crate::BuildError;
 use crate::distribution_pages::write_distributions;
@@ -23,8 +23,8 @@ impl PrometheusState {
         sink: &mut K,
     ) -> Result<(), BuildError>
         ensures same { self.new ≡ self.old }
-        ensures body { OnOk result (AreTimely moment self.old → GrewBy (K.written sink.old) (K.written sink.new) (shown_body moment self.old)) }
-        ensures prefix { OnErr result (AreTimely moment self.old → GrewByPrefix (K.written sink.old) (K.written sink.new) (shown_body moment self.old)) }
+        ensures body { OnOk result (GrewBy (K.written sink.old) (K.written sink.new) (written_body moment self.old)) }
+        ensures prefix { OnErr result (GrewByPrefix (K.written sink.old) (K.written sink.new) (written_body moment self.old)) }
         ensures errors { IfErr result (λ error. (error ≡ BuildError.WriteFault) ⊎ (error ≡ BuildError.Memory)) }
         ensures cause { result ≡ Err BuildError.WriteFault → Rose (K.faults sink.old) (K.faults sink.new) }
         ensures never_falls { K.faults sink.old ≤ K.faults sink.new }

@@ -5,7 +5,7 @@ ghost use Rattle.std.specs.Prelude.{◌≡◌, ◌++◌, [], Some, IfOk, OnOk, O
 ghost use Rattle.std.specs.Arc.{arc_value};
 ghost use Rattle.legal_history.specs.History.{child};
 ghost use Rattle.metrics_core.specs.Numbers.{page_number};
-ghost use Rattle.prom_exporter.specs.Shared.{unmade, with_lent, Looks, Makes, TakesBack};
+ghost use Rattle.prom_exporter.specs.Shared.{unmade, with_lent, Counts, Looks, Makes, TakesBack};
 
 use cell_lanes::{CountedCell, LentCell, OwnedCell, ValueCell};
 use metrics_core::{Fixed, Memory, MetricKind, SeriesCall};
@@ -132,7 +132,6 @@ impl<C: ValueCell<Call = SeriesCall, Entry = SeriesCall>> KeptCell<C> {
 
 impl<C: MadeCell<Call = SeriesCall, Entry = SeriesCall>> KeptCell<C> {
     ghost use Rattle.std.specs.Prelude.{None, unwrap_or};
-    ghost use Rattle.cell_lanes.specs.Calls.{CountsCalls};
     ghost use Rattle.prom_exporter.specs.Stepped.{IsNoted};
 
     /// Lends the cell and a new pass of it. The cell is made where there is none yet.
@@ -160,13 +159,17 @@ impl<C: MadeCell<Call = SeriesCall, Entry = SeriesCall>> KeptCell<C> {
         Ok(LentCell::new(cell, pass))
     }
 
-    /// How many updates the cell has, modulo 2^64: none where it isn't made.
-    fn updates(&mut self) -> u64
-        ensures count { CountsCalls self.old.root result }
-        ensures same { self.new ≡ self.old }
+    /// How many updates the cell has, modulo 2^64: none where it isn't made. The cell is then read: the value may know of calls
+    /// that are not counted yet.
+    fn count(&mut self) -> u64
+        ensures { Counts self.old result self.new }
     {
         match &mut self.owned {
-            Some(owned) => owned.updates(),
+            Some(owned) => {
+                let updates = owned.updates();
+                self.value = owned.value();
+                updates
+            }
             None => 0,
         }
     }
@@ -176,13 +179,15 @@ impl<C: MadeCell<Call = SeriesCall, Entry = SeriesCall>> KeptCell<C> {
     pub(crate) fn stays(&mut self, recency: &Option<Recency>, kind: MetricKind, moment: u64) -> bool
         ensures { IsNoted (unwrap_or recency.now None) moment kind self.old result self.new }
     {
-        self.read();
         match recency {
             Some(recency) => {
-                let updates = self.updates();
+                let updates = self.count();
                 recency.should_store(kind, &mut self.note, updates, moment)
             }
-            None => true,
+            None => {
+                self.read();
+                true
+            }
         }
     }
 }

@@ -103,7 +103,8 @@ impl PrometheusState {
         self.descriptions.publish(rt)
     }
 
-    /// A reader of the published descriptions, which was told of the last publish. `NoPlace` where no place is left for one.
+    /// A reader of the published descriptions, which was told of the last publish. `NoPlace` where no place was found for it, else
+    /// `Memory`.
     pub fn descriptions<R: Wait>(
         &mut self,
         rt: &R,

@@ -7,8 +7,7 @@ ghost use Rattle.metrics_core.specs.Outside.{Rose};
 ghost use Rattle.prom_format.specs.Pages.{row_text, label_set_text};
 ghost use Rattle.prom_format.specs.PrintedRows.{IsPrintedSet};
 ghost use Rattle.distributions.specs.Kinds.{kind_for};
-ghost use Rattle.prom_exporter.specs.Sampled.{IsTimely};
-ghost use Rattle.prom_exporter.specs.SampledRows.{sampled_rows, shown_word, lines_at, block_under, sampled_block, HasRowsOf, AreShown};
+ghost use Rattle.prom_exporter.specs.SampledRows.{sampled_rows, shown_word, lines_at, block_under, sampled_block, HasRowsOf};
 ghost use Rattle.prom_exporter.specs.Sending.{SendsMore, SendsPrefix};
 
 use crate::BuildError;
@@ -18,7 +17,7 @@ use crate::rows::Rows;
 use crate::sampled::HistogramCell;
 use distribution_rows::push_rows;
 use distributions::DistributionBuilder;
-use histogram_series::laws::distributions_show_samples;
+use histogram_series::laws::distributions_show_what_is_recorded;
 use metrics_core::{Memory, Sink};
 use metrics_registry::SeriesIter;
 
@@ -34,10 +33,10 @@ pub(crate) fn write_distributions<K: Sink>(
     sink: &mut K,
 ) -> Result<(), BuildError>
     requires kept { (globals : List LabelText) × HasRowsOf globals series.now rows.now }
-    ensures sent { OnOk result ((globals : List LabelText) → AreShown globals moment series.now rows.now
+    ensures sent { OnOk result ((globals : List LabelText) → HasRowsOf globals series.now rows.now
         → SendsMore (K.written sink.old) (K.written sink.new) (string_bytes buffer.old) (string_bytes buffer.new)
         (flat_map (sampled_block naming.now globals moment series.now distributions.now) rows.now.families)) }
-    ensures prefix { OnErr result ((globals : List LabelText) → AreShown globals moment series.now rows.now
+    ensures prefix { OnErr result ((globals : List LabelText) → HasRowsOf globals series.now rows.now
         → SendsPrefix (K.written sink.old) (K.written sink.new) (string_bytes buffer.old)
         (flat_map (sampled_block naming.now globals moment series.now distributions.now) rows.now.families)) }
     ensures errors { IfErr result (λ error. (error ≡ BuildError.WriteFault) ⊎ (error ≡ BuildError.Memory)) }
@@ -79,10 +78,10 @@ fn write_family<K: Sink>(
     sink: &mut K,
 ) -> Result<(), BuildError>
     requires kept { (globals : List LabelText) × HasRowsOf globals series.now rows.now }
-    ensures sent { OnOk result ((globals : List LabelText) → AreShown globals moment series.now rows.now
+    ensures sent { OnOk result ((globals : List LabelText) → HasRowsOf globals series.now rows.now
         → SendsMore (K.written sink.old) (K.written sink.new) (string_bytes buffer.old) (string_bytes buffer.new)
         (block_under naming.now globals moment series.now (option_copied word.entry) (string_bytes name.now, places.now))) }
-    ensures prefix { OnErr result ((globals : List LabelText) → AreShown globals moment series.now rows.now
+    ensures prefix { OnErr result ((globals : List LabelText) → HasRowsOf globals series.now rows.now
         → SendsPrefix (K.written sink.old) (K.written sink.new) (string_bytes buffer.old)
         (block_under naming.now globals moment series.now (option_copied word.entry) (string_bytes name.now, places.now))) }
     ensures errors { IfErr result (λ error. (error ≡ BuildError.WriteFault) ⊎ (error ≡ BuildError.Memory)) }
@@ -110,10 +109,10 @@ fn write_series<K: Sink>(
     sink: &mut K,
 ) -> Result<(), BuildError>
     requires kept { (globals : List LabelText) × HasRowsOf globals series.now rows.now }
-    ensures sent { OnOk result ((globals : List LabelText) → AreShown globals moment series.now rows.now
+    ensures sent { OnOk result ((globals : List LabelText) → HasRowsOf globals series.now rows.now
         → SendsMore (K.written sink.old) (K.written sink.new) (string_bytes buffer.old) (string_bytes buffer.new)
         (flat_map (lines_at globals moment series.now name.now) places.now)) }
-    ensures prefix { OnErr result ((globals : List LabelText) → AreShown globals moment series.now rows.now
+    ensures prefix { OnErr result ((globals : List LabelText) → HasRowsOf globals series.now rows.now
         → SendsPrefix (K.written sink.old) (K.written sink.new) (string_bytes buffer.old)
         (flat_map (lines_at globals moment series.now name.now) places.now)) }
     ensures errors { IfErr result (λ error. (error ≡ BuildError.WriteFault) ⊎ (error ≡ BuildError.Memory)) }
@@ -137,7 +136,7 @@ fn push_series(
     buffer: &mut String,
 ) -> Result<(), Memory>
     requires kept { (globals : List LabelText) × HasRowsOf globals series.now rows.now }
-    ensures { OnOk result ((globals : List LabelText) → AreShown globals moment series.now rows.now
+    ensures { OnOk result ((globals : List LabelText) → HasRowsOf globals series.now rows.now
         → string_bytes buffer.new ≡ string_bytes buffer.old ++ lines_at globals moment series.now name.now place) }
 {
     let Some(labels) = rows.label_sets.get(place) else {
@@ -158,10 +157,10 @@ fn push_cell(
     buffer: &mut String,
 ) -> Result<(), Memory>
     requires labels { IsPrintedSet labels.now }
-    ensures { OnOk result ((set : List LabelText) → labels.now ≡ label_set_text set → IsTimely moment cell.now
+    ensures { OnOk result ((set : List LabelText) → labels.now ≡ label_set_text set
         → string_bytes buffer.new ≡ string_bytes buffer.old ++ flat_map row_text (sampled_rows moment name.now set cell.now)) }
 {
     // The law is called for the proof.
-    distributions_show_samples();
+    distributions_show_what_is_recorded();
     push_rows(buffer, name, labels, cell.distribution(), moment)
 }

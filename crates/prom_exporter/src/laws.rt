@@ -1,20 +1,53 @@
 //! Laws of pages and worked examples of them, each the contract of a function that does nothing.
 
-ghost use Rattle.std.specs.Prelude.{◌≡◌, ℕ};
+ghost use Rattle.std.specs.Prelude.{◌≡◌, ℕ, List, All};
 ghost use mathlib.Core.List.{IsPrefix};
 ghost use Rattle.legal_history.specs.declared.history.View.{View};
 ghost use Rattle.legal_history.specs.History.{calls_by};
 ghost use Rattle.metrics_core.specs.declared.calls.SeriesCall.{SeriesCall};
-ghost use Rattle.prom_format.specs.Pages.{IsPage, page_text};
-ghost use Rattle.prom_exporter.specs.State.{PrometheusState};
-ghost use Rattle.prom_exporter.specs.Families.{ExporterSettings, families_at};
+ghost use Rattle.prom_format.specs.Pages.{Family, IsPage, AreInRange, page_text};
+ghost use Rattle.prom_exporter.specs.State.{PrometheusState, Series};
+ghost use Rattle.prom_exporter.specs.Families.{ExporterSettings, Windows, window_of, kept_window, IsInTime, HaveSameQuantiles, families_by, families_at, families_written};
+ghost use Rattle.prom_exporter.specs.Ranges.{IsFixed};
+ghost use Rattle.prom_exporter.specs.Summaries.{IsSummary, AreSummariesTimely};
+ghost use Rattle.prom_exporter.specs.Exporter.{Exporter, written_body, written_page, shown_body, page_body};
 ghost use Rattle.prom_exporter.specs.Shared.{Shared, Looks, TakesBack};
 ghost use Rattle.prom_exporter.specs.Vectors.{BasicPage};
 
-/// The page of any state at any moment and with any settings is read by the grammar of the Prometheus text exposition
-/// format, version 0.0.4, as exactly the families that the state shows.
+/// The page of any state with any settings is read by the grammar of the Prometheus text exposition format, version 0.0.4, as
+/// exactly the families that the state shows, whatever is answered of windows.
 pub fn pages_are_read()
-    ensures { (settings : ExporterSettings) (t : ℕ) (s : PrometheusState) → IsPage (page_text (families_at settings t s)) (families_at settings t s) }
+    ensures { (settings : ExporterSettings) (windows : Windows) (s : PrometheusState)
+        → IsPage (page_text (families_by settings windows s)) (families_by settings windows s) }
+{}
+
+/// The values of the families of a state have 128 bits, where those of its calls have 64. So its page has one reading.
+pub fn pages_have_one_reading()
+    ensures in_range { (settings : ExporterSettings) (t : ℕ) (s : PrometheusState) → IsFixed s → AreInRange (families_at settings t s) }
+    ensures written_in_range { (settings : ExporterSettings) (t : ℕ) (s : PrometheusState) → IsFixed s → AreInRange (families_written settings t s) }
+    ensures reading { (settings : ExporterSettings) (t : ℕ) (s : PrometheusState) (families : List Family) → IsFixed s → AreInRange families
+        → IsPage (page_text (families_at settings t s)) families → families ≡ families_at settings t s }
+{}
+
+/// What a rolling summary keeps of the window of a series has the quantiles of the window, where the series' own moments never fall
+/// and none is after the page's.
+pub fn windows_in_time_are_kept()
+    ensures { (settings : ExporterSettings) (t : ℕ) (series : Series) → IsInTime t series
+        → HaveSameQuantiles (kept_window settings t series) (window_of settings t series) }
+{}
+
+/// Families hang on what is answered of windows by the quantiles of summaries alone.
+pub fn families_hang_on_quantiles()
+    ensures { (settings : ExporterSettings) (one other : Windows) (s : PrometheusState)
+        → All (λ series. IsSummary settings series → HaveSameQuantiles (one series) (other series)) s.histograms
+        → families_by settings one s ≡ families_by settings other s }
+{}
+
+/// Where of each summary the moments of samples never fall, and none is after the page's, what is written are the families of the
+/// samples.
+pub fn timely_pages_show_their_samples()
+    ensures body { (moment : ℕ) (exporter : Exporter) → AreSummariesTimely moment exporter → written_body moment exporter ≡ shown_body moment exporter }
+    ensures page { (moment : ℕ) (exporter : Exporter) → AreSummariesTimely moment exporter → written_page moment exporter ≡ page_body moment exporter }
 {}
 
 /// The body of the page of one counter, `basic_counter` at 42, is its type line, its row and an empty line.

@@ -1,10 +1,8 @@
 //! Native histograms, which have no rows on a page: they are asked for by the ids of their series.
 
-ghost use Rattle.std.specs.Prelude.{ℕ};
 ghost use Rattle.std.specs.Option.{option_copied};
 ghost use Rattle.metrics_registry.specs.Live.{cell_of};
 ghost use Rattle.prom_exporter.specs.Natives.{HasNative};
-ghost use Rattle.prom_exporter.specs.Exporter.{AreTimely};
 
 use crate::state::PrometheusState;
 use distributions::Distribution;
@@ -15,7 +13,7 @@ impl PrometheusState {
     /// The native histogram of a series, with the samples that are recorded, its buckets as they stand. It is `None` exactly where
     /// no histogram with the id is live, or its distribution is none of this kind.
     pub fn native(&self, id: SeriesId) -> Option<&NativeHistogram>
-        ensures { (t : ℕ) → AreTimely t self.now → HasNative (cell_of id self.now.series.histograms) (option_copied result) }
+        ensures { HasNative (cell_of id self.now.series.histograms) (option_copied result) }
     {
         match self.series.get_histogram(id)?.distribution() {
             Distribution::NativeHistogram(native) => Some(native),

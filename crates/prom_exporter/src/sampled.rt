@@ -3,11 +3,10 @@
 ghost use Rattle.std.specs.Prelude.{◌≡◌, [], None, unwrap_or, IfOk, OnOk, OnErr};
 ghost use Rattle.std.specs.Arc.{arc_value};
 ghost use Rattle.legal_history.specs.History.{child, Settled};
-ghost use Rattle.rolling_summaries.specs.Standing.{NeverFall};
 ghost use Rattle.distributions.specs.Kinds.{DistributionKind};
 ghost use Rattle.distributions.specs.Recording.{StandsFor};
 ghost use Rattle.sample_queue.specs.Passes.{IsSamplePass, view_of};
-ghost use Rattle.histogram_series.specs.Series.{recorded_samples, with_one_back};
+ghost use Rattle.histogram_series.specs.Series.{kind_of, recorded, recorded_samples, with_one_back, AreInTurn, HasRecorded};
 ghost use Rattle.prom_exporter.specs.Sampled.{unsampled, with_pass_out, IsAtRest};
 ghost use Rattle.prom_exporter.specs.Stepped.{DrainsInPart, DrainsWhole, IsCounted};
 
@@ -120,7 +119,10 @@ impl HistogramCell {
 
     /// What it keeps of the samples that are recorded.
     pub(crate) fn distribution(&self) -> &Distribution
-        ensures { NeverFall (recorded_samples self.now.series) → StandsFor self.now.series.kind (recorded_samples self.now.series) result.now }
+        ensures recorded { HasRecorded self.now.series.kind (recorded self.now.series) result.now }
+        ensures kind { kind_of result.now ≡ self.now.series.kind }
+        ensures stands { let samples = recorded_samples self.now.series in
+            AreInTurn self.now.series.kind samples → StandsFor self.now.series.kind samples result.now }
     {
         self.series.distribution()
     }

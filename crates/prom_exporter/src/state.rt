@@ -10,7 +10,7 @@ ghost use Rattle.prom_exporter.specs.State.{register, live_series, number_given,
 ghost use Rattle.prom_exporter.specs.Shared.{TakesBack};
 ghost use Rattle.prom_exporter.specs.Builder.{with_globals, SpanIsTooLong};
 ghost use Rattle.prom_exporter.specs.Stepped.{IsNoted, AreNoted, Steps, DrainsEach, DrainsInPart};
-ghost use Rattle.prom_exporter.specs.Exporter.{Exporter, state_of, no_cells, AllHome, AddsCounter, AddsGauge, AreTimely, ChangesCounter, ChangesGauge, page_body, shown_body};
+ghost use Rattle.prom_exporter.specs.Exporter.{Exporter, state_of, no_cells, AllHome, AddsCounter, AddsGauge, AreTimely, ChangesCounter, ChangesGauge, written_page, written_body};
 ghost use Rattle.prom_exporter.specs.Lending.{LendsCounter, LendsGauge, LentCounter, LentGauge, HasNoCounter, HasNoGauge};
 
 use crate::BuildError;
@@ -306,7 +306,7 @@ impl PrometheusState {
     /// series without an update for longer goes, and passes of it that are out reach nothing of the exporter any more.
     ///
     /// After `WriteFault` the step was made too, and a prefix of the body was written. After `Memory` so, or histograms were drained in
-    /// part and nothing else happened: no sample is lost, and none counts twice.
+    /// part and nothing else happened, and no byte was written: no sample is lost, and none counts twice.
     pub fn render_to_write<R: Wait, K: Sink>(
         &mut self,
         rt: &R,
@@ -314,17 +314,18 @@ impl PrometheusState {
         moment: u64,
         sink: &mut K,
     ) -> Result<(), BuildError>
-        ensures steps { Steps moment self.old self.new ⊎ ((result ≡ Err BuildError.Memory) × DrainsEach DrainsInPart self.old self.new) }
+        ensures steps { Steps moment self.old self.new
+            ⊎ ((result ≡ Err BuildError.Memory) × DrainsEach DrainsInPart self.old self.new × (K.written sink.new ≡ K.written sink.old)) }
         ensures home { AllHome self.old → AllHome self.new }
         ensures stepped { AllHome self.old → (state_of self.new ≡ page_step self.old.settings.idle moment (state_of self.old))
             ⊎ ((result ≡ Err BuildError.Memory) × (state_of self.new ≡ state_of self.old)) }
         ensures timely { (t : ℕ) → AllHome self.old → AreTimely t self.old → AreTimely t self.new }
 
-        // What is shown of a histogram is defined where the moments of its samples never fall and none is after the page's moment.
-        ensures body { OnOk result (AreTimely moment self.new → GrewBy (K.written sink.old) (K.written sink.new) (shown_body moment self.new)) }
-        ensures prefix { OnErr result (AreTimely moment self.new → GrewByPrefix (K.written sink.old) (K.written sink.new) (shown_body moment self.new)) }
-        ensures page { OnOk result (AllHome self.old → AreTimely moment self.old → GrewBy (K.written sink.old) (K.written sink.new) (page_body moment self.old)) }
-        ensures page_prefix { OnErr result (AllHome self.old → AreTimely moment self.old → GrewByPrefix (K.written sink.old) (K.written sink.new) (page_body moment self.old)) }
+        // Of a summary the values of quantiles are those of what its rolling summary keeps, whatever the moments; all else hangs on no moment.
+        ensures body { OnOk result (GrewBy (K.written sink.old) (K.written sink.new) (written_body moment self.new)) }
+        ensures prefix { OnErr result (GrewByPrefix (K.written sink.old) (K.written sink.new) (written_body moment self.new)) }
+        ensures page { OnOk result (AllHome self.old → GrewBy (K.written sink.old) (K.written sink.new) (written_page moment self.old)) }
+        ensures page_prefix { OnErr result (AllHome self.old → GrewByPrefix (K.written sink.old) (K.written sink.new) (written_page moment self.old)) }
 
         ensures errors { IfErr result (λ error. (error ≡ BuildError.WriteFault) ⊎ (error ≡ BuildError.Memory)) }
         ensures cause { result ≡ Err BuildError.WriteFault → Rose (K.faults sink.old) (K.faults sink.new) }

@@ -11,10 +11,10 @@ use Rattle.std.specs.declared.net.ip_addr.IpAddr.{IpAddr}
 use Rattle.net_addresses.specs.Addresses.{NetworkText}
 use Rattle.prom_format.specs.Pages.{body_text}
 use Rattle.prom_exporter.specs.State.{PrometheusState, page_step}
-use Rattle.prom_exporter.specs.Families.{families_at}
+use Rattle.prom_exporter.specs.Families.{ExporterSettings, families_written}
 use Rattle.prom_exporter.specs.Stepped.{Steps, DrainsEach, DrainsInPart}
 use Rattle.prom_exporter.proofs.PagesAgain.{page_step-again}
-use Rattle.prom_exporter.specs.Exporter.{Exporter, AllHome, AreTimely, state_of, body_shown, page_body}
+use Rattle.prom_exporter.specs.Exporter.{Exporter, AllHome, AreTimely, state_of, written_page}
 use Rattle.prom_serve.specs.Connections.{Ended, Told, IsFresh, CountedOn}
 use Rattle.prom_serve.specs.Refusals.{excepted}
 use Rattle.prom_serve.specs.declared.errors.ServeError.{ServeError}
@@ -64,24 +64,22 @@ renders_home moment (suc n) old new home (middle, first, inr rendered) =
       state = next_state moment old middle new (renders_settings moment n old middle first) (rendered.stepped stays.home) stays.state;
     }
 
-renders_timely : (moment n : ℕ) (old new : Exporter) → AllHome old → AreTimely moment old → Renders moment n old new → AreTimely moment new
-renders_timely moment zero old new home timely same = subst (AreTimely moment) (sym same) timely
-renders_timely moment (suc n) old new home timely (middle, first, inl same) = subst (AreTimely moment) (sym same) (renders_timely moment n old middle home timely first)
-renders_timely moment (suc n) old new home timely (middle, first, inr rendered) = rendered.timely (renders_home moment n old middle home first).home (renders_timely moment n old middle home timely first)
-
 -- then the page stays the same
-page_stays : (moment : ℕ) (old new : Exporter) → new.settings ≡ old.settings → (state_of new ≡ state_of old) ⊎ (state_of new ≡ page_step old.settings.idle moment (state_of old)) → page_body moment new ≡ page_body moment old
-page_stays moment old new settings (inl same) = (λ j. body_shown (settings j) moment (same j))
+abbrev page_written : ExporterSettings → ℕ → PrometheusState → List ℕ
+page_written settings moment s = body_text (families_written settings moment (page_step settings.idle moment s))
+
+page_stays : (moment : ℕ) (old new : Exporter) → new.settings ≡ old.settings → (state_of new ≡ state_of old) ⊎ (state_of new ≡ page_step old.settings.idle moment (state_of old)) → written_page moment new ≡ written_page moment old
+page_stays moment old new settings (inl same) = (λ j. page_written (settings j) moment (same j))
 page_stays moment old new settings (inr stepped) =
-    (λ j. body_shown (settings j) moment (stepped j))
-    ∙ ap (λ (s : PrometheusState). body_text (families_at old.settings moment s)) (page_step-again old.settings.idle moment (state_of old))
+    (λ j. page_written (settings j) moment (stepped j))
+    ∙ ap (λ (s : PrometheusState). body_text (families_written old.settings moment s)) (page_step-again old.settings.idle moment (state_of old))
 
 -- a render that answered, or not
-pub rendered_by : {A B : Type 0} (moment : ℕ) (old new : Exporter) → Steps moment old new ⊎ (A × DrainsEach DrainsInPart old new) → (AllHome old → AllHome new)
+pub rendered_by : {A B C : Type 0} (moment : ℕ) (old new : Exporter) → Steps moment old new ⊎ (A × DrainsEach DrainsInPart old new × C) → (AllHome old → AllHome new)
     → (AllHome old → (state_of new ≡ page_step old.settings.idle moment (state_of old)) ⊎ (B × (state_of new ≡ state_of old))) → ((t : ℕ) → AllHome old → AreTimely t old → AreTimely t new) → IsRendered moment old new
-rendered_by {A} {B} moment old new steps home stepped timely = record { steps = steps_by steps; home = home; stepped = λ at_home. stepped_by (stepped at_home); timely = timely moment }
+rendered_by {A} {B} {C} moment old new steps home stepped timely = record { steps = steps_by steps; home = home; stepped = λ at_home. stepped_by (stepped at_home); timely = timely moment }
   where
-    steps_by : Steps moment old new ⊎ (A × DrainsEach DrainsInPart old new) → Steps moment old new ⊎ DrainsEach DrainsInPart old new
+    steps_by : Steps moment old new ⊎ (A × DrainsEach DrainsInPart old new × C) → Steps moment old new ⊎ DrainsEach DrainsInPart old new
     steps_by (inl whole) = inl whole
     steps_by (inr part) = inr part.1
 
@@ -106,29 +104,29 @@ ended_by networks moment old new who who_after (Some before) after (Some s) (Som
     )
 
 -- a peer that was served saw the page of the exporter as it was
-pub served_shown : (networks : Option (List NetworkText)) (moment : ℕ) (exporter : Exporter) → AllHome exporter → AreTimely moment exporter → (ended : Ended) → IsServed networks moment exporter ended → IsShown networks moment exporter ended
-served_shown networks moment exporter home timely ended served no_faults = by (served no_faults)
+pub served_shown : (networks : Option (List NetworkText)) (moment : ℕ) (exporter : Exporter) → AllHome exporter → (ended : Ended) → IsServed networks moment exporter ended → IsShown networks moment exporter ended
+served_shown networks moment exporter home ended served no_faults = by (served no_faults)
   where
     by : (most : ℕ) × (before after : Exporter) × Renders moment most exporter before × MayRender moment before after × IsAnsweredBy networks moment before after ended.who ended.told
-        → IsAnswered networks (page_body moment exporter) ended.who ended.told
+        → IsAnswered networks (written_page moment exporter) ended.who ended.told
     by (most, before, after, renders, may, inl (page, is, answered)) =
         let stays = renders_home moment most exporter before home renders in
-        let same : page ≡ page_body moment exporter = is.home stays.home (renders_timely moment most exporter before home timely renders) ∙ page_stays moment exporter before (renders_settings moment most exporter before renders) stays.state in
+        let same : page ≡ written_page moment exporter = is.home stays.home ∙ page_stays moment exporter before (renders_settings moment most exporter before renders) stays.state in
         subst (λ (p : List ℕ). IsAnswered networks p ended.who ended.told) same answered
-    by (most, before, after, renders, may, inr always) = always (page_body moment exporter)
+    by (most, before, after, renders, may, inr always) = always (written_page moment exporter)
 
-all_shown : (networks : Option (List NetworkText)) (moment : ℕ) (exporter : Exporter) → AllHome exporter → AreTimely moment exporter → (ended : List Ended) → All (IsServed networks moment exporter) ended → All (IsShown networks moment exporter) ended
-all_shown networks moment exporter home timely ended = All-weaker (IsServed networks moment exporter) (IsShown networks moment exporter) (served_shown networks moment exporter home timely) ended
+all_shown : (networks : Option (List NetworkText)) (moment : ℕ) (exporter : Exporter) → AllHome exporter → (ended : List Ended) → All (IsServed networks moment exporter) ended → All (IsShown networks moment exporter) ended
+all_shown networks moment exporter home ended = All-weaker (IsServed networks moment exporter) (IsShown networks moment exporter) (served_shown networks moment exporter home) ended
 
 pub shows_page : (networks : Option (List NetworkText)) (moment accepted last : ℕ) (exporter left : Exporter) (old new : Listening) → Accepts networks moment accepted last exporter left old new
     → ShowsPage networks moment accepted last exporter old.finished new.finished
-shows_page networks moment accepted last exporter left old new accepts home timely = by old.finished accepts.finished
+shows_page networks moment accepted last exporter left old new accepts home = by old.finished accepts.finished
   where
     by : (o : Option (List Ended))
         → IfSome o (λ before. (ended : List Ended) × (new.finished ≡ Some (before ++ ended)) × (length ended ≡ accepted) × All (IsServed networks moment exporter) (take (accepted - last) ended))
         → IfSome o (λ before. (ended : List Ended) × (new.finished ≡ Some (before ++ ended)) × (length ended ≡ accepted) × All (IsShown networks moment exporter) (take (accepted - last) ended))
     by None none = tt
-    by (Some before) (ended, is, long, all) = (ended, is, long, all_shown networks moment exporter home timely (take (accepted - last) ended) all)
+    by (Some before) (ended, is, long, all) = (ended, is, long, all_shown networks moment exporter home (take (accepted - last) ended) all)
 
 -- ---- connections
 

@@ -4,7 +4,7 @@ use Rattle.std.specs.List.{Any}
 use Rattle.std.specs.declared.net.ip_addr.IpAddr.{IpAddr}
 use Rattle.net_addresses.specs.Addresses.{NetworkText, Holds}
 use Rattle.prom_exporter.specs.State.{page_step}
-use Rattle.prom_exporter.specs.Exporter.{Exporter, AllHome, AreTimely, state_of, shown_body, page_body}
+use Rattle.prom_exporter.specs.Exporter.{Exporter, AllHome, AreTimely, state_of, written_body, written_page}
 use Rattle.prom_exporter.specs.Stepped.{Steps, DrainsEach, DrainsInPart}
 use Rattle.prom_serve.specs.Answers.{IsAnswer}
 use Rattle.prom_serve.specs.Connections.{Told, Ended, IsFresh, CountedOn}
@@ -29,8 +29,8 @@ pub record IsRendered (moment : ℕ) (old new : Exporter) : Type 0 where
 
 -- the bytes are the page that a render at a moment wrote
 pub record IsPageAt (moment : ℕ) (old new : Exporter) (page : List ℕ) : Type 0 where
-  pub shown : AreTimely moment new → page ≡ shown_body moment new
-  pub home : AllHome old → AreTimely moment old → page ≡ page_body moment old
+  pub shown : page ≡ written_body moment new
+  pub home : AllHome old → page ≡ written_page moment old
 
 -- one render at a moment, or none
 abbrev pub MayRender : ℕ → Exporter → Exporter → Type 0
@@ -73,7 +73,7 @@ IsServed networks moment exporter ended =
 
 -- it was answered by the page of the exporter as it was
 abbrev pub IsShown : Option (List NetworkText) → ℕ → Exporter → Ended → Type 0
-IsShown networks moment exporter ended = ended.faults ≡ 0 → IsAnswered networks (page_body moment exporter) ended.who ended.told
+IsShown networks moment exporter ended = ended.faults ≡ 0 → IsAnswered networks (written_page moment exporter) ended.who ended.told
 
 -- ---- a call
 
@@ -97,10 +97,10 @@ pub record AcceptsOne (networks : Option (List NetworkText)) (moment : ℕ) (was
       (ended : Ended) × (new.finished ≡ Some (before ++ ended ∷ []))
       × (IsTrue was_served → ended.faults ≡ 0 → IsAnsweredBy networks moment exporter_old exporter_new ended.who ended.told))
 
--- Where no pass is out and no moment is after that of the page, each peer that was served saw the page of the exporter as it was.
+-- Where no pass is out, each peer that was served saw the page of the exporter as it was.
 abbrev pub ShowsPage : Option (List NetworkText) → ℕ → ℕ → ℕ → Exporter → Option (List Ended) → Option (List Ended) → Type 0
 ShowsPage networks moment accepted last exporter old new =
-    AllHome exporter → AreTimely moment exporter → IfSome old (λ before.
+    AllHome exporter → IfSome old (λ before.
     (ended : List Ended) × (new ≡ Some (before ++ ended)) × (length ended ≡ accepted) × All (IsShown networks moment exporter) (take (accepted - last) ended))
 
 -- at most so many connections were accepted and given back, and so each peer of theirs but the last few

@@ -1,2 +1,4 @@
 pub mod InOrder
 pub mod Pushed
+pub mod Rooted
+pub mod TakenAll

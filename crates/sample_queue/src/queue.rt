@@ -7,7 +7,7 @@ ghost use Rattle.sample_queue.specs.Queues.{Entries, Holds, Puts, GivesOut, Answ
 
 use crate::calls::{QueueCall, SampleEntry};
 use crate::pass::SamplePass;
-use crate::rule::{FirstInFirstOut, Loan, Pops, Pushes};
+use crate::rule::{FirstInFirstOut, Loan, Looks, Pops, Pushes};
 use crossbeam_queue::RuledSegQueue;
 use legal_history::history::View;
 use metrics_core::Memory;
@@ -65,9 +65,11 @@ impl<T: Drop> SampleQueue<T> {
         }
     }
 
-    /// Takes the front entry. None only where the queue was empty at a moment of the call.
+    /// Takes the front entry with the root pass. None only where the queue was empty at a moment of the call: then the root has
+    /// taken out all that it had seen pushed.
     pub fn next<R: Wait>(&self, rt: &R, pass: &mut SamplePass<T>) -> Option<SampleEntry<T>>
-        requires { IsSamplePass self.now pass.old }
+        requires pass { IsSamplePass self.now pass.old }
+        requires root { (view_of pass.old).number ≡ 0 }
         ensures pass { IsSamplePass self.now pass.new }
         ensures call { GivesOut (view_of pass.old) result (view_of pass.new) }
         ensures alone { AnswersAlone (view_of pass.old) result }
@@ -85,7 +87,7 @@ impl<T: Drop> SampleQueue<T> {
         ensures settled { Settled (view_of pass.old) }
         ensures items { (items : Entries T) × Holds (view_of pass.old) items }
     {
-        self.queue.len_as::<Pops, R>(rt, &mut pass.seat);
+        self.queue.len_as::<Looks, R>(rt, &mut pass.seat);
     }
 
     /// Makes no call, and finds what the pass has seen to stand in the history. This changes nothing.
@@ -95,7 +97,7 @@ impl<T: Drop> SampleQueue<T> {
         ensures same { view_of pass.new ≡ view_of pass.old }
         ensures none { Made (λ made. made ≡ []) (view_of pass.old) (view_of pass.new) }
     {
-        self.queue.len_as::<Pops, R>(rt, &mut pass.seat);
+        self.queue.len_as::<Looks, R>(rt, &mut pass.seat);
     }
 
     /// A new pass of this queue, for another caller. It knows what the root knows, and has made no call.

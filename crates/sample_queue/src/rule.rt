@@ -4,16 +4,14 @@ use crate::calls::{QueueCall, SampleEntry};
 use crossbeam_queue::protocol::{Join, Lesson, Outcome, Protocol, Split};
 use legal_history::history::View;
 
-/// The queue and its passes have one legal history.
+/// The queue and its passes have one legal history, in which only the root takes entries out.
 pub struct FirstInFirstOut;
 
 impl<T> Protocol<SampleEntry<T>, View<QueueCall<T>>> for FirstInFirstOut {
-    ghost use Rattle.std.specs.Prelude.{[]};
-    ghost use Rattle.legal_history.specs.Object.{Keeps};
     ghost use Rattle.legal_history.specs.History.{first};
-    ghost use Rattle.sample_queue.specs.Queues.{QueueStep};
+    ghost use Rattle.sample_queue.specs.Queues.{KeepsRooted};
 
-    ghost holds = { λ items views. Keeps QueueStep [] items views };
+    ghost holds = { λ items views. KeepsRooted items views };
 
     ghost first = { first };
 }
@@ -43,6 +41,15 @@ impl<T> Outcome<SampleEntry<T>, View<QueueCall<T>>> for Pops {
 }
 
 impl<T> Lesson<SampleEntry<T>, View<QueueCall<T>>> for Pops {
+    ghost use Rattle.sample_queue.specs.Queues.{Finds};
+
+    ghost fact = { λ v items. Finds v items };
+}
+
+/// A look that changes nothing.
+pub struct Looks;
+
+impl<T> Lesson<SampleEntry<T>, View<QueueCall<T>>> for Looks {
     ghost use Rattle.std.specs.Prelude.{[]};
     ghost use Rattle.legal_history.specs.Object.{Told};
     ghost use Rattle.sample_queue.specs.Queues.{QueueStep};

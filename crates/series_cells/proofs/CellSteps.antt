@@ -1,5 +1,5 @@
 -- Each step of a cell of two words keeps its rule, whatever its value means.
-use Rattle.std.proofs.Common.{◌≡◌, ◌≢◌, ℕ, zero, suc, ◌+◌, ◌%◌, ◌^◌, ◌<◌, ◌≤◌, Bool, true, false, List, [], ◌∷◌, ◌++◌, map, fold, length, set, refl, sym, ap, ◌∙◌, subst, ⊎_elim, arith, length-append, true≢false, le_refl}
+use Rattle.std.proofs.Common.{◌≡◌, ◌≢◌, ℕ, zero, suc, ◌+◌, ◌%◌, ◌^◌, ◌<◌, ◌≤◌, ◌==◌, ◌⊎◌, Bool, true, false, List, [], ◌∷◌, ◌++◌, map, fold, length, set, refl, sym, ap, ◌∙◌, subst, inl, inr, ⊎_elim, arith, eq-eqb, length-append, true≢false, le_refl}
 use Rattle.std.specs.Prelude.{slice_index}
 use Rattle.std.proofs.Math.ListN.{length-set}
 use mathlib.Core.Option.{some, some-ne-none, some-injective}
@@ -7,11 +7,11 @@ use native.Mathlib.Decide.{ℕ_discrete}
 use lib.ListN.{get_elem?}
 use Rattle.atomic_table.specs.Table.{State, keeps, Allows, Splits, Joins}
 use Rattle.atomic_table.proofs.Lists.{at_set, at_snoc, at_map, set_again}
-use Rattle.legal_history.specs.History.{In, calls, said, after, looked, child, taker, nobody, Legal}
+use Rattle.legal_history.specs.History.{In, without, keep_unless, calls, said, after, looked, child, taker, nobody, Legal}
 use Rattle.legal_history.specs.Order.{flag}
 use Rattle.legal_history.specs.Object.{Runs}
 use Rattle.legal_history.proofs.Lists.{calls-append}
-use Rattle.legal_history.proofs.Steps.{step as step_legal, look, lend, take_back, begins, sees, settled, one_at, empty_list}
+use Rattle.legal_history.proofs.Steps.{step as step_legal, look, lend, take_back, begins, sees, one_at, in_without}
 use Rattle.legal_history.proofs.Objects.{runs_more}
 use Rattle.metrics_core.specs.declared.calls.SeriesCall.{SeriesCall}
 use Rattle.series_cells.specs.declared.views.CellView.{CellView}
@@ -35,9 +35,41 @@ total_snoc : {A : Type 0} (f : A → ℕ) (l : List A) (a : A) → total f (l ++
 total_snoc f [] a = omega arith
 total_snoc f (x ∷ xs) a = let h = total_snoc f xs a in omega arith
 
-total_none : {A : Type 0} (f : A → ℕ) (l : List A) → ((i : ℕ) (a : A) → get_elem? l i ≡ some a → f a ≡ 0) → total f l ≡ 0
-total_none f [] h = refl
-total_none f (x ∷ xs) h = let z : f x ≡ 0 = h 0 x refl in let r = total_none f xs (λ i. h (suc i)) in omega arith
+shorter_kept : (b : Bool) (k x : ℕ) (xs rest : List ℕ) → (x == k) ≡ b → length rest ≤ length xs → (In k xs → length rest < length xs) → In k (x ∷ xs) → length (keep_unless b x rest) < length (x ∷ xs)
+shorter_kept true k x xs rest e most less q = omega (arith, most)
+shorter_kept false k x xs rest e most less q = ⊎_elim (λ (z : k ≡ x). absurd (true≢false (sym (eq-eqb x k (sym z)) ∙ e))) (λ (y : In k xs). let l = less y in omega (arith, l)) q
+
+at_most_kept : (b : Bool) (x : ℕ) (xs rest : List ℕ) → length rest ≤ length xs → length (keep_unless b x rest) ≤ length (x ∷ xs)
+at_most_kept true x xs rest most = omega (arith, most)
+at_most_kept false x xs rest most = omega (arith, most)
+
+without_at_most : (k : ℕ) (xs : List ℕ) → length (without k xs) ≤ length xs
+without_at_most k [] = omega arith
+without_at_most k (x ∷ xs) = at_most_kept (x == k) x xs (without k xs) (without_at_most k xs)
+
+without_shorter : (k : ℕ) (xs : List ℕ) → In k xs → length (without k xs) < length xs
+without_shorter k [] q = absurd q
+without_shorter k (x ∷ xs) q = shorter_kept (x == k) k x xs (without k xs) refl (without_at_most k xs) (without_shorter k xs) q
+
+-- where each one that counts stands among these places, there are at most so many
+total_few : {A : Type 0} (f : A → ℕ) (l : List A) (from : ℕ) (ks : List ℕ) → ((i : ℕ) (a : A) → get_elem? l i ≡ some a → (f a ≡ 0) ⊎ ((f a ≡ 1) × In (i + from) ks)) → total f l ≤ length ks
+total_few f [] from ks h = omega arith
+total_few {A} f (x ∷ xs) from ks h = ⊎_elim
+    (λ (z : f x ≡ 0).
+    let rest = total_few f xs (from + 1) ks (λ i a e. ⊎_elim inl (λ (q : (f a ≡ 1) × In (suc i + from) ks). inr (q.0, subst (λ n. In n ks) (next i) q.1)) (h (suc i) a e)) in
+    omega (arith, z, rest))
+    (λ (q : (f x ≡ 1) × In (0 + from) ks).
+    let rest = total_few f xs (from + 1) (without (0 + from) ks)
+    (λ i a e. ⊎_elim inl (λ (p : (f a ≡ 1) × In (suc i + from) ks). inr (p.0, subst (λ n. In n (without (0 + from) ks)) (next i) (in_without (suc i + from) (0 + from) ks (apart i) p.1))) (h (suc i) a e)) in
+    let shorter = without_shorter (0 + from) ks q.1 in
+    omega (arith, q.0, rest, shorter))
+    (h 0 x refl)
+  where
+    next : (i : ℕ) → suc i + from ≡ i + (from + 1)
+    next i = omega arith
+
+    apart : (i : ℕ) → suc i + from ≢ 0 + from
+    apart i e = absurd (omega (arith, e))
 
 word_0 : (ws : List ℕ) (n : ℕ) → length ws ≡ 2 → (slice_index (set ws 0 n) 0 ≡ n) × (slice_index (set ws 0 n) 1 ≡ slice_index ws 1)
 word_0 [] n e = absurd (omega arith)
@@ -180,21 +212,23 @@ module _ {S : Type 0} (step : S → SeriesCall → S) (start : S) (value_of : �
         spent = each_set (λ x. x.history.live ≡ false → x.waits ≡ false) (set views 0 (cell_taker v w)) other cell_nobody (each_set (λ x. x.history.live ≡ false → x.waits ≡ false) views 0 (cell_taker v w) k.spent (λ off. absurd (true≢false (sym live ∙ off)))) (λ _. refl);
       }
 
-  -- with no pass out and nothing to count, the count is the length of the history
-  whole_count : (ws : List ℕ) (views : List CellView) (v : CellView) (k : Kept step start value_of ws views) → get_elem? views 0 ≡ some v → v.history.live ≡ true → v.history.out ≡ 0 → v.waits ≡ false → k.counted ≡ length v.history.seen
-  whole_count ws views v k at live none idle =
+  -- for a root with nothing to count, at most one call of each pass that is out waits to be counted
+  few_wait : (ws : List ℕ) (views : List CellView) (v : CellView) (k : Kept step start value_of ws views) → get_elem? views 0 ≡ some v → v.history.live ≡ true → v.waits ≡ false
+      → length k.keeps.log ≤ k.counted + v.history.out
+  few_wait ws views v k at live idle =
       let legal = k.keeps.legal in
-      let all = (settled k.keeps.log (map history_of views) v.history legal (at_map history_of views 0 v at) live none).0 in
-      let no_children : legal.children ≡ [] = empty_list legal.children (sym (legal.root v.history (at_map history_of views 0 v at)).out_is ∙ none) in
-      let zero_wait : total waiting views ≡ 0 = total_none waiting views (λ i u e. idle_at no_children i u e (ℕ_discrete i 0) u.history.live refl) in
+      let out = (legal.root v.history (at_map history_of views 0 v at)).out_is in
+      let few : total waiting views ≤ length legal.children = total_few waiting views 0 legal.children (λ i u e. waits_out i u e (ℕ_discrete i 0) u.history.live refl u.waits refl) in
       let was = k.waits in
-      let len : length k.keeps.log ≡ length v.history.seen = ap length all in
       omega arith
     where
-      idle_at : k.keeps.legal.children ≡ [] → (i : ℕ) (u : CellView) → get_elem? views i ≡ some u → Dec (i ≡ 0) → (b : Bool) → u.history.live ≡ b → waiting u ≡ 0
-      idle_at none_out i u e d false l = ap flag (k.spent i u e l)
-      idle_at none_out i u e (yes z) true l = ap waiting (one_at views 0 u v (subst (λ n. get_elem? views n ≡ some u) z e) at) ∙ ap flag idle
-      idle_at none_out i u e (no ne) true l = absurd (subst (In i) none_out ((k.keeps.legal.each i u.history (at_map history_of views i u e) l).out ne))
+      waits_out : (i : ℕ) (u : CellView) → get_elem? views i ≡ some u → Dec (i ≡ 0) → (b : Bool) → u.history.live ≡ b → (w : Bool) → u.waits ≡ w → (waiting u ≡ 0) ⊎ ((waiting u ≡ 1) × In (i + 0) k.keeps.legal.children)
+      waits_out i u e d b l false w = inl (ap flag w)
+      waits_out i u e d false l true w = absurd (true≢false (sym w ∙ k.spent i u e l))
+      waits_out i u e (yes z) true l true w = inl (ap waiting (one_at views 0 u v (subst (λ n. get_elem? views n ≡ some u) z e) at) ∙ ap flag idle)
+      waits_out i u e (no ne) true l true w =
+          let same : i ≡ i + 0 = omega arith in
+          inr (ap flag w, subst (λ n. In n k.keeps.legal.children) same ((k.keeps.legal.each i u.history (at_map history_of views i u e) l).out ne))
 
   -- the same as steps on the table: a call, whose atomic step turns the word n into f n
   pub makes : (slots id : ℕ) (m : Seen) (c : SeriesCall) (f : ℕ → ℕ) → m.0.history.live ≡ true → m.0.waits ≡ false → ((n : ℕ) → n < 2 ^ 64 → step (value_of n) c ≡ value_of (f n))
@@ -236,19 +270,23 @@ module _ {S : Type 0} (step : S → SeriesCall → S) (start : S) (value_of : �
       let log = k.keeps.log in
       let legal = k.keeps.legal in
       let here = at_map history_of s.views id m.0 at in
-      let w = cell_view m.0.history m.0.waits k.counted in (
+      let w = cell_view (looked m.0.history log) m.0.waits k.counted in (
         w,
         keeps,
         tt,
         subst (λ ws. Kept step start value_of ws (set s.views id w)) (sym (same_word s.words 1))
-            (kept_views s.words s.views id m.0 w k at (le_refl k.counted) refl refl (subst (Legal log) (sym (set_again (map history_of s.views) id m.0.history here)) legal)),
+            (kept_views s.words s.views id m.0 w k at (le_refl k.counted) refl refl (look log (map history_of s.views) id m.0.history legal here live)),
         (
           k.counted,
           k.known id m.0 at,
           k.count,
-          (log, sees log (map history_of s.views) id m.0.history legal here live, (let was = k.waits in omega arith)),
-          λ z none idle. whole_count s.words s.views m.0 k (subst (λ n. get_elem? s.views n ≡ some m.0) (sym (legal.each id m.0.history here live).number ∙ z) at) live none idle,
-          refl,
+          (
+            log,
+            sees log (map history_of s.views) id m.0.history legal here live,
+            (let was = k.waits in omega arith),
+            λ z idle. few_wait s.words s.views m.0 k (subst (λ n. get_elem? s.views n ≡ some m.0) (sym (legal.each id m.0.history here live).number ∙ z) at) live idle,
+            refl,
+          ),
           refl,
         ),
       )

@@ -72,11 +72,14 @@ Looked step start value_of m n w = (log : List (Entry SeriesCall)) × Sees m.0.h
 abbrev pub Counted : Seen → Seen → Type 0
 Counted m w = (count : ℕ) × (m.0.known ≤ count) × (w.0 ≡ cell_view m.0.history false (count + 1)) × (w.1 ≡ m.1)
 
--- the number of calls counted, of those of a history that begins with all that the pass had seen. With no other pass out and none of its own calls to count, it is the number of all calls
+-- The number of calls counted, of those of a history that begins with all that the pass had seen; the pass has then seen that history. For a root with none of its own calls to count,
+-- all calls of it are counted but one at most of each pass that is out.
 abbrev pub CountRead : Seen → ℕ → Seen → Type 0
 CountRead m n w = (count : ℕ) × (m.0.known ≤ count) × (n ≡ count % 2 ^ 64)
-    × ((log : List (Entry SeriesCall)) × Sees m.0.history log × (count ≤ length log))
-    × (m.0.history.number ≡ 0 → m.0.history.out ≡ 0 → m.0.waits ≡ false → count ≡ length m.0.history.seen) × (w.0 ≡ cell_view m.0.history m.0.waits count) × (w.1 ≡ m.1)
+    × ((log : List (Entry SeriesCall)) × Sees m.0.history log × (count ≤ length log)
+    × (m.0.history.number ≡ 0 → m.0.waits ≡ false → length log ≤ count + m.0.history.out)
+    × (w.0 ≡ cell_view (looked m.0.history log) m.0.waits count))
+    × (w.1 ≡ m.1)
 
 -- the pass was told that a history begins with all that it had seen, and nothing changed
 abbrev pub Told : Seen → Seen → Type 0

@@ -1,5 +1,5 @@
 -- What contracts read of cells and their passes.
-use Rattle.std.specs.Prelude.{◌≡◌, ℕ, ◌%◌, ◌^◌, ◌<◌, ◌≤◌, List, [], ◌∷◌, ℤ, length}
+use Rattle.std.specs.Prelude.{◌≡◌, ℕ, ◌+◌, ◌%◌, ◌^◌, ◌<◌, ◌≤◌, List, [], ◌∷◌, ℤ, length}
 use Rattle.metrics_core.specs.Calls.{Call, counter_value, gauge_value}
 use base.Stored.{Coded-set}
 use Rattle.atomic_table.specs.Seated.{table_id_coded}
@@ -46,10 +46,12 @@ ReadsCounter v n w = (log : List (Entry SeriesCall)) × Sees v log × (n ≡ cou
 abbrev pub ReadsGauge : View SeriesCall → ℤ → View SeriesCall → Type 0
 ReadsGauge v z w = (log : List (Entry SeriesCall)) × Sees v log × (z ≡ gauge_value (calls_of (calls log))) × (w ≡ looked v log)
 
--- n is, modulo 2 ^ 64, the number of calls that were counted: at least all that the pass knew, and not more than the calls of a history that begins with all that it had seen. With no other pass out it is the number of all calls
-abbrev pub ReadsUpdates : View SeriesCall → ℕ → ℕ → ℕ → Type 0
-ReadsUpdates v known n now =
-    (known ≤ now) × (n ≡ now % 2 ^ 64) × ((log : List (Entry SeriesCall)) × Sees v log × (now ≤ length log)) × (v.number ≡ 0 → v.out ≡ 0 → now ≡ length v.seen)
+-- n is, modulo 2 ^ 64, how many calls were counted of a history that begins with all that the pass had seen: at least as many as it knew to be. The pass has then seen that history.
+-- The root finds all of its calls counted, but for one at most of each pass that is out
+abbrev pub ReadsUpdates : View SeriesCall → ℕ → ℕ → View SeriesCall → ℕ → Type 0
+ReadsUpdates v known n w now =
+    (known ≤ now) × (n ≡ now % 2 ^ 64)
+    × ((log : List (Entry SeriesCall)) × Sees v log × (now ≤ length log) × (v.number ≡ 0 → length log ≤ now + v.out) × (w ≡ looked v log))
 
 -- a call of the definitions was made with the pass, and the pass knows one call more to be counted, or more than one
 abbrev pub Follows : CellPass → Call → CellPass → Type 0

@@ -72,13 +72,13 @@ impl PromCounter {
             .load::<rules::ReadsCounter>(&mut pass.seat, 0)
     }
 
-    /// The number of calls that were counted, modulo 2^64. It counts all calls that the pass knew to be counted, and where
-    /// no other pass is out it is the number of all calls.
+    /// The number of calls that were counted, modulo 2^64, of a beginning of the history that has all that the pass had seen.
+    /// The pass has then seen that beginning. It counts all calls that the pass knew to be counted. Of the root's, all calls
+    /// are counted but one at most of each pass that is out: where none is, it is the number of all calls.
     pub fn updates(&self, pass: &mut CellPass) -> u64
         requires { IsCounterPass self.now pass.old }
         ensures pass { IsCounterPass self.now pass.new }
-        ensures view { view_of pass.new ≡ view_of pass.old }
-        ensures count { ReadsUpdates (view_of pass.old) (known_of pass.old) result (known_of pass.new) }
+        ensures count { ReadsUpdates (view_of pass.old) (known_of pass.old) result (view_of pass.new) (known_of pass.new) }
     {
         self.table
             .shared

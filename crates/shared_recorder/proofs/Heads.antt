@@ -12,7 +12,7 @@ use Rattle.prom_format.specs.declared.families.FamilyType.{FamilyType}
 use Rattle.prom_format.specs.declared.families.FamilyType.TheVariants as types
 use Rattle.distributions.specs.Kinds.{DistributionKind, NativeHistogram, Histogram, Summary}
 use Rattle.prom_exporter.specs.State.{Series, PrometheusState, live}
-use Rattle.prom_exporter.specs.Families.{ExporterSettings, shown_unit, shown_help, counter_suffix, counter_rows, gauge_rows, histogram_rows, summary_rows, row_of, sum_and_count_rows, distinct, names_of_kind, series_named, family_of, distribution_of, distribution_family, families_at}
+use Rattle.prom_exporter.specs.Families.{ExporterSettings, shown_unit, shown_help, counter_suffix, counter_rows, gauge_rows, histogram_rows, summary_rows, row_of, sum_and_count_rows, distinct, names_of_kind, series_named, family_of, distribution_of, distribution_family, Windows, families_by}
 use Rattle.prom_exporter.specs.Sampled.{Sampled, calls_known, calls_recorded}
 use Rattle.prom_exporter.specs.Values.{series_of, sampled_series}
 use Rattle.prom_exporter.specs.Exporter.{Exporter, state_of, state_shown}
@@ -61,7 +61,7 @@ flat_heads : (f g : Series → List Row) → ((s : Series) → map row_head (f (
 flat_heads f g same [] = refl
 flat_heads f g same (x ∷ xs) = both_heads (f (bare x)) (flat_map f (map bare xs)) (g x) (flat_map g xs) (same x) (flat_heads f g same xs)
 
-module _ (t : ExporterSettings) (moment : ℕ) (s : PrometheusState) where
+module _ (t : ExporterSettings) (one other : Windows) (s : PrometheusState) where
   counter_heads : (x : Series) → map row_head (counter_rows t (setup s) (bare x)) ≡ map row_head (counter_rows t s x)
   counter_heads x = refl
 
@@ -71,7 +71,7 @@ module _ (t : ExporterSettings) (moment : ℕ) (s : PrometheusState) where
   histogram_heads : (bounds : List ℤ) (x : Series) → map row_head (histogram_rows t (setup s) bounds (bare x)) ≡ map row_head (histogram_rows t s bounds x)
   histogram_heads bounds x = both_heads _ _ _ _ (map_heads _ _ (λ b. refl) bounds) refl
 
-  summary_heads : (x : Series) → map row_head (summary_rows t (setup s) moment (bare x)) ≡ map row_head (summary_rows t s moment x)
+  summary_heads : (x : Series) → map row_head (summary_rows t (setup s) one (bare x)) ≡ map row_head (summary_rows t s other x)
   summary_heads x = both_heads _ _ _ _ (map_heads _ _ (λ q. refl) t.quantiles) refl
 
   -- ---- families
@@ -83,10 +83,10 @@ module _ (t : ExporterSettings) (moment : ℕ) (s : PrometheusState) where
       ap (λ l. map row_head (flat_map f l)) (named_setup kind s name) ∙ flat_heads f g same (series_named kind s name) in
       λ i. record { help = shown_help s name; name = full_name name (shown_unit t s name) suffix; type = type; rows = rows i }
 
-  distribution_heads : (name : List ℕ) (kind : DistributionKind) → option_map family_head (distribution_family t (setup s) moment name kind) ≡ option_map family_head (distribution_family t s moment name kind)
+  distribution_heads : (name : List ℕ) (kind : DistributionKind) → option_map family_head (distribution_family t (setup s) one name kind) ≡ option_map family_head (distribution_family t s other name kind)
   distribution_heads name (NativeHistogram config) = refl
   distribution_heads name (Histogram bounds) = ap Some (family_heads kinds.Histogram name None types.Histogram (histogram_rows t (setup s) bounds) (histogram_rows t s bounds) (histogram_heads bounds))
-  distribution_heads name (Summary summary) = ap Some (family_heads kinds.Histogram name None types.Summary (summary_rows t (setup s) moment) (summary_rows t s moment) summary_heads)
+  distribution_heads name (Summary summary) = ap Some (family_heads kinds.Histogram name None types.Summary (summary_rows t (setup s) one) (summary_rows t s other) summary_heads)
 
 each_head : (f g : List ℕ → Family) → ((name : List ℕ) → family_head (f name) ≡ family_head (g name)) → (names : List (List ℕ)) → heads (map f names) ≡ heads (map g names)
 each_head f g same [] = refl
@@ -108,9 +108,9 @@ three_heads ps bs cs xs ys zs p q r =
     ∙ ((λ i. (p i ++ q i) ++ r i)
     ∙ sym (map-append family_head (xs ++ ys) zs ∙ ap (λ l. l ++ heads zs) (map-append family_head xs ys))))
 
--- the families of a state, but for values, are those of its registrations and descriptions
-pub heads_setup : (t : ExporterSettings) (moment : ℕ) (s : PrometheusState) → heads (families_at t moment (setup s)) ≡ heads (families_at t moment s)
-heads_setup t moment s = three_heads _ _ _ _ _ _ counters gauges distributions
+-- the families of a state, but for values, are those of its registrations and descriptions, whatever is answered of windows
+pub heads_setup : (t : ExporterSettings) (one other : Windows) (s : PrometheusState) → heads (families_by t one (setup s)) ≡ heads (families_by t other s)
+heads_setup t one other s = three_heads _ _ _ _ _ _ counters gauges distributions
   where
     counter : PrometheusState → List ℕ → Family
     counter x name = family_of t x kinds.Counter name (counter_suffix t) types.Counter (counter_rows t x)
@@ -118,23 +118,23 @@ heads_setup t moment s = three_heads _ _ _ _ _ _ counters gauges distributions
     gauge : PrometheusState → List ℕ → Family
     gauge x name = family_of t x kinds.Gauge name None types.Gauge (gauge_rows t x)
 
-    distribution : PrometheusState → List ℕ → Option Family
-    distribution x name = distribution_family t x moment name (distribution_of t name)
+    distribution : Windows → PrometheusState → List ℕ → Option Family
+    distribution windows x name = distribution_family t x windows name (distribution_of t name)
 
     counters : heads (map (counter (setup s)) (names_of_kind kinds.Counter (setup s))) ≡ heads (map (counter s) (names_of_kind kinds.Counter s))
     counters =
         ap (λ ns. heads (map (counter (setup s)) ns)) (names_setup kinds.Counter s)
-        ∙ each_head (counter (setup s)) (counter s) (λ name. family_heads t moment s kinds.Counter name (counter_suffix t) types.Counter (counter_rows t (setup s)) (counter_rows t s) (counter_heads t moment s)) (names_of_kind kinds.Counter s)
+        ∙ each_head (counter (setup s)) (counter s) (λ name. family_heads t one other s kinds.Counter name (counter_suffix t) types.Counter (counter_rows t (setup s)) (counter_rows t s) (counter_heads t one other s)) (names_of_kind kinds.Counter s)
 
     gauges : heads (map (gauge (setup s)) (names_of_kind kinds.Gauge (setup s))) ≡ heads (map (gauge s) (names_of_kind kinds.Gauge s))
     gauges =
         ap (λ ns. heads (map (gauge (setup s)) ns)) (names_setup kinds.Gauge s)
-        ∙ each_head (gauge (setup s)) (gauge s) (λ name. family_heads t moment s kinds.Gauge name None types.Gauge (gauge_rows t (setup s)) (gauge_rows t s) (gauge_heads t moment s)) (names_of_kind kinds.Gauge s)
+        ∙ each_head (gauge (setup s)) (gauge s) (λ name. family_heads t one other s kinds.Gauge name None types.Gauge (gauge_rows t (setup s)) (gauge_rows t s) (gauge_heads t one other s)) (names_of_kind kinds.Gauge s)
 
-    distributions : heads (filter_map (distribution (setup s)) (names_of_kind kinds.Histogram (setup s))) ≡ heads (filter_map (distribution s) (names_of_kind kinds.Histogram s))
+    distributions : heads (filter_map (distribution one (setup s)) (names_of_kind kinds.Histogram (setup s))) ≡ heads (filter_map (distribution other s) (names_of_kind kinds.Histogram s))
     distributions =
-        ap (λ ns. heads (filter_map (distribution (setup s)) ns)) (names_setup kinds.Histogram s)
-        ∙ some_heads (distribution (setup s)) (distribution s) (λ name. distribution_heads t moment s name (distribution_of t name)) (names_of_kind kinds.Histogram s)
+        ap (λ ns. heads (filter_map (distribution one (setup s)) ns)) (names_setup kinds.Histogram s)
+        ∙ some_heads (distribution one (setup s)) (distribution other s) (λ name. distribution_heads t one other s name (distribution_of t name)) (names_of_kind kinds.Histogram s)
 
 -- ---- what an exporter shows
 
@@ -146,8 +146,9 @@ setup_shown : (e : Exporter) → setup (state_shown e) ≡ setup (state_of e)
 setup_shown e = ap (λ hs. record (setup (state_of e)) { histograms = hs }) (recorded_bares e.series.histograms)
 
 -- what is shown of an exporter that stands for a history
-pub history_heads : (cs : List RecorderEntry) (t : ExporterSettings) (x : PrometheusState) (shown : Exporter) (moment : ℕ) → Reached cs t x → StandsFor cs shown → heads (families_at shown.settings moment (state_shown shown)) ≡ heads (families_at t moment x)
-history_heads cs t x shown moment r st =
+pub history_heads : (cs : List RecorderEntry) (t : ExporterSettings) (x : PrometheusState) (shown : Exporter) (one other : Windows) → Reached cs t x → StandsFor cs shown
+    → heads (families_by shown.settings one (state_shown shown)) ≡ heads (families_by t other x)
+history_heads cs t x shown one other r st =
     let once = reached_once cs shown.settings t (setup (state_of shown)) x st r in
-    sym (heads_setup shown.settings moment (state_shown shown))
-    ∙ (ap (λ s. heads (families_at shown.settings moment s)) (setup_shown shown) ∙ (λ i. heads (families_at (once.0 i) moment (once.1 i))))
+    sym (heads_setup shown.settings other one (state_shown shown))
+    ∙ (ap (λ s. heads (families_by shown.settings other s)) (setup_shown shown) ∙ (λ i. heads (families_by (once.0 i) other (once.1 i))))

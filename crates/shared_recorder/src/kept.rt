@@ -6,7 +6,7 @@ ghost use Rattle.metrics_registry.specs.Live.{IsNumbered};
 ghost use Rattle.prom_exporter.specs.State.{register, number_given, describe};
 ghost use Rattle.prom_exporter.specs.Lending.{LendsCounter, LendsGauge, LendsHistogram};
 ghost use Rattle.prom_exporter.specs.Stepped.{DrainsEach, DrainsInPart, KeepsUp};
-ghost use Rattle.prom_exporter.specs.Exporter.{state_of, AreTimely, shown_body};
+ghost use Rattle.prom_exporter.specs.Exporter.{state_of, written_body};
 ghost use Rattle.shared_recorder.specs.Pages.{MakesPage, MakesPart};
 
 use metrics_core::{Fixed, Key, KeyName, Memory, MetricKind, SeriesId, SharedString, Sink, Unit};
@@ -109,8 +109,8 @@ impl KeptState {
         ensures refused { OnErr result (DrainsEach DrainsInPart self.old self.new × (K.written sink.new ≡ K.written sink.old)) }
         ensures part { OnOk result (MakesPart moment self.old self.new) }
         ensures page { IfOk result (λ page. OnOk page (MakesPage moment self.old self.new)) }
-        ensures body { IfOk result (λ page. OnOk page (AreTimely moment self.new → GrewBy (K.written sink.old) (K.written sink.new) (shown_body moment self.new))) }
-        ensures prefix { IfOk result (λ page. OnErr page (AreTimely moment self.new → GrewByPrefix (K.written sink.old) (K.written sink.new) (shown_body moment self.new))) }
+        ensures body { IfOk result (λ page. OnOk page (GrewBy (K.written sink.old) (K.written sink.new) (written_body moment self.new))) }
+        ensures prefix { IfOk result (λ page. OnErr page (GrewByPrefix (K.written sink.old) (K.written sink.new) (written_body moment self.new))) }
         ensures errors { IfOk result (λ page. IfErr page (λ error. (error ≡ BuildError.WriteFault) ⊎ (error ≡ BuildError.Memory))) }
         ensures cause { IfOk result (λ page. page ≡ Err BuildError.WriteFault → Rose (K.faults sink.old) (K.faults sink.new)) }
         ensures never_falls { K.faults sink.old ≤ K.faults sink.new }

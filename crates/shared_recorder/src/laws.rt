@@ -7,7 +7,7 @@ ghost use Rattle.legal_history.specs.declared.history.View.{View};
 ghost use Rattle.legal_history.specs.History.{Sees, taker};
 ghost use Rattle.prom_exporter.specs.Exporter.{Exporter, state_of, state_shown};
 ghost use Rattle.prom_exporter.specs.State.{PrometheusState, number_given};
-ghost use Rattle.prom_exporter.specs.Families.{ExporterSettings, families_at};
+ghost use Rattle.prom_exporter.specs.Families.{ExporterSettings, Windows, families_by};
 ghost use Rattle.shared_recorder.specs.declared.entries.Gone.{Gone};
 ghost use Rattle.shared_recorder.specs.declared.entries.RecorderEntry.{RecorderEntry};
 ghost use Rattle.shared_recorder.specs.declared.entries.RecorderEntry.TheVariants.{Built, Register, Page};
@@ -24,10 +24,12 @@ pub fn a_history_has_one_state()
 {}
 
 /// What a page shows of an exporter that stands for a history are the families of the state that the history reached, but for the
-/// values of rows: their names, types and help texts, and the names and label sets of their rows, in this order.
+/// values of rows: their names, types and help texts, and the names and label sets of their rows, in this order. They are so whatever
+/// is answered of windows.
 pub fn pages_show_the_state_of_their_history()
-    ensures { (entries : List RecorderEntry) (settings : ExporterSettings) (state : PrometheusState) (shown : Exporter) (moment : ℕ) → Reached entries settings state → StandsFor entries shown
-        → heads (families_at shown.settings moment (state_shown shown)) ≡ heads (families_at settings moment state) }
+    ensures { (entries : List RecorderEntry) (settings : ExporterSettings) (state : PrometheusState) (shown : Exporter) (one other : Windows)
+        → Reached entries settings state → StandsFor entries shown
+        → heads (families_by shown.settings one (state_shown shown)) ≡ heads (families_by settings other state) }
 {}
 
 /// Where no idle timeout is set, the number that a registration gave is its key's in every later state, and registrations of a kind

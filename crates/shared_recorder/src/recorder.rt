@@ -9,7 +9,7 @@ ghost use Rattle.sample_queue.specs.Passes.{IsSamplePass};
 ghost use Rattle.legal_history.specs.History.{calls, lender, child, taker};
 ghost use Rattle.shared_turns.specs.Passes.{view_of, Waits};
 ghost use Rattle.shared_turns.specs.Turns.{Inside, Counted, Left, opening};
-ghost use Rattle.prom_exporter.specs.Exporter.{Exporter, AreTimely, shown_body};
+ghost use Rattle.prom_exporter.specs.Exporter.{Exporter, written_body};
 ghost use Rattle.prom_exporter.specs.Lending.{LendsCounter, LendsGauge, LendsHistogram};
 ghost use Rattle.prom_exporter.specs.Stepped.{KeepsUp};
 ghost use Rattle.shared_recorder.specs.declared.entries.RecorderEntry.TheVariants.{Built, Register, Describe, Page};
@@ -401,9 +401,9 @@ impl SharedRecorder {
     ) -> Result<(), BuildError>
         requires { IsPass self.now pass.old }
         ensures pass { Stays self.now pass.old pass.new }
-        ensures page { OnOk result ((y : Exporter) × Paged (MakesPage moment) y (view_of pass.old) (view_of pass.new) × (AreTimely moment y → GrewBy (K.written sink.old) (K.written sink.new) (shown_body moment y))) }
+        ensures page { OnOk result ((y : Exporter) × Paged (MakesPage moment) y (view_of pass.old) (view_of pass.new) × GrewBy (K.written sink.old) (K.written sink.new) (written_body moment y)) }
         ensures refused { OnErr result ((Waits (view_of pass.old) (view_of pass.new) × (K.written sink.new ≡ K.written sink.old))
-            ⊎ ((y : Exporter) × Paged (MakesPart moment) y (view_of pass.old) (view_of pass.new) × (AreTimely moment y → GrewByPrefix (K.written sink.old) (K.written sink.new) (shown_body moment y)))) }
+            ⊎ ((y : Exporter) × Paged (MakesPart moment) y (view_of pass.old) (view_of pass.new) × GrewByPrefix (K.written sink.old) (K.written sink.new) (written_body moment y))) }
         ensures errors { IfErr result (λ error. (error ≡ BuildError.WriteFault) ⊎ (error ≡ BuildError.Memory)) }
         ensures cause { result ≡ Err BuildError.WriteFault → Rose (K.faults sink.old) (K.faults sink.new) }
         ensures never_falls { K.faults sink.old ≤ K.faults sink.new }
@@ -432,7 +432,7 @@ impl SharedRecorder {
     ) -> Result<String, Memory>
         requires { IsPass self.now pass.old }
         ensures pass { Stays self.now pass.old pass.new }
-        ensures page { IfOk result (λ text. (y : Exporter) × Paged (MakesPage moment) y (view_of pass.old) (view_of pass.new) × (AreTimely moment y → string_bytes text ≡ shown_body moment y)) }
+        ensures page { IfOk result (λ text. (y : Exporter) × Paged (MakesPage moment) y (view_of pass.old) (view_of pass.new) × (string_bytes text ≡ written_body moment y)) }
         ensures refused { OnErr result (Waits (view_of pass.old) (view_of pass.new) ⊎ ((y : Exporter) × Paged (MakesPart moment) y (view_of pass.old) (view_of pass.new))) }
     {
         let mut sink = TextSink::new(alloc);

@@ -3,7 +3,7 @@ use Rattle.std.specs.Prelude.{slice_get, string_bytes}
 use Rattle.std.proofs.lemmas.Result.{on_ok_weaker}
 use Rattle.prom_format.specs.Lines.{shown_label_set}
 use Rattle.prom_exporter.specs.Rows.{RowsText}
-use Rattle.prom_exporter.proofs.SampledPages.{found-at, found-lines, found-timely}
+use Rattle.prom_exporter.proofs.SampledPages.{found-at, found-lines}
 use Rattle.prom_exporter.proofs.distribution_pages.push_series.Goals as goal
 
 pub push_cell-requires : goal.push_cell-requires
@@ -25,7 +25,7 @@ returns c =
     let at : slice_get rows.label_sets place ≡ Some labels = ap (λ (r : RowsText). slice_get r.label_sets place) (sym c.rows.view_is) ∙ sym c.in-Some.ensures in
     on_ok_weaker c.push_cell.result
     (λ is globals shown.
-    (let found = found-at globals live rows place labels cell shown.kept at c.in-Some-cell.ensures in
-    is (shown_label_set globals found.series.key.labels) found.labels_are (found-timely globals c.args.moment live place labels cell found shown.timely)
+    (let found = found-at globals live rows place labels cell shown at c.in-Some-cell.ensures in
+    is (shown_label_set globals found.series.key.labels) found.labels_are
     ∙ ap (λ l. string_bytes c.args.buffer.now ++ l) (found-lines globals c.args.moment live name place labels cell found)))
     c.push_cell.ensures

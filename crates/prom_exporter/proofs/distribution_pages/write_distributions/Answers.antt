@@ -1,7 +1,7 @@
 use Rattle.std.proofs.Common.{◌≡◌, ◌++◌, ℕ, List, map, sym, ap, subst, ◌∙◌, arith, append-nil}
 use Rattle.std.specs.Prelude.{Option, flat_map, string_bytes}
 use Rattle.std.specs.Map.Iter.{deref_pair}
-use Rattle.std.proofs.lemmas.Map.Iter.{rest_so_far, rest_more, rest_all}
+use Rattle.std.proofs.lemmas.Map.Iter.{rest_so_far, rest_all}
 use Rattle.std.proofs.lemmas.Result.{err_from_is_err_and}
 use Rattle.metrics_core.specs.Keys.{LabelText}
 use Rattle.prom_exporter.specs.Rows.{RowsText, family_kept}

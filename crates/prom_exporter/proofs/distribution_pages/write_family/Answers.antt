@@ -5,7 +5,7 @@ use Rattle.std.proofs.lemmas.Result.{err_from_is_err_and}
 use Rattle.metrics_core.specs.Characters.{line}
 use Rattle.metrics_core.specs.Keys.{LabelText}
 use Rattle.prom_exporter.specs.Naming.{shown_name, title_text}
-use Rattle.prom_exporter.specs.SampledRows.{lines_at, block_under, AreShown}
+use Rattle.prom_exporter.specs.SampledRows.{lines_at, block_under, HasRowsOf}
 use Rattle.prom_exporter.specs.Sending.{SendsMore, SendsPrefix}
 use Rattle.prom_exporter.proofs.Progress.{sends_none, sends_grown, sends_behind, sends_prefix_behind, sends_stopped, sends_prefix_more}
 use Rattle.prom_exporter.proofs.distribution_pages.write_family.Given.{Over}
@@ -19,7 +19,7 @@ block_is : (g : Over) (c : In-Some g) (globals : List LabelText) → (let name =
 block_is g c globals = ap (λ o. block_under c.args.naming.now globals c.args.moment c.args.series.now (option_copied o) (string_bytes c.args.name.now, c.args.places.now)) c.in-Some.is
 
 -- the lines above the rows and the rows were sent or wait
-rowed : (g : Over) (c : In_ok-write_series g) (globals : List LabelText) → AreShown globals c.args.moment c.args.series.now c.args.rows.now → (let name = string_bytes c.args.name.now in
+rowed : (g : Over) (c : In_ok-write_series g) (globals : List LabelText) → HasRowsOf globals c.args.series.now c.args.rows.now → (let name = string_bytes c.args.name.now in
     SendsMore (g.K.Sink.written c.args.sink.now) (g.K.Sink.written c.write_series.new.sink) (string_bytes c.args.buffer.now) (string_bytes c.write_series.new.buffer)
     (title_text c.args.naming.now None c.in-Some.word.now name ++ flat_map (lines_at globals c.args.moment c.args.series.now (shown_name c.args.naming.now None name)) c.args.places.now))
 rowed g c globals shown =

@@ -3,7 +3,7 @@ use Rattle.std.specs.Prelude.{flat_map, string_bytes}
 use Rattle.std.proofs.lemmas.List.{take_all}
 use Rattle.std.proofs.lemmas.Result.{err_from_is_err_and}
 use Rattle.metrics_core.specs.Keys.{LabelText}
-use Rattle.prom_exporter.specs.SampledRows.{lines_at, AreShown}
+use Rattle.prom_exporter.specs.SampledRows.{lines_at, HasRowsOf}
 use Rattle.prom_exporter.specs.Sending.{SendsMore, SendsPrefix}
 use Rattle.prom_exporter.proofs.Progress.{sends_grown, sends_behind, sends_stopped, sends_prefix_more}
 use Rattle.prom_exporter.proofs.Written.{rows-more, rows-rest}
@@ -12,7 +12,7 @@ use Rattle.prom_exporter.proofs.distribution_pages.write_series.Given.{Over}
 use Rattle.prom_exporter.proofs.distribution_pages.write_series.Goals.{In_ok-push_series}
 
 -- the rows of one more series wait
-pushed : (g : Over) (c : In_ok-push_series g) (globals : List LabelText) → AreShown globals c.args.moment c.args.series.now c.args.rows.now
+pushed : (g : Over) (c : In_ok-push_series g) (globals : List LabelText) → HasRowsOf globals c.args.series.now c.args.rows.now
     → SendsMore (g.K.Sink.written c.args.sink.now) (g.K.Sink.written c.loop-place.sink) (string_bytes c.args.buffer.now) (string_bytes c.push_series.new.buffer)
     (flat_map (lines_at globals c.args.moment c.args.series.now c.args.name.now) (take (c.loop-place.place-index + 1) c.args.places.now))
 pushed g c globals shown =

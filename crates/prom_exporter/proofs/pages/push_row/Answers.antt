@@ -1,5 +1,4 @@
-use Rattle.std.proofs.Common.{◌++◌, sym, ap, ◌∙◌}
-use Rattle.std.specs.Prelude.{OnOk, string_bytes}
+use Rattle.std.proofs.Common.{sym}
 use Rattle.prom_exporter.proofs.Written.{row_at-found}
 use Rattle.prom_exporter.proofs.pages.push_row.Goals as goal
 

@@ -1,7 +1,8 @@
 use Rattle.std.proofs.Common.{sym, subst, ap, ◌∙◌}
+use Rattle.sample_queue.specs.Queues.{FoundEmpty}
 use Rattle.histogram_series.specs.Series.{SampleSeries}
-use Rattle.histogram_series.specs.Drains.{Drains, FoundEmpty}
-use Rattle.histogram_series.proofs.Drained.{drains-recorded, drains-next, drains-grow, drains-same, drains-empty, drains-all}
+use Rattle.histogram_series.specs.Drains.{Drains}
+use Rattle.histogram_series.proofs.Drained.{drains-recorded, drains-next, drains-grow, drains-same, drains-empty, drains-seen, drains-all}
 use Rattle.histogram_series.proofs.series.HistogramSeries.drain.Goals as goal
 
 pub returns-then-not-take_next-clause-grows : goal.returns-then-not-take_next-clause-grows
@@ -16,6 +17,13 @@ pub returns-then-not-take_next-clause-all_recorded : goal.returns-then-not-take_
 returns-then-not-take_next-clause-all_recorded g c =
     let same = c.if-not-take_next.ensures.same in
     drains-all _ _ (subst (Drains c.args.self.now) (sym same) c.loop.invariant.2)
+    (ap (λ (s : SampleSeries). s.stray) same ∙ c.loop.invariant.3)
+    (subst (λ (s : SampleSeries). FoundEmpty s.root) (sym same) c.if-not-take_next.ensures.empty)
+
+pub returns-then-not-take_next-clause-all_seen : goal.returns-then-not-take_next-clause-all_seen
+returns-then-not-take_next-clause-all_seen g c =
+    let same = c.if-not-take_next.ensures.same in
+    drains-seen _ _ (subst (Drains c.args.self.now) (sym same) c.loop.invariant.2)
     (ap (λ (s : SampleSeries). s.stray) same ∙ c.loop.invariant.3)
     (subst (λ (s : SampleSeries). FoundEmpty s.root) (sym same) c.if-not-take_next.ensures.empty)
 

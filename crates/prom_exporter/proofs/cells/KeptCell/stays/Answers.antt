@@ -1,17 +1,14 @@
-use Rattle.std.proofs.Common.{subst, sym, ◌∙◌}
-use Rattle.cell_lanes.specs.Calls.{CountsCalls}
-use Rattle.prom_exporter.specs.Shared.{Shared, Looks, cell_kept, root_kept}
+use Rattle.std.proofs.Common.{subst, sym}
+use Rattle.prom_exporter.specs.Shared.{Counts, cell_kept, root_kept}
 use Rattle.prom_exporter.proofs.Looked.{look_noted}
 use Rattle.prom_exporter.proofs.cells.KeptCell.stays.Goals as goal
 
 pub returns-in-Some : goal.returns-in-Some
 returns-in-Some g c =
-    let now = sym (c.self.view_is ∙ c.updates-updates.ensures.same) in
     rw c.in-Some.is (record {
       seen = record { cell = cell_kept c.self.inside.owned; root = root_kept c.self.inside.owned; note = c.self.inside.note };
-      looks = subst (Looks c.args.self.now) now c.read.ensures;
-      count = c.updates-updates.result;
-      counts = subst (λ (s : Shared _). CountsCalls s.root c.updates-updates.result) now c.updates-updates.ensures.count;
+      count = c.count-updates.result;
+      counts = subst (Counts c.args.self.now c.count-updates.result) (sym c.self.view_is) c.count-updates.ensures;
       stays_is = c.should_store.ensures.kept;
       left = (λ j. record { cell = cell_kept c.self.inside.owned; root = root_kept c.self.inside.owned; note = c.should_store.ensures.note j });
     })

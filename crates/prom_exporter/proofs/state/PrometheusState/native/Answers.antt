@@ -1,56 +1,42 @@
-use Rattle.std.proofs.Common.{◌≡◌, ℕ, Bool, true, false, cond, List, [], ◌∷◌, None, Some, sym, ap, subst, ◌∙◌, inl, inr}
-use Rattle.std.specs.Prelude.{Option, option_map, find, All}
-use Rattle.std.specs.List.{AllByRecursion}
-use Rattle.std.proofs.lemmas.List.Elements.{recursion_from_All}
-use Rattle.std.proofs.lemmas.Option.{same_Some}
-use Rattle.metrics_core.specs.declared.kinds.SeriesId.{SeriesId}
-use Rattle.metrics_registry.specs.Live.{LiveSeries, has_id, cell_of}
-use Rattle.rolling_summaries.specs.Standing.{NeverFall}
+use Rattle.std.proofs.Common.{◌≡◌, Some, sym, ap, subst, ◌∙◌, inl, inr}
+use Rattle.metrics_registry.specs.Live.{cell_of}
 use Rattle.distributions.specs.declared.distribution.Distribution.{Distribution}
 use Rattle.distributions.specs.declared.distribution.Distribution.TheVariants as variants
-use Rattle.distributions.specs.Kinds.{NativeHistogram}
+use Rattle.distributions.specs.Kinds.{DistributionKind, NativeHistogram}
 use Rattle.distributions.specs.Recording.{StandsFor}
-use Rattle.histogram_series.specs.Series.{recorded_samples}
+use Rattle.histogram_series.specs.Series.{SampleSeries, kind_of, recorded_samples, AreInTurn}
 use Rattle.native_histograms.specs.Native.{NativeText, NativeHistogramText}
-use Rattle.prom_exporter.specs.Exporter.{Exporter, AreTimely}
-use Rattle.prom_exporter.specs.Natives.{HasNative}
-use Rattle.prom_exporter.specs.Sampled.{Sampled, IsTimely}
-use Rattle.prom_exporter.proofs.SampledRows.{recorded-never_fall}
+use Rattle.prom_exporter.specs.Exporter.{Exporter}
 use Rattle.prom_exporter.proofs.state.PrometheusState.native.Goals as goal
 
--- the histogram with an id is one of them
-found : (P : Sampled → Type 0) (id : SeriesId) (live : List (LiveSeries Sampled)) (cell : Sampled) → cell_of id live ≡ Some cell → AllByRecursion (λ (s : LiveSeries Sampled). P s.cell) live → P cell
-found P id [] cell is all = absurd cc
-found P id (s ∷ live) cell is all = by (has_id id s) is (λ e. found P id live cell e all.1)
-  where
-    by : (b : Bool) → option_map (λ (e : LiveSeries Sampled). e.cell) (cond b (Some s) (find (has_id id) live)) ≡ Some cell → (cell_of id live ≡ Some cell → P cell) → P cell
-    by true e rest = subst P (same_Some s.cell cell e) all.0
-    by false e rest = rest e
+-- a native histogram stands for the samples that are recorded, whatever their moments
+native_stands : (s : SampleSeries) (kept : Distribution) (native : NativeHistogramText) → kept ≡ variants.NativeHistogram native → kind_of kept ≡ s.kind
+    → (AreInTurn s.kind (recorded_samples s) → StandsFor s.kind (recorded_samples s) kept) → StandsFor s.kind (recorded_samples s) (variants.NativeHistogram native)
+native_stands s kept native is kind stands =
+    let same : NativeHistogram native.config ≡ s.kind = sym (ap kind_of is) ∙ kind in
+    subst (StandsFor s.kind (recorded_samples s)) is (stands (subst (λ k. AreInTurn k (recorded_samples s)) same tt))
 
--- what a histogram keeps of its samples stands for those that are recorded
-stands : (t : ℕ) (id : SeriesId) (exporter : Exporter) (cell : Sampled) (kept : Distribution) → AreTimely t exporter → cell_of id exporter.series.histograms ≡ Some cell
-    → (NeverFall (recorded_samples cell.series) → StandsFor cell.series.kind (recorded_samples cell.series) kept) → StandsFor cell.series.kind (recorded_samples cell.series) kept
-stands t id exporter cell kept timely here means =
-    means (recorded-never_fall t cell (found (IsTimely t) id exporter.series.histograms cell here (recursion_from_All (λ (s : LiveSeries Sampled). IsTimely t s.cell) exporter.series.histograms timely)))
+-- what is kept in another way is of another kind
+is_native : DistributionKind → Type 0
+is_native (NativeHistogram config) = Unit {0}
+is_native _ = ⊥
 
--- one that is kept in another way is of another kind
-other_kind : (cell : Sampled) (kept : Distribution) → StandsFor cell.series.kind (recorded_samples cell.series) kept → ((config : NativeText) → StandsFor (NativeHistogram config) (recorded_samples cell.series) kept → ⊥)
-    → (config : NativeText) → cell.series.kind ≡ NativeHistogram config → ⊥
-other_kind cell kept stands none config native = none config (subst (λ kind. StandsFor kind (recorded_samples cell.series) kept) native stands)
+other_kind : (s : SampleSeries) (kept : Distribution) → (is_native (kind_of kept) → ⊥) → kind_of kept ≡ s.kind → (config : NativeText) → s.kind ≡ NativeHistogram config → ⊥
+unfolding is_native
+other_kind s kept other kind config native = other (subst is_native (sym (kind ∙ native)) tt)
 
 pub returns-in-NativeHistogram : goal.returns-in-NativeHistogram
-returns-in-NativeHistogram c = λ t timely.
+returns-in-NativeHistogram c =
     let cell = c.in_ok-get_histogram.field-0.now in
     let here : cell_of c.args.id c.args.self.now.series.histograms ≡ Some cell = ap (λ (e : Exporter). cell_of c.args.id e.series.histograms) (sym c.self.view_is) ∙ sym c.in_ok-get_histogram.ensures in
-    let kept = stands t c.args.id c.args.self.now cell c.distribution.result.now timely here c.distribution.ensures in
-    rw here (subst (StandsFor cell.series.kind (recorded_samples cell.series)) c.in-NativeHistogram.is kept)
+    rw here (native_stands cell.series c.distribution.result.now _ c.in-NativeHistogram.is c.distribution.ensures.kind c.distribution.ensures.stands)
 
 pub returns-in-Histogram : goal.returns-in-Histogram
-returns-in-Histogram c = λ t timely.
+unfolding is_native
+returns-in-Histogram c =
     let cell = c.in_ok-get_histogram.field-0.now in
     let here : cell_of c.args.id c.args.self.now.series.histograms ≡ Some cell = ap (λ (e : Exporter). cell_of c.args.id e.series.histograms) (sym c.self.view_is) ∙ sym c.in_ok-get_histogram.ensures in
-    let kept = stands t c.args.id c.args.self.now cell c.distribution.result.now timely here c.distribution.ensures in
-    rw here (other_kind cell c.distribution.result.now kept (λ config native. elim c.in-Histogram.is [
-      | inl w ↦ subst (StandsFor (NativeHistogram config) (recorded_samples cell.series)) w.1 native
-      | inr w ↦ subst (StandsFor (NativeHistogram config) (recorded_samples cell.series)) w.3 native
-    ]))
+    rw here (other_kind cell.series c.distribution.result.now (elim c.in-Histogram.is [
+      | inl w ↦ λ native. subst (λ d. is_native (kind_of d)) w.1 native
+      | inr w ↦ λ native. subst (λ d. is_native (kind_of d)) w.3 native
+    ]) c.distribution.ensures.kind)

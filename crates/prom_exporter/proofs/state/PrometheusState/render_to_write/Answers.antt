@@ -1,9 +1,9 @@
-use Rattle.std.proofs.Common.{sym, ap, subst, ◌∙◌, inl, inr}
+use Rattle.std.proofs.Common.{refl, sym, ap, subst, ◌∙◌, inl, inr}
 use Rattle.std.specs.Prelude.{Err, OnOk, OnErr}
 use Rattle.std.proofs.lemmas.Result.{err_from_is_err_and, on_ok_weaker, on_err_weaker}
 use Rattle.metrics_core.specs.Outside.{GrewBy, GrewByPrefix}
 use Rattle.metrics_core.proofs.Grown.{grew_none}
-use Rattle.prom_exporter.specs.Exporter.{Exporter, AllHome, AreTimely, state_of, shown_body}
+use Rattle.prom_exporter.specs.Exporter.{Exporter, AllHome, AreTimely, state_of, written_body}
 use Rattle.prom_exporter.specs.Stepped.{Steps}
 use Rattle.prom_exporter.proofs.Stepping.{drains_home, drains_state, drains_timely, steps_home, steps_state, steps_timely, steps_page}
 use Rattle.prom_exporter.proofs.state.PrometheusState.render_to_write.Goals as goal
@@ -13,7 +13,7 @@ use Rattle.prom_exporter.proofs.state.PrometheusState.render_to_write.Goals as g
 pub returns-in_err-step-clause-steps : goal.returns-in_err-step-clause-steps
 returns-in_err-step-clause-steps g c =
     let refusal = err_from_is_err_and c.from_residual.result c.from_residual.ensures.1 in
-    inr (refusal.1 ∙ ap Err refusal.2, c.in_err-step.ensures.refused)
+    inr (refusal.1 ∙ ap Err refusal.2, c.in_err-step.ensures.refused, refl)
 
 pub returns-in_err-step-clause-home : goal.returns-in_err-step-clause-home
 returns-in_err-step-clause-home g c = λ home. drains_home c.args.self.now c.step.new.self home c.in_err-step.ensures.refused
@@ -29,12 +29,12 @@ returns-in_err-step-clause-timely g c = λ t home. drains_timely c.args.self.now
 pub returns-in_err-step-clause-prefix : goal.returns-in_err-step-clause-prefix
 returns-in_err-step-clause-prefix g c =
     let refusal = err_from_is_err_and c.from_residual.result c.from_residual.ensures.1 in
-    rw refusal.1 (λ timely. grew_none _ _)
+    rw refusal.1 (grew_none _ _)
 
 pub returns-in_err-step-clause-page_prefix : goal.returns-in_err-step-clause-page_prefix
 returns-in_err-step-clause-page_prefix g c =
     let refusal = err_from_is_err_and c.from_residual.result c.from_residual.ensures.1 in
-    rw refusal.1 (λ home timely. grew_none _ _)
+    rw refusal.1 (λ home. grew_none _ _)
 
 -- ---- where the step was made
 
@@ -54,23 +54,21 @@ returns-clause-timely g c = λ t home timely.
 pub returns-clause-body : goal.returns-clause-body
 returns-clause-body g c =
     let told = g.K.Sink.written in
-    subst (λ (e : Exporter). OnOk c.write_body.result (AreTimely c.args.moment e → GrewBy (told c.args.sink.now) (told c.write_body.new.sink) (shown_body c.args.moment e))) (sym c.write_body.ensures.same) c.write_body.ensures.body
+    subst (λ (e : Exporter). OnOk c.write_body.result (GrewBy (told c.args.sink.now) (told c.write_body.new.sink) (written_body c.args.moment e))) (sym c.write_body.ensures.same) c.write_body.ensures.body
 
 pub returns-clause-prefix : goal.returns-clause-prefix
 returns-clause-prefix g c =
     let told = g.K.Sink.written in
-    subst (λ (e : Exporter). OnErr c.write_body.result (AreTimely c.args.moment e → GrewByPrefix (told c.args.sink.now) (told c.write_body.new.sink) (shown_body c.args.moment e))) (sym c.write_body.ensures.same) c.write_body.ensures.prefix
+    subst (λ (e : Exporter). OnErr c.write_body.result (GrewByPrefix (told c.args.sink.now) (told c.write_body.new.sink) (written_body c.args.moment e))) (sym c.write_body.ensures.same) c.write_body.ensures.prefix
 
 pub returns-clause-page : goal.returns-clause-page
 returns-clause-page g c =
     let told = g.K.Sink.written in
-    on_ok_weaker c.write_body.result (λ grew home timely.
-    subst (GrewBy (told c.args.sink.now) (told c.write_body.new.sink)) (steps_page c.args.moment c.args.self.now c.step.new.self home c.in_ok-step.ensures.steps)
-    (grew (steps_timely c.args.moment c.args.self.now c.step.new.self home c.in_ok-step.ensures.steps c.args.moment timely))) c.write_body.ensures.body
+    on_ok_weaker c.write_body.result (λ grew home.
+    subst (GrewBy (told c.args.sink.now) (told c.write_body.new.sink)) (steps_page c.args.moment c.args.self.now c.step.new.self home c.in_ok-step.ensures.steps) grew) c.write_body.ensures.body
 
 pub returns-clause-page_prefix : goal.returns-clause-page_prefix
 returns-clause-page_prefix g c =
     let told = g.K.Sink.written in
-    on_err_weaker c.write_body.result (λ grew home timely.
-    subst (GrewByPrefix (told c.args.sink.now) (told c.write_body.new.sink)) (steps_page c.args.moment c.args.self.now c.step.new.self home c.in_ok-step.ensures.steps)
-    (grew (steps_timely c.args.moment c.args.self.now c.step.new.self home c.in_ok-step.ensures.steps c.args.moment timely))) c.write_body.ensures.prefix
+    on_err_weaker c.write_body.result (λ grew home.
+    subst (GrewByPrefix (told c.args.sink.now) (told c.write_body.new.sink)) (steps_page c.args.moment c.args.self.now c.step.new.self home c.in_ok-step.ensures.steps) grew) c.write_body.ensures.prefix

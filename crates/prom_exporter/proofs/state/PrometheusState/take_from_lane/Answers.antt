@@ -1,9 +1,7 @@
 use Rattle.std.proofs.Common.{◌-◌, ◌+◌, ◌<◌, length, refl, sym, ap, subst}
-use mathlib.Core.Option.{some}
-use lib.ListN.{get_elem?}
 use Rattle.prom_exporter.specs.declared.lanes.LanePass.TheVariants as passes
 use Rattle.prom_exporter.specs.Sampled.{Sampled}
-use Rattle.prom_exporter.specs.LanePasses.{IsPassOf, of_counter, of_gauge, of_histogram, things_of}
+use Rattle.prom_exporter.specs.LanePasses.{of_counter, of_gauge, of_histogram, things_of}
 use Rattle.prom_exporter.specs.contracts.state.PrometheusState.{the_view}
 use Rattle.prom_exporter.proofs.LaneThings.{IsPassHere, counter_here, gauge_here, histogram_here, counter_place, gauge_place, histogram_place, gauge_counted, histogram_counted, counter_takes_back, gauge_takes_back, histogram_takes_back}
 use Rattle.prom_exporter.proofs.KeptCells.{counter_cell_kept, gauge_cell_kept, histogram_cell_kept}

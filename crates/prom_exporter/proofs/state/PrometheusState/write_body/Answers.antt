@@ -1,5 +1,5 @@
 use Rattle.std.proofs.Common.{◌≡◌, ℕ, Bool, List, [], ◌++◌, refl, sym, ap, subst, ◌∙◌, append-nil}
-use Rattle.std.specs.Prelude.{flat_map, All, Option, None, string_bytes}
+use Rattle.std.specs.Prelude.{flat_map, Option, None, string_bytes}
 use Rattle.std.specs.Option.{option_copied}
 use Rattle.std.proofs.lemmas.List.Elements.{recursion_from_All}
 use Rattle.std.proofs.lemmas.Result.{err_from_is_err_and}
@@ -16,10 +16,10 @@ use Rattle.metric_descriptions.specs.Descriptions.{DescribedText}
 use Rattle.prom_exporter.specs.Naming.{NamingText}
 use Rattle.prom_exporter.specs.Families.{ExporterSettings, counter_suffix}
 use Rattle.prom_exporter.specs.Kept.{FitsSettings, HaveKinds}
-use Rattle.prom_exporter.specs.Exporter.{Exporter, Cells, AreTimely, shown_body, SharedCounter, SharedGauge}
+use Rattle.prom_exporter.specs.Exporter.{Exporter, Cells, written_body, SharedCounter, SharedGauge}
 use Rattle.prom_exporter.specs.Rows.{RowsText, kept_block, keys_of, rows_of}
-use Rattle.prom_exporter.specs.Sampled.{Sampled, IsTimely}
-use Rattle.prom_exporter.specs.SampledRows.{sampled_block, HasRowsOf, AreShown}
+use Rattle.prom_exporter.specs.Sampled.{Sampled}
+use Rattle.prom_exporter.specs.SampledRows.{sampled_block, HasRowsOf}
 use Rattle.prom_exporter.specs.Sending.{IsSent}
 use Rattle.prom_exporter.specs.Values.{counter_shown, gauge_shown, value_families}
 use Rattle.prom_exporter.proofs.KeptRows.{blocks-kept}
@@ -32,9 +32,9 @@ use Rattle.prom_exporter.proofs.state.PrometheusState.write_body.Goals as goal
 -- the page is the blocks of what is kept for the counters, for the gauges and for the histograms
 page_is : (moment : ℕ) (settings : ExporterSettings) (series : Cells) (said : DescribedText) (exporter : Exporter) (counters gauges sampled : List ℕ) → record { settings = settings; series = series; said = said } ≡ exporter
     → counters ≡ body_text (counter_families settings moment said series) → gauges ≡ body_text (gauge_families settings moment said series)
-    → sampled ≡ body_text (sampled_families settings moment said series) → shown_body moment exporter ≡ (counters ++ gauges) ++ sampled
+    → sampled ≡ body_text (sampled_families settings moment said series) → written_body moment exporter ≡ (counters ++ gauges) ++ sampled
 page_is moment settings series said exporter counters gauges sampled is counted gauged drawn =
-    ap (shown_body moment) (sym is) ∙ body-values settings moment said series ∙ sym (λ j. (counted j ++ gauged j) ++ drawn j)
+    ap (written_body moment) (sym is) ∙ body-values settings moment said series ∙ sym (λ j. (counted j ++ gauged j) ++ drawn j)
 
 counter_blocks : (naming used : NamingText) (suffix lent : Option (List ℕ)) (globals : List LabelText) (rows : RowsText) (live found : List (LiveSeries SharedCounter)) → used ≡ naming → lent ≡ suffix → rows ≡ rows_of globals (keys_of live) → found ≡ live
     → flat_map (kept_block counter_shown used lent types.Counter rows.label_sets found) rows.families ≡ body_text (value_families naming suffix types.Counter counter_shown globals live)
@@ -54,12 +54,6 @@ sampled_blocks settings used moment said series distributions rows found named f
     ∙ ap (λ live. flat_map (sampled_block (naming_of settings moment said series) settings.globals moment series.histograms distributions) (rows_of settings.globals (keys_of live)).families) same
     ∙ blocks-sampled settings moment said series distributions fits (recursion_from_All (HasKind settings) series.histograms kinds)
 
-shown_here : (globals : List LabelText) (moment : ℕ) (settings : ExporterSettings) (series : Cells) (said : DescribedText) (exporter : Exporter) (found : List (LiveSeries Sampled)) (rows : RowsText) → record { settings = settings; series = series; said = said } ≡ exporter
-    → HasRowsOf globals found rows → found ≡ series.histograms → AreTimely moment exporter → AreShown globals moment found rows
-shown_here globals moment settings series said exporter found rows is kept same timely =
-    let P : LiveSeries Sampled → Type 0 = λ s. IsTimely moment s.cell in
-    record { kept = kept; timely = subst (All P) (sym (same ∙ ap (λ (e : Exporter). e.series.histograms) is)) timely }
-
 prefix_longer : (a b : Option (List ℕ)) (some rest : List ℕ) → GrewByPrefix a b some → GrewByPrefix a b (some ++ rest)
 prefix_longer a b some rest prefix = prefix_of_more a b some rest (some ++ rest) refl prefix
 
@@ -70,17 +64,17 @@ starts told buffer empty = rw empty (sent_none told)
 pub returns-in_err-catch_up-clause-prefix : goal.returns-in_err-catch_up-clause-prefix
 returns-in_err-catch_up-clause-prefix g c =
     let refusal = err_from_is_err_and c.from_residual.result c.from_residual.ensures.1 in
-    rw refusal.1 (λ timely. grew_none _ _)
+    rw refusal.1 (grew_none _ _)
 
 pub returns-in_err-catch_up-2-clause-prefix : goal.returns-in_err-catch_up-2-clause-prefix
 returns-in_err-catch_up-2-clause-prefix g c =
     let refusal = err_from_is_err_and c.from_residual-in_err-catch_up-2.result c.from_residual-in_err-catch_up-2.ensures.1 in
-    rw refusal.1 (λ timely. grew_none _ _)
+    rw refusal.1 (grew_none _ _)
 
 pub returns-in_err-catch_up-3-clause-prefix : goal.returns-in_err-catch_up-3-clause-prefix
 returns-in_err-catch_up-3-clause-prefix g c =
     let refusal = err_from_is_err_and c.from_residual-in_err-catch_up-3.result c.from_residual-in_err-catch_up-3.ensures.1 in
-    rw refusal.1 (λ timely. grew_none _ _)
+    rw refusal.1 (grew_none _ _)
 
 pub returns-in_err-write_families-clause-prefix : goal.returns-in_err-write_families-clause-prefix
 returns-in_err-write_families-clause-prefix g c =
@@ -96,7 +90,7 @@ returns-in_err-write_families-clause-prefix g c =
     let page = (page_is c.args.moment settings series c.self.inside.descriptions c.args.self.now _ _ _ c.self.view_is counted refl refl) in
     let P : List ℕ → Type 0 = GrewByPrefix told (g.K.Sink.written c.write_families.new.sink) in
     let blocks = c.in_err-write_families.ensures.sends.1 told [] (starts told _ c.new-buffer.ensures.bytes) in
-    rw refusal.1 (λ timely. subst P (sym page) (prefix_longer told _ _ _ (prefix_longer told _ _ _ blocks)))
+    rw refusal.1 (subst P (sym page) (prefix_longer told _ _ _ (prefix_longer told _ _ _ blocks)))
 
 pub returns-in_err-write_families-2-clause-prefix : goal.returns-in_err-write_families-2-clause-prefix
 returns-in_err-write_families-2-clause-prefix g c =
@@ -114,7 +108,7 @@ returns-in_err-write_families-2-clause-prefix g c =
     let P : List ℕ → Type 0 = GrewByPrefix told (g.K.Sink.written c.write_families-2.new.sink) in
     let sent = c.in_ok-write_families.ensures.sends.0 told [] (starts told _ c.new-buffer.ensures.bytes) in
     let blocks = c.in_err-write_families-2.ensures.sends.1 told _ sent in
-    rw refusal.1 (λ timely. subst P (sym page) (prefix_longer told _ _ _ blocks))
+    rw refusal.1 (subst P (sym page) (prefix_longer told _ _ _ blocks))
 
 pub returns-in_err-write_distributions-clause-prefix : goal.returns-in_err-write_distributions-clause-prefix
 returns-in_err-write_distributions-clause-prefix g c =
@@ -129,11 +123,10 @@ returns-in_err-write_distributions-clause-prefix g c =
     let counted = counter_blocks naming used (counter_suffix settings) (option_copied c.counter_suffix-suffix.result) globals c.catch_up.new.self series.counters c.counters-counters.result named c.counter_suffix-suffix.ensures (c.in_ok-catch_up.ensures.all ∙ ap (λ l. rows_of globals (keys_of l)) c.counters-counters.ensures) c.counters-counters.ensures in
     let gauged = gauge_blocks naming used globals c.catch_up-2.new.self series.gauges c.gauges-gauges.result named (c.in_ok-catch_up-2.ensures.all ∙ ap (λ l. rows_of globals (keys_of l)) c.gauges-gauges.ensures) c.gauges-gauges.ensures in
     let drawn = sampled_blocks settings used c.args.moment c.self.inside.descriptions series c.self.inside.distributions c.catch_up-3.new.self c.histograms-histograms.result named c.self.invariant.kinds c.self.invariant.sampled c.in_ok-catch_up-3.ensures.all c.histograms-histograms.ensures in
-    let shown = λ (timely : AreTimely c.args.moment c.args.self.now). shown_here globals c.args.moment settings series c.self.inside.descriptions c.args.self.now c.histograms-histograms.result c.catch_up-3.new.self c.self.view_is c.in_ok-catch_up-3.ensures.all c.histograms-histograms.ensures timely in
     let page = (page_is c.args.moment settings series c.self.inside.descriptions c.args.self.now _ _ _ c.self.view_is counted gauged drawn) in
     let P : List ℕ → Type 0 = GrewByPrefix told (g.K.Sink.written c.write_distributions.new.sink) in
     let sent = c.in_ok-write_families-2.ensures.sends.0 told _ (c.in_ok-write_families.ensures.sends.0 told [] (starts told _ c.new-buffer.ensures.bytes)) in
-    rw refusal.1 (λ timely. subst P (sym page) (c.in_err-write_distributions.ensures.prefix globals (shown timely) told _ sent))
+    rw refusal.1 (subst P (sym page) (c.in_err-write_distributions.ensures.prefix globals c.in_ok-catch_up-3.ensures.all told _ sent))
 
 pub returns-in_err-write_whole-clause-prefix : goal.returns-in_err-write_whole-clause-prefix
 returns-in_err-write_whole-clause-prefix g c =
@@ -148,12 +141,11 @@ returns-in_err-write_whole-clause-prefix g c =
     let counted = counter_blocks naming used (counter_suffix settings) (option_copied c.counter_suffix-suffix.result) globals c.catch_up.new.self series.counters c.counters-counters.result named c.counter_suffix-suffix.ensures (c.in_ok-catch_up.ensures.all ∙ ap (λ l. rows_of globals (keys_of l)) c.counters-counters.ensures) c.counters-counters.ensures in
     let gauged = gauge_blocks naming used globals c.catch_up-2.new.self series.gauges c.gauges-gauges.result named (c.in_ok-catch_up-2.ensures.all ∙ ap (λ l. rows_of globals (keys_of l)) c.gauges-gauges.ensures) c.gauges-gauges.ensures in
     let drawn = sampled_blocks settings used c.args.moment c.self.inside.descriptions series c.self.inside.distributions c.catch_up-3.new.self c.histograms-histograms.result named c.self.invariant.kinds c.self.invariant.sampled c.in_ok-catch_up-3.ensures.all c.histograms-histograms.ensures in
-    let shown = λ (timely : AreTimely c.args.moment c.args.self.now). shown_here globals c.args.moment settings series c.self.inside.descriptions c.args.self.now c.histograms-histograms.result c.catch_up-3.new.self c.self.view_is c.in_ok-catch_up-3.ensures.all c.histograms-histograms.ensures timely in
     let page = (page_is c.args.moment settings series c.self.inside.descriptions c.args.self.now _ _ _ c.self.view_is counted gauged drawn) in
     let P : List ℕ → Type 0 = GrewByPrefix told (g.K.Sink.written c.write_whole.new.sink) in
     let sent = c.in_ok-write_families-2.ensures.sends.0 told _ (c.in_ok-write_families.ensures.sends.0 told [] (starts told _ c.new-buffer.ensures.bytes)) in
     let last : GrewByPrefix (g.K.Sink.written c.write_distributions.new.sink) (g.K.Sink.written c.write_whole.new.sink) (string_bytes c.write_distributions.new.buffer) = rw (← c.as_bytes.ensures.value) c.in_err-write_whole.ensures.prefix in
-    rw refusal.1 (λ timely. subst P (append-nil _ ∙ sym page) (sent_prefix _ _ _ _ (c.in_ok-write_distributions.ensures.sent globals (shown timely) told _ sent) _ last []))
+    rw refusal.1 (subst P (append-nil _ ∙ sym page) (sent_prefix _ _ _ _ (c.in_ok-write_distributions.ensures.sent globals c.in_ok-catch_up-3.ensures.all told _ sent) _ last []))
 
 pub returns-clause-body : goal.returns-clause-body
 returns-clause-body g c =
@@ -167,9 +159,8 @@ returns-clause-body g c =
     let counted = counter_blocks naming used (counter_suffix settings) (option_copied c.counter_suffix-suffix.result) globals c.catch_up.new.self series.counters c.counters-counters.result named c.counter_suffix-suffix.ensures (c.in_ok-catch_up.ensures.all ∙ ap (λ l. rows_of globals (keys_of l)) c.counters-counters.ensures) c.counters-counters.ensures in
     let gauged = gauge_blocks naming used globals c.catch_up-2.new.self series.gauges c.gauges-gauges.result named (c.in_ok-catch_up-2.ensures.all ∙ ap (λ l. rows_of globals (keys_of l)) c.gauges-gauges.ensures) c.gauges-gauges.ensures in
     let drawn = sampled_blocks settings used c.args.moment c.self.inside.descriptions series c.self.inside.distributions c.catch_up-3.new.self c.histograms-histograms.result named c.self.invariant.kinds c.self.invariant.sampled c.in_ok-catch_up-3.ensures.all c.histograms-histograms.ensures in
-    let shown = λ (timely : AreTimely c.args.moment c.args.self.now). shown_here globals c.args.moment settings series c.self.inside.descriptions c.args.self.now c.histograms-histograms.result c.catch_up-3.new.self c.self.view_is c.in_ok-catch_up-3.ensures.all c.histograms-histograms.ensures timely in
     let page = (page_is c.args.moment settings series c.self.inside.descriptions c.args.self.now _ _ _ c.self.view_is counted gauged drawn) in
     let P : List ℕ → Type 0 = GrewBy told (g.K.Sink.written c.write_whole.new.sink) in
     let sent = c.in_ok-write_families-2.ensures.sends.0 told _ (c.in_ok-write_families.ensures.sends.0 told [] (starts told _ c.new-buffer.ensures.bytes)) in
     let last : GrewBy (g.K.Sink.written c.write_distributions.new.sink) (g.K.Sink.written c.write_whole.new.sink) (string_bytes c.write_distributions.new.buffer) = rw (← c.as_bytes.ensures.value) c.in_ok-write_whole.ensures.whole in
-    λ timely. subst P (sym page) (sent_all _ _ _ _ (c.in_ok-write_distributions.ensures.sent globals (shown timely) told _ sent) _ last)
+    subst P (sym page) (sent_all _ _ _ _ (c.in_ok-write_distributions.ensures.sent globals c.in_ok-catch_up-3.ensures.all told _ sent) _ last)

@@ -1,15 +1,14 @@
-use Rattle.std.proofs.Common.{[], ◌∷◌, refl}
-use Rattle.legal_history.proofs.Objects.{turn, tells}
+use Rattle.std.proofs.Common.{◌∷◌, refl}
 use Rattle.sample_queue.specs.declared.calls.QueueCall.TheVariants.{Pop}
-use Rattle.sample_queue.specs.Queues.{QueueStep}
 use Rattle.sample_queue.specs.Passes.{view_of}
 use Rattle.sample_queue.proofs.InOrder.{alone}
+use Rattle.sample_queue.proofs.Rooted.{turns, finds}
 use Rattle.sample_queue.proofs.queue.SampleQueue.next.Goals as goal
 
 pub pop_as-requires-clause-rule : goal.pop_as-requires-clause-rule
 pop_as-requires-clause-rule g c = (
-  (λ x items views k at. turn QueueStep [] (x ∷ items) items views c.args.pass.now.seat.id (view_of c.args.pass.now) (Pop x) c.args.pass.now.live refl k at),
-  (λ items views k at. tells QueueStep [] items views c.args.pass.now.seat.id (view_of c.args.pass.now) c.args.pass.now.live k at),
+  (λ x items views k at. turns (x ∷ items) items views c.args.pass.now.seat.id (view_of c.args.pass.now) (Pop x) c.args.pass.now.live c.requires.root refl k at),
+  (λ items views k at. finds items views c.args.pass.now.seat.id (view_of c.args.pass.now) c.args.pass.now.live c.requires.root k at),
 )
 
 pub returns-clause-alone : goal.returns-clause-alone

@@ -9,7 +9,7 @@ use Rattle.sample_queue.specs.Passes.{view_of}
 use Rattle.sample_queue.proofs.queue.SampleQueue.settle.Goals as goal
 
 pub len_as-requires-clause-rule : goal.len_as-requires-clause-rule
-len_as-requires-clause-rule g c = λ items views k at. tells QueueStep [] items views c.args.pass.now.seat.id (view_of c.args.pass.now) c.args.pass.now.live k at
+len_as-requires-clause-rule g c = λ items views k at. tells QueueStep [] items views c.args.pass.now.seat.id (view_of c.args.pass.now) c.args.pass.now.live k.0 at
 
 pub returns-clause-settled : goal.returns-clause-settled
 returns-clause-settled g c = (c.len_as.ensures.rule.2.1.whole c.requires.root.0 c.requires.root.1).1

@@ -1,4 +1,4 @@
-use Rattle.std.proofs.Common.{◌≡◌, ◌⊎◌, ℕ, refl, sym, ap, ⊎_elim}
+use Rattle.std.proofs.Common.{◌≡◌, ℕ, refl, sym, ap, ⊎_elim}
 use Rattle.metrics_core.specs.declared.calls.SeriesCall.TheVariants.{Increment, Absolute, Add, Subtract, Set}
 use Rattle.metrics_core.specs.declared.numbers.Fixed.{Fixed}
 use Rattle.sample_queue.specs.Series.{sample_of_call}

@@ -3,7 +3,7 @@ use Rattle.metrics_core.specs.Outside.{GrewBy, GrewByPrefix}
 use Rattle.metrics_registry.specs.Live.{IsNumbered}
 use Rattle.shared_turns.specs.Passes.{view_of, Waits}
 use Rattle.shared_turns.specs.Turns.{Counted}
-use Rattle.prom_exporter.specs.Exporter.{Exporter, AreTimely, shown_body}
+use Rattle.prom_exporter.specs.Exporter.{Exporter}
 use Rattle.prom_exporter.specs.Stepped.{DrainsEach, DrainsInPart}
 use Rattle.shared_recorder.specs.declared.entries.RecorderEntry.TheVariants.{Page}
 use Rattle.shared_recorder.specs.Setup.{gone_of}
