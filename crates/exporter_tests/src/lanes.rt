@@ -2,8 +2,9 @@
 
 use dsd_exporter::MemoryLink;
 use metrics_core::{MemorySink, MemorySource};
+use program_words::run;
 use prom_serve::MemoryListener;
-use script_runs::{Gate, run};
+use script_player::Gate;
 use std::alloc::Global;
 use std::net::{Net, TcpListener, TcpStream};
 use std::random::RandomSource;

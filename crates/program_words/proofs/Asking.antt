@@ -1,11 +1,16 @@
 -- Words that ask for a text ask for no other, and are no form of words that a run may be called with.
-use Rattle.std.proofs.Common.{◌≡◌, ℕ, ◌<◌, ◌≤◌, ◌⊎◌, inl, inr, List, [], ◌∷◌, length, get_or, false, refl, sym, ap, subst, ◌∙◌, arith}
+use Rattle.std.proofs.Common.{◌≡◌, ℕ, ◌<◌, ◌≤◌, inl, inr, List, [], ◌∷◌, length, get_or, false, refl, sym, ap, subst, ◌∙◌, arith}
 use Rattle.std.specs.Borrow.{Bor}
 use Rattle.std.specs.Prelude.{Option, Some, None, MatchOption, bytes_eq, codes}
-use Rattle.script_runs.specs.Answers.{texts_of}
-use Rattle.script_runs.specs.Commands.{IsForm}
-use Rattle.script_runs.proofs.CommandSteps.{apart, begin_once}
-use Rattle.program_words.specs.Words.{AsksFor, AsksForWord}
+use Rattle.metrics_core.specs.Characters.{line}
+use Rattle.metrics_core.specs.Outside.{GrewBy, GrewByPrefix}
+use Rattle.drive_script.specs.Faults.{fault_text}
+use Rattle.drive_script.specs.declared.faults.DriveFault.TheVariants as faults
+use Rattle.program_words.specs.Answers.{IsSaidText, texts_of}
+use Rattle.program_words.specs.Commands.{IsForm}
+use Rattle.program_words.specs.Devices.{SinkRun, SinkFailed}
+use Rattle.program_words.proofs.CommandSteps.{apart, begin_once}
+use Rattle.program_words.specs.Words.{AsksFor, AsksForWord, IsTold}
 
 only_word : (words : List (List ℕ)) (one other : List ℕ) → words ≡ one ∷ [] → words ≡ other ∷ [] → one ≡ other
 only_word words one other is also = same (sym is ∙ also)
@@ -53,3 +58,22 @@ pub asked_by_word : (words : List (Bor (List ℕ))) (d : Bor (List ℕ)) (answer
 asked_by_word [] d answer some few asks = absurd (omega (arith, some))
 asked_by_word (word ∷ []) d answer some few asks = one_word_asks word.now answer asks
 asked_by_word (word ∷ other ∷ words) d answer some few asks = absurd (omega (arith, few))
+
+-- ---- telling a text
+
+pub told_whole : (text : List ℕ) (out err : SinkRun) → GrewBy out.written out.written' text → err.written' ≡ err.written → IsTold text out err 0
+told_whole text out err grew quiet = record {
+  whole = λ e. grew;
+  prefix = λ e. absurd (omega (arith, e));
+  only = inl refl;
+  said = inl (refl, quiet);
+}
+
+pub told_in_part : (text : List ℕ) (out err : SinkRun) → SinkFailed out → GrewByPrefix out.written out.written' text
+    → IsSaidText (SinkFailed err) err.written err.written' (line (fault_text faults.WriteFault)) → IsTold text out err 7
+told_in_part text out err failed grew said = record {
+  whole = λ e. absurd (omega (arith, e));
+  prefix = λ e. (failed, grew);
+  only = inr refl;
+  said = inr (refl, said);
+}

@@ -1,1 +1,14 @@
+pub mod ReadingSteps
+pub mod DriveSteps
+pub mod Sayings
+pub mod WordSteps
+pub mod RecordedRounds
+pub mod RelaySteps
+pub mod ServingSteps
+pub mod ServingWords
+pub mod CommandSteps
+pub mod DriveEnds
+pub mod ServeEnds
+pub mod BenchEnds
+pub mod RunEnds
 pub mod Asking

@@ -1,2 +1,13 @@
+pub mod Answers
+pub mod Reading
+pub mod Serving
+pub mod BenchWords
+pub mod Commands
+pub mod BenchSaid
+pub mod Relay
+pub mod Devices
+pub mod Statuses
+pub mod Ends
+pub mod Vectors
 pub mod Texts
 pub mod Words

@@ -1,10 +1,11 @@
 -- The words that ask the program for a text, and how telling it ends (this project's rule).
-use Rattle.std.specs.Prelude.{◌≡◌, ℕ, ◌⊎◌, List, [], ◌∷◌, Option, codes}
+use Rattle.std.specs.Prelude.{◌≡◌, ℕ, ◌⊎◌, List, [], ◌∷◌, codes}
 use Rattle.metrics_core.specs.Characters.{line}
 use Rattle.metrics_core.specs.Outside.{GrewBy, GrewByPrefix}
 use Rattle.drive_script.specs.Faults.{fault_text}
 use Rattle.drive_script.specs.declared.faults.DriveFault.TheVariants as faults
-use Rattle.script_runs.specs.Answers.{IsSaidText}
+use Rattle.program_words.specs.Answers.{IsSaidText}
+use Rattle.program_words.specs.Devices.{SinkRun, SinkFailed}
 use Rattle.program_words.specs.Texts.{help_text, version_text}
 
 -- the word asks for this text
@@ -16,13 +17,22 @@ AsksForWord word text =
 abbrev pub AsksFor : List (List ℕ) → List ℕ → Type 0
 AsksFor words text = (word : List ℕ) × (words ≡ word ∷ []) × AsksForWord word text
 
--- `err` got nothing after 0, and the line of a failed write after 7
-abbrev pub IsTellingSaid : Type 0 → Option (List ℕ) → Option (List ℕ) → ℕ → Type 0
-IsTellingSaid ErrFailed said said' status =
-    ((status ≡ 0) × (said' ≡ said)) ⊎ ((status ≡ 7) × IsSaidText ErrFailed said said' (line (fault_text faults.WriteFault)))
+-- they ask for none
+abbrev pub AsksForNone : List (List ℕ) → Type 0
+AsksForNone words = (text : List ℕ) → ¬ AsksFor words text
 
--- What a status says of telling a text: after 0 the sink got exactly it, and after 7 the sink failed and got a prefix.
-pub record IsTold (text : List ℕ) (SinkFailed : Type 0) (written written' : Option (List ℕ)) (status : ℕ) : Type 0 where
+-- `err` got nothing after 0, and the line of a failed write after 7
+abbrev pub IsTellingSaid : SinkRun → ℕ → Type 0
+IsTellingSaid err status = ((status ≡ 0) × (err.written' ≡ err.written))
+    ⊎ ((status ≡ 7) × IsSaidText (SinkFailed err) err.written err.written' (line (fault_text faults.WriteFault)))
+
+-- what a status says of telling a text
+pub record IsTold (text : List ℕ) (out err : SinkRun) (status : ℕ) : Type 0 where
+  -- 0: the sink got exactly the text
+  pub whole : status ≡ 0 → GrewBy out.written out.written' text
+  -- 7: the sink failed, and got a prefix of it
+  pub prefix : status ≡ 7 → SinkFailed out × GrewByPrefix out.written out.written' text
+  -- no other status comes
   pub only : (status ≡ 0) ⊎ (status ≡ 7)
-  pub whole : status ≡ 0 → GrewBy written written' text
-  pub prefix : status ≡ 7 → SinkFailed × GrewByPrefix written written' text
+  -- `err` has the line of the status, or none
+  pub said : IsTellingSaid err status

@@ -5,11 +5,13 @@ ghost use Rattle.std.specs.Prelude.{◌≡◌};
 ghost use Rattle.std.specs.Process.{exit_status};
 
 use crate::answering::answer;
+use crate::say::say_fault;
+use crate::statuses::Status;
 use drive_script::DriveFault;
 use dsd_exporter::SocketLink;
 use metrics_core::{Memory, Sink, Source};
 use prom_serve::SocketListener;
-use script_runs::{Free, say_fault};
+use script_player::Free;
 use std::alloc::Global;
 use std::env;
 use std::env::Args;
@@ -55,7 +57,9 @@ pub fn run_program<
         Ok(status) => Ended { status },
         Err(Memory) => {
             say_fault(err, DriveFault::Memory);
-            Ended { status: 8 }
+            Ended {
+                status: Status::NoMemory.number(),
+            }
         }
     }
 }

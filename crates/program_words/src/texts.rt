@@ -1,7 +1,7 @@
 //! The texts that the program tells of itself, and the words that ask for them.
 
 ghost use Rattle.std.specs.Prelude.{◌≡◌, ℕ, List, MatchOption};
-ghost use Rattle.script_runs.specs.Answers.{texts_of};
+ghost use Rattle.program_words.specs.Answers.{texts_of};
 ghost use Rattle.program_words.specs.Words.{AsksFor, AsksForWord};
 ghost use Rattle.program_words.specs.Texts.{help_text, version_text};
 

@@ -8,7 +8,7 @@ use dsd_exporter::MemoryLink;
 use metrics_core::{MemorySink, MemorySource};
 use program_words::answer;
 use prom_serve::MemoryListener;
-use script_runs::{Free, default_agent};
+use script_player::{Free, default_agent};
 use std::alloc::Global;
 use std::io::ErrorKind;
 use std::net::{Net, TcpListener, TcpStream};

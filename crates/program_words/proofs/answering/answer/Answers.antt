@@ -1,5 +1,6 @@
-use Rattle.std.proofs.Common.{inl, inr, subst}
-use Rattle.metrics_core.specs.Outside.{Rose}
+use Rattle.std.proofs.Common.{inl, inr, subst, sym}
+use Rattle.program_words.specs.Devices.{SinkRun, sink_run}
+use Rattle.program_words.specs.Statuses.{status_number}
 use Rattle.program_words.specs.Words.{IsTold}
 use Rattle.program_words.proofs.Asking.{asked_once, no_form}
 use Rattle.program_words.proofs.answering.answer.Goals as goal
@@ -8,43 +9,62 @@ use Rattle.program_words.proofs.answering.answer.Goals as goal
 
 pub returns-in-Some-clause-told : goal.returns-in-Some-clause-told
 returns-in-Some-clause-told g c = λ text asks.
-    subst (λ t. IsTold t (Rose (g.K.Sink.faults c.args.out.now) (g.K.Sink.faults c.tell.new.out)) (g.K.Sink.written c.args.out.now) (g.K.Sink.written c.tell.new.out) c.tell.result)
-    (asked_once _ _ text c.in-Some.ensures asks) c.tell.ensures.told
+    let out : SinkRun = sink_run g.K.Sink.written g.K.Sink.faults c.args.out.now c.tell.new.out in
+    let err : SinkRun = sink_run g.E.Sink.written g.E.Sink.faults c.args.err.now c.tell.new.err in
+    subst (λ n. IsTold text out err n) (sym c.number.ensures) (subst (λ t. IsTold t out err (status_number c.tell.result)) (asked_once _ _ text c.in-Some.ensures asks) c.tell.ensures)
 
 pub returns-in-Some-clause-headline : goal.returns-in-Some-clause-headline
 returns-in-Some-clause-headline g c = λ drives ended. absurd (no_form _ _ c.in-Some.ensures (inl drives))
 
-pub returns-in-Some-clause-flushed : goal.returns-in-Some-clause-flushed
-returns-in-Some-clause-flushed g c = λ to drives ended. absurd (no_form _ _ c.in-Some.ensures (inl (to, drives)))
+pub returns-in-Some-clause-drive : goal.returns-in-Some-clause-drive
+returns-in-Some-clause-drive g c = λ to drives. absurd (no_form _ _ c.in-Some.ensures (inl (to, drives)))
 
-pub returns-in-Some-clause-complete : goal.returns-in-Some-clause-complete
-returns-in-Some-clause-complete g c = λ to drives. absurd (no_form _ _ c.in-Some.ensures (inl (to, drives)))
+pub returns-in-Some-clause-serve : goal.returns-in-Some-clause-serve
+returns-in-Some-clause-serve g c = λ count networks serves. absurd (no_form _ _ c.in-Some.ensures (inr (inl (count, networks, serves))))
 
-pub returns-in-Some-clause-served : goal.returns-in-Some-clause-served
-returns-in-Some-clause-served g c = λ count networks serves. absurd (no_form _ _ c.in-Some.ensures (inr (inl (count, networks, serves))))
+pub returns-in-Some-clause-bench : goal.returns-in-Some-clause-bench
+returns-in-Some-clause-bench g c = λ count benches. absurd (no_form _ _ c.in-Some.ensures (inr (inr (inl (count, benches)))))
 
-pub returns-in-Some-clause-benched : goal.returns-in-Some-clause-benched
-returns-in-Some-clause-benched g c = λ count benches. absurd (no_form _ _ c.in-Some.ensures (inr (inr (inl (count, benches)))))
+pub returns-in-Some-clause-merge : goal.returns-in-Some-clause-merge
+returns-in-Some-clause-merge g c = λ merges. absurd (no_form _ _ c.in-Some.ensures (inr (inr (inr merges))))
 
-pub returns-in-Some-clause-merged : goal.returns-in-Some-clause-merged
-returns-in-Some-clause-merged g c = λ merges ended. absurd (no_form _ _ c.in-Some.ensures (inr (inr (inr merges))))
+pub returns-in-Some-clause-usage : goal.returns-in-Some-clause-usage
+returns-in-Some-clause-usage g c = λ none others. absurd (none _ c.in-Some.ensures)
 
-pub returns-in-Some-clause-merged_complete : goal.returns-in-Some-clause-merged_complete
-returns-in-Some-clause-merged_complete g c = λ merges. absurd (no_form _ _ c.in-Some.ensures (inr (inr (inr merges))))
+pub returns-in-Some-clause-statuses : goal.returns-in-Some-clause-statuses
+returns-in-Some-clause-statuses g c = λ none. absurd (none _ c.in-Some.ensures)
 
-pub returns-in-Some-clause-no_form : goal.returns-in-Some-clause-no_form
-returns-in-Some-clause-no_form g c = λ none others. absurd (others _ c.in-Some.ensures)
+pub returns-in-Some-clause-others : goal.returns-in-Some-clause-others
+returns-in-Some-clause-others g c = λ none. absurd (none _ c.in-Some.ensures)
 
 -- ---- no text was
 
 pub returns-in-None-clause-told : goal.returns-in-None-clause-told
 returns-in-None-clause-told g c = λ text asks. absurd (c.in-None.ensures text asks)
 
-pub returns-in-None-clause-told_said : goal.returns-in-None-clause-told_said
-returns-in-None-clause-told_said g c = λ text asks. absurd (c.in-None.ensures text asks)
-
 pub returns-in-None-clause-untouched : goal.returns-in-None-clause-untouched
 returns-in-None-clause-untouched g c = λ text asks. absurd (c.in-None.ensures text asks)
 
-pub returns-in-None-clause-no_form : goal.returns-in-None-clause-no_form
-returns-in-None-clause-no_form g c = λ none others. c.run.ensures.no_form none
+pub returns-in-None-clause-headline : goal.returns-in-None-clause-headline
+returns-in-None-clause-headline g c = c.run.ensures.headline
+
+pub returns-in-None-clause-drive : goal.returns-in-None-clause-drive
+returns-in-None-clause-drive g c = c.run.ensures.drive
+
+pub returns-in-None-clause-serve : goal.returns-in-None-clause-serve
+returns-in-None-clause-serve g c = c.run.ensures.serve
+
+pub returns-in-None-clause-bench : goal.returns-in-None-clause-bench
+returns-in-None-clause-bench g c = c.run.ensures.bench
+
+pub returns-in-None-clause-merge : goal.returns-in-None-clause-merge
+returns-in-None-clause-merge g c = c.run.ensures.merge
+
+pub returns-in-None-clause-usage : goal.returns-in-None-clause-usage
+returns-in-None-clause-usage g c = λ none. c.run.ensures.usage
+
+pub returns-in-None-clause-statuses : goal.returns-in-None-clause-statuses
+returns-in-None-clause-statuses g c = λ none. c.run.ensures.statuses
+
+pub returns-in-None-clause-others : goal.returns-in-None-clause-others
+returns-in-None-clause-others g c = λ none. c.run.ensures.others

@@ -1,0 +1,167 @@
+-- Which words a status comes of, and what they leave alone.
+use Rattle.std.proofs.Common.{◌≡◌, ◌≢◌, ℕ, ◌⊎◌, inl, inr, List, refl, sym, subst, arith}
+use Rattle.metrics_core.specs.Characters.{line}
+use Rattle.net_addresses.specs.Addresses.{NetworkText}
+use Rattle.dsd_addresses.specs.Remotes.{RemoteText}
+use Rattle.drive_script.specs.Faults.{fault_text}
+use Rattle.drive_script.specs.declared.faults.DriveFault.TheVariants as faults
+use Rattle.program_words.specs.Answers.{IsDriveTo, IsMergeWords, IsNoDriveStatus, IsSaidText, IsUnplayed, usage_text}
+use Rattle.program_words.specs.BenchWords.{AreBenchWords}
+use Rattle.program_words.specs.Commands.{AreOfBench, AreOfDrive, AreOfMerge, AreOfServe, IsForm}
+use Rattle.program_words.specs.Devices.{SinkRun, SinkFailed}
+use Rattle.program_words.specs.Ends as ends
+use Rattle.program_words.specs.Ends.{ComesOf, IsUsageEnd, LeavesOthers}
+use Rattle.program_words.specs.Serving.{AreServeWords}
+
+-- ---- which words a status comes of
+
+pub drive_comes : (words : List (List ℕ)) (to : RemoteText) (status number : ℕ) → IsDriveTo words to → number ≡ status → ¬ IsNoDriveStatus status → ComesOf words number
+drive_comes words to status number drives is others = subst (λ n. ComesOf words n) (sym is) (record {
+  usage = λ e. absurd (others (inl e));
+  bad_script = λ e. inl (to, drives);
+  refused_setting = λ e. inl (to, drives);
+  too_long = λ e. inl (inl (to, drives));
+  read_failed = λ e. inl (inl (to, drives));
+  write_failed = λ e. inl (to, drives);
+  listener_failed = λ e. absurd (others (inr (inl e)));
+  bad_stream = λ e. absurd (others (inr (inr (inl e))));
+  conflict = λ e. absurd (others (inr (inr (inr e))));
+})
+
+pub serve_comes : (words : List (List ℕ)) (count : ℕ) (networks : List NetworkText) (status number : ℕ) → AreServeWords words count networks → number ≡ status
+    → (status ≢ 2) × (status ≢ 7) × (status ≢ 10) × (status ≢ 11) → ComesOf words number
+serve_comes words count networks status number serves is others = subst (λ n. ComesOf words n) (sym is) (record {
+  usage = λ e. absurd (others.0 e);
+  bad_script = λ e. inr (count, networks, serves);
+  refused_setting = λ e. inr (count, networks, serves);
+  too_long = λ e. inl (inr (count, networks, serves));
+  read_failed = λ e. inl (inr (count, networks, serves));
+  write_failed = λ e. absurd (others.1 e);
+  listener_failed = λ e. (count, networks, serves);
+  bad_stream = λ e. absurd (others.2 e);
+  conflict = λ e. absurd (others.3 e);
+})
+
+pub bench_comes : (words : List (List ℕ)) (count : ℕ) (status number : ℕ) → AreBenchWords words count → number ≡ status → (status ≡ 0) ⊎ ((status ≡ 7) ⊎ (status ≡ 8)) → ComesOf words number
+bench_comes words count status number benches is only = subst (λ n. ComesOf words n) (sym is) (record {
+  usage = λ e. absurd (grind (arith, e, only));
+  bad_script = λ e. absurd (grind (arith, e, only));
+  refused_setting = λ e. absurd (grind (arith, e, only));
+  too_long = λ e. absurd (grind (arith, e, only));
+  read_failed = λ e. absurd (grind (arith, e, only));
+  write_failed = λ e. inr (inl (count, benches));
+  listener_failed = λ e. absurd (grind (arith, e, only));
+  bad_stream = λ e. absurd (grind (arith, e, only));
+  conflict = λ e. absurd (grind (arith, e, only));
+})
+
+pub merge_comes : (words : List (List ℕ)) (status number : ℕ) → IsMergeWords words → number ≡ status → (status ≢ 2) × (status ≢ 3) × (status ≢ 4) × (status ≢ 9) → ComesOf words number
+merge_comes words status number merges is others = subst (λ n. ComesOf words n) (sym is) (record {
+  usage = λ e. absurd (others.0 e);
+  bad_script = λ e. absurd (others.1 e);
+  refused_setting = λ e. absurd (others.2 e);
+  too_long = λ e. inr merges;
+  read_failed = λ e. inr merges;
+  write_failed = λ e. inr (inr merges);
+  listener_failed = λ e. absurd (others.3 e);
+  bad_stream = λ e. merges;
+  conflict = λ e. merges;
+})
+
+pub none_comes : (words : List (List ℕ)) (number : ℕ) → ¬ IsForm words → number ≡ 2 → ComesOf words number
+none_comes words number none is = subst (λ n. ComesOf words n) (sym is) (record {
+  usage = λ e. none;
+  bad_script = λ e. absurd (omega (arith, e));
+  refused_setting = λ e. absurd (omega (arith, e));
+  too_long = λ e. absurd (omega (arith, e));
+  read_failed = λ e. absurd (omega (arith, e));
+  write_failed = λ e. absurd (omega (arith, e));
+  listener_failed = λ e. absurd (omega (arith, e));
+  bad_stream = λ e. absurd (omega (arith, e));
+  conflict = λ e. absurd (omega (arith, e));
+})
+
+pub memory_comes : (words : List (List ℕ)) (number : ℕ) → number ≡ 8 → ComesOf words number
+memory_comes words number is = subst (λ n. ComesOf words n) (sym is) (record {
+  usage = λ e. absurd (omega (arith, e));
+  bad_script = λ e. absurd (omega (arith, e));
+  refused_setting = λ e. absurd (omega (arith, e));
+  too_long = λ e. absurd (omega (arith, e));
+  read_failed = λ e. absurd (omega (arith, e));
+  write_failed = λ e. absurd (omega (arith, e));
+  listener_failed = λ e. absurd (omega (arith, e));
+  bad_stream = λ e. absurd (omega (arith, e));
+  conflict = λ e. absurd (omega (arith, e));
+})
+
+-- ---- what they leave alone; each last fact says that a device is as it was
+
+pub drive_leaves : (words : List (List ℕ)) (to : RemoteText) (S K L N : Type 0) (status number : ℕ) → AreOfDrive words to → number ≡ status → (IsUnplayed status → L) → N → LeavesOthers words S K L N number
+drive_leaves words to S K L N status number are is unsent unserved = record {
+  only_drive_sends = λ no. absurd (no (to, are.drives));
+  unsent = λ e. unsent (subst (λ n. IsUnplayed n) is e);
+  only_serve_listens = λ no. unserved;
+  unserved = λ e. unserved;
+  serve_writes_none = λ serves. absurd (are.no_serve serves);
+  bench_reads_none = λ benches. absurd (are.no_bench benches);
+  no_form_leaves = λ none. absurd (none (inl (to, are.drives)));
+}
+
+pub serve_leaves : (words : List (List ℕ)) (count : ℕ) (networks : List NetworkText) (S K L N : Type 0) (status number : ℕ) → AreOfServe words count networks → number ≡ status → K → L → (IsUnplayed status → N)
+    → LeavesOthers words S K L N number
+serve_leaves words count networks S K L N status number are is unwritten unsent unserved = record {
+  only_drive_sends = λ no. unsent;
+  unsent = λ e. unsent;
+  only_serve_listens = λ no. absurd (no (count, networks, are.serves));
+  unserved = λ e. unserved (subst (λ n. IsUnplayed n) is e);
+  serve_writes_none = λ serves. unwritten;
+  bench_reads_none = λ benches. absurd (are.no_bench benches);
+  no_form_leaves = λ none. absurd (none (inr (inl (count, networks, are.serves))));
+}
+
+pub bench_leaves : (words : List (List ℕ)) (count : ℕ) (S K L N : Type 0) (number : ℕ) → AreOfBench words count → S → L → N → LeavesOthers words S K L N number
+bench_leaves words count S K L N number are unread unsent unserved = record {
+  only_drive_sends = λ no. unsent;
+  unsent = λ e. unsent;
+  only_serve_listens = λ no. unserved;
+  unserved = λ e. unserved;
+  serve_writes_none = λ serves. absurd (are.no_serve serves);
+  bench_reads_none = λ benches. unread;
+  no_form_leaves = λ none. absurd (none (inr (inr (inl (count, are.benches)))));
+}
+
+pub merge_leaves : (words : List (List ℕ)) (S K L N : Type 0) (number : ℕ) → AreOfMerge words → L → N → LeavesOthers words S K L N number
+merge_leaves words S K L N number are unsent unserved = record {
+  only_drive_sends = λ no. unsent;
+  unsent = λ e. unsent;
+  only_serve_listens = λ no. unserved;
+  unserved = λ e. unserved;
+  serve_writes_none = λ serves. absurd (are.no_serve serves);
+  bench_reads_none = λ benches. absurd (are.no_bench benches);
+  no_form_leaves = λ none. absurd (none (inr (inr (inr are.merges))));
+}
+
+pub none_leaves : (words : List (List ℕ)) (S K L N : Type 0) (number : ℕ) → S → K → L → N → LeavesOthers words S K L N number
+none_leaves words S K L N number unread unwritten unsent unserved = record {
+  only_drive_sends = λ no. unsent;
+  unsent = λ e. unsent;
+  only_serve_listens = λ no. unserved;
+  unserved = λ e. unserved;
+  serve_writes_none = λ serves. unwritten;
+  bench_reads_none = λ benches. unread;
+  no_form_leaves = λ none. (unwritten, unread);
+}
+
+-- ---- words that are no form
+
+pub usage_ends : (err : SinkRun) (number : ℕ) → number ≡ 2 → IsSaidText (SinkFailed err) err.written err.written' (line usage_text) → IsUsageEnd err number
+usage_ends err number is said = subst (λ n. IsUsageEnd err n) (sym is) (record {
+  no_form = inl refl;
+  said = record { text = line usage_text; meant = ends.usage; written = said };
+})
+
+pub usage_memory : (err : SinkRun) (number : ℕ) → number ≡ 8 → IsSaidText (SinkFailed err) err.written err.written' (line (fault_text faults.Memory)) → IsUsageEnd err number
+usage_memory err number is said = subst (λ n. IsUsageEnd err n) (sym is) (record {
+  no_form = inr refl;
+  said = record { text = line (fault_text faults.Memory); meant = ends.no_memory; written = said };
+})

@@ -1,0 +1,180 @@
+use Rattle.std.proofs.Common.{◌≡◌, [], refl, subst, arith}
+use Rattle.std.specs.Prelude.{IfSome, None, Some}
+use Rattle.metrics_core.specs.Outside.{Rose}
+use Rattle.prom_serve.specs.Serving.{Listening}
+use Rattle.drive_script.specs.Settings.{refusal_of, refused_setting}
+use Rattle.drive_script.specs.Texts.{script_of}
+use Rattle.drive_script.specs.declared.faults.DriveFault.TheVariants as faults
+use Rattle.script_player.specs.Agent.{default_agent}
+use Rattle.script_player.specs.Faults.{IsAllowed}
+use Rattle.program_words.specs.Answers.{LeavesSource}
+use Rattle.program_words.specs.Serving.{HasServeCause, HasServeDeviceCause, IfUnserved, LeavesServed, serve_fault, serve_status}
+use Rattle.program_words.specs.declared.serving.ServeScriptFault.TheVariants as serving
+use Rattle.program_words.proofs.ReadingSteps.{read_out}
+use Rattle.program_words.proofs.RecordedRounds.{script_records}
+use Rattle.script_player.proofs.Returned.{if_handed_on}
+use Rattle.program_words.proofs.ServingSteps.{leaves_served, listener_cause, listener_device, refused_cause, refused_complete, script_served, served_complete, served_in_time, serving_by, status_served_on, unread_cause, unread_complete, unread_device, unserved_by, unserved_complete, untold_by}
+use Rattle.script_player.proofs.TimelyRounds.{rise_from_start}
+use Rattle.program_words.proofs.serving.serve_script.Goals as goal
+
+pub play_and_serve-requires-clause-fit : goal.play_and_serve-requires-clause-fit
+play_and_serve-requires-clause-fit g c κs within = ([], refl, c.in_ok-script.ensures.read.good.1.1.handles)
+
+pub play_and_serve-requires-clause-allowed : goal.play_and_serve-requires-clause-allowed
+play_and_serve-requires-clause-allowed g c κs within = subst (λ to. refused_setting (script_of c.in_ok-script.script).settings to ≡ None) c.default_agent.ensures c.in_ok-check_settings.ensures.allowed
+
+pub play_and_serve-requires-clause-some : goal.play_and_serve-requires-clause-some
+play_and_serve-requires-clause-some g c κs within =
+    let read = c.in_ok-script.ensures.read in
+    script_records _ (script_of c.in_ok-script.script) read.good.1.0
+
+pub play_and_serve-requires-clause-moments : goal.play_and_serve-requires-clause-moments
+play_and_serve-requires-clause-moments g c κs within = rise_from_start (script_of c.in_ok-script.script).rounds c.in_ok-script.ensures.read.good.1.1.moments
+
+-- ---- no script was read
+
+pub returns-in_err-script-clause-cause : goal.returns-in_err-script-clause-cause
+returns-in_err-script-clause-cause g c =
+    let left = g.S.Source.left c.args.source.now in
+    let SourceFailed : Type 0 = Rose (g.S.Source.faults c.args.source.now) (g.S.Source.faults c.read_whole_script.new.source) in
+    let ListenerFailed : Type 0 = Rose (g.N.Listener.faults c.args.listener.now) (g.N.Listener.faults c.args.listener.now) in
+    if_handed_on c.from_residual.result _ (λ fault. IfSome left (λ bytes. HasServeCause bytes SourceFailed ListenerFailed fault)) c.from_residual.ensures.1
+    (unread_cause left SourceFailed ListenerFailed c.in_err-script.field-0.0 c.in_err-script.ensures.refused)
+
+pub returns-in_err-script-clause-device : goal.returns-in_err-script-clause-device
+returns-in_err-script-clause-device g c =
+    let left = g.S.Source.left c.args.source.now in
+    let SourceFailed : Type 0 = Rose (g.S.Source.faults c.args.source.now) (g.S.Source.faults c.read_whole_script.new.source) in
+    let ListenerFailed : Type 0 = Rose (g.N.Listener.faults c.args.listener.now) (g.N.Listener.faults c.args.listener.now) in
+    if_handed_on c.from_residual.result _ (HasServeDeviceCause SourceFailed ListenerFailed) c.from_residual.ensures.1 (unread_device left SourceFailed ListenerFailed c.in_err-script.field-0.0 c.in_err-script.ensures.refused)
+
+pub returns-in_err-script-clause-unserved : goal.returns-in_err-script-clause-unserved
+returns-in_err-script-clause-unserved g c = if_handed_on c.from_residual.result _ (IfUnserved _) c.from_residual.ensures.1 (unserved_by _ (serving.Drive c.in_err-script.field-0.0) refl)
+
+pub returns-in_err-script-clause-in_part : goal.returns-in_err-script-clause-in_part
+returns-in_err-script-clause-in_part g c =
+    let left = g.S.Source.left c.args.source.now in
+    let told : Listening = record { given = g.N.Listener.given c.args.listener.now; finished = g.N.Listener.finished c.args.listener.now } in
+    if_handed_on c.from_residual.result _ (λ fault. IfSome left (λ bytes. LeavesServed bytes c.args.networks.now c.args.count told told fault)) c.from_residual.ensures.1
+    (untold_by left c.args.networks.now c.args.count told c.in_err-script.field-0.0)
+
+pub returns-in_err-script-clause-complete : goal.returns-in_err-script-clause-complete
+returns-in_err-script-clause-complete g c =
+    unread_complete (g.S.Source.left c.args.source.now) _ _ c.from_residual.result c.in_err-script.field-0.0 c.from_residual.ensures.1 c.in_err-script.ensures.refused
+
+-- ---- a setting is refused
+
+pub returns-in_err-check_settings-clause-cause : goal.returns-in_err-check_settings-clause-cause
+returns-in_err-check_settings-clause-cause g c =
+    let refused : refused_setting (script_of c.in_ok-script.script).settings default_agent ≡ Some (refusal_of c.in_err-check_settings.field-0.0)
+    = subst (λ to. refused_setting (script_of c.in_ok-script.script).settings to ≡ Some (refusal_of c.in_err-check_settings.field-0.0)) c.default_agent.ensures c.in_err-check_settings.ensures.refused in
+    let left = g.S.Source.left c.args.source.now in
+    let SourceFailed : Type 0 = Rose (g.S.Source.faults c.args.source.now) (g.S.Source.faults c.read_whole_script.new.source) in
+    let ListenerFailed : Type 0 = Rose (g.N.Listener.faults c.args.listener.now) (g.N.Listener.faults c.args.listener.now) in
+    if_handed_on c.from_residual-in_err-check_settings.result _ (λ fault. IfSome left (λ bytes. HasServeCause bytes SourceFailed ListenerFailed fault)) c.from_residual-in_err-check_settings.ensures.1
+    (refused_cause left SourceFailed ListenerFailed (script_of c.in_ok-script.script) c.in_err-check_settings.field-0.0 c.in_ok-script.ensures.read refused)
+
+pub returns-in_err-check_settings-clause-device : goal.returns-in_err-check_settings-clause-device
+returns-in_err-check_settings-clause-device g c =
+    let SourceFailed : Type 0 = Rose (g.S.Source.faults c.args.source.now) (g.S.Source.faults c.read_whole_script.new.source) in
+    let ListenerFailed : Type 0 = Rose (g.N.Listener.faults c.args.listener.now) (g.N.Listener.faults c.args.listener.now) in
+    if_handed_on c.from_residual-in_err-check_settings.result _ (HasServeDeviceCause SourceFailed ListenerFailed) c.from_residual-in_err-check_settings.ensures.1 tt
+
+pub returns-in_err-check_settings-clause-unserved : goal.returns-in_err-check_settings-clause-unserved
+returns-in_err-check_settings-clause-unserved g c =
+    if_handed_on c.from_residual-in_err-check_settings.result _ (IfUnserved _) c.from_residual-in_err-check_settings.ensures.1 (unserved_by _ (serving.Drive (faults.Setting c.in_err-check_settings.field-0.0)) refl)
+
+pub returns-in_err-check_settings-clause-in_part : goal.returns-in_err-check_settings-clause-in_part
+returns-in_err-check_settings-clause-in_part g c =
+    let left = g.S.Source.left c.args.source.now in
+    let told : Listening = record { given = g.N.Listener.given c.args.listener.now; finished = g.N.Listener.finished c.args.listener.now } in
+    if_handed_on c.from_residual-in_err-check_settings.result _ (λ fault. IfSome left (λ bytes. LeavesServed bytes c.args.networks.now c.args.count told told fault)) c.from_residual-in_err-check_settings.ensures.1
+    (untold_by left c.args.networks.now c.args.count told (faults.Setting c.in_err-check_settings.field-0.0))
+
+pub returns-in_err-check_settings-clause-complete : goal.returns-in_err-check_settings-clause-complete
+returns-in_err-check_settings-clause-complete g c =
+    let refused : refused_setting (script_of c.in_ok-script.script).settings default_agent ≡ Some (refusal_of c.in_err-check_settings.field-0.0)
+    = subst (λ to. refused_setting (script_of c.in_ok-script.script).settings to ≡ Some (refusal_of c.in_err-check_settings.field-0.0)) c.default_agent.ensures c.in_err-check_settings.ensures.refused in
+    refused_complete (g.S.Source.left c.args.source.now) _ _ c.from_residual-in_err-check_settings.result (script_of c.in_ok-script.script) c.in_err-check_settings.field-0.0
+    c.from_residual-in_err-check_settings.ensures.1 c.in_ok-script.ensures.read refused
+
+-- ---- the page was not served to the last connection
+
+pub returns-in_err-served-clause-cause : goal.returns-in_err-served-clause-cause
+returns-in_err-served-clause-cause g c =
+    let left = g.S.Source.left c.args.source.now in
+    let SourceFailed : Type 0 = Rose (g.S.Source.faults c.args.source.now) (g.S.Source.faults c.read_whole_script.new.source) in
+    let ListenerFailed : Type 0 = Rose (g.N.Listener.faults c.args.listener.now) (g.N.Listener.faults c.play_and_serve.new.listener) in
+    if_handed_on c.from_residual-in_err-served.result _ (λ fault. IfSome left (λ bytes. HasServeCause bytes SourceFailed ListenerFailed fault)) c.from_residual-in_err-served.ensures.1
+    (listener_cause left SourceFailed ListenerFailed c.in_err-served.field-0.0 c.in_err-served.ensures.cause)
+
+pub returns-in_err-served-clause-device : goal.returns-in_err-served-clause-device
+returns-in_err-served-clause-device g c =
+    let SourceFailed : Type 0 = Rose (g.S.Source.faults c.args.source.now) (g.S.Source.faults c.read_whole_script.new.source) in
+    let ListenerFailed : Type 0 = Rose (g.N.Listener.faults c.args.listener.now) (g.N.Listener.faults c.play_and_serve.new.listener) in
+    if_handed_on c.from_residual-in_err-served.result _ (HasServeDeviceCause SourceFailed ListenerFailed) c.from_residual-in_err-served.ensures.1
+    (listener_device SourceFailed ListenerFailed c.in_err-served.field-0.0 c.in_err-served.ensures.cause)
+
+pub returns-in_err-served-clause-unserved : goal.returns-in_err-served-clause-unserved
+returns-in_err-served-clause-unserved g c =
+    if_handed_on c.from_residual-in_err-served.result _ (IfUnserved _) c.from_residual-in_err-served.ensures.1 (serving_by _ c.in_err-served.field-0.0)
+
+pub returns-in_err-served-clause-in_part : goal.returns-in_err-served-clause-in_part
+returns-in_err-served-clause-in_part g c =
+    let allowed : IsAllowed default_agent (script_of c.in_ok-script.script)
+    = subst (λ to. refused_setting (script_of c.in_ok-script.script).settings to ≡ None) c.default_agent.ensures c.in_ok-check_settings.ensures.allowed in
+    let left = g.S.Source.left c.args.source.now in
+    let old : Listening = record { given = g.N.Listener.given c.args.listener.now; finished = g.N.Listener.finished c.args.listener.now } in
+    let new : Listening = record { given = g.N.Listener.given c.play_and_serve.new.listener; finished = g.N.Listener.finished c.play_and_serve.new.listener } in
+    if_handed_on c.from_residual-in_err-served.result _ (λ fault. IfSome left (λ bytes. LeavesServed bytes c.args.networks.now c.args.count old new fault)) c.from_residual-in_err-served.ensures.1
+    (leaves_served left (script_of c.in_ok-script.script) c.args.networks.now c.args.count old new c.in_err-served.field-0.0 c.in_ok-script.ensures.read allowed c.in_err-served.ensures.in_part)
+
+pub returns-in_err-served-clause-complete : goal.returns-in_err-served-clause-complete
+returns-in_err-served-clause-complete g c =
+    let allowed : IsAllowed default_agent (script_of c.in_ok-script.script)
+    = subst (λ to. refused_setting (script_of c.in_ok-script.script).settings to ≡ None) c.default_agent.ensures c.in_ok-check_settings.ensures.allowed in
+    unserved_complete (g.S.Source.left c.args.source.now) _ _ c.from_residual-in_err-served.result (script_of c.in_ok-script.script) c.in_err-served.field-0.0
+    c.from_residual-in_err-served.ensures.1 c.in_ok-script.ensures.read allowed c.in_err-served.ensures.cause
+
+-- ---- it was
+
+pub returns-clause-served : goal.returns-clause-served
+returns-clause-served g c =
+    let allowed : IsAllowed default_agent (script_of c.in_ok-script.script)
+    = subst (λ to. refused_setting (script_of c.in_ok-script.script).settings to ≡ None) c.default_agent.ensures c.in_ok-check_settings.ensures.allowed in
+    script_served (g.S.Source.left c.args.source.now) (script_of c.in_ok-script.script) c.args.networks.now c.args.count _ _ c.in_ok-script.ensures.read allowed c.in_ok-served.ensures.served
+
+pub returns-clause-given : goal.returns-clause-given
+returns-clause-given g c = c.in_ok-served.ensures.served.2.given
+
+pub returns-clause-complete : goal.returns-clause-complete
+returns-clause-complete g c =
+    let allowed : IsAllowed default_agent (script_of c.in_ok-script.script)
+    = subst (λ to. refused_setting (script_of c.in_ok-script.script).settings to ≡ None) c.default_agent.ensures c.in_ok-check_settings.ensures.allowed in
+    served_complete (g.S.Source.left c.args.source.now) _ _ (script_of c.in_ok-script.script) c.in_ok-script.ensures.read allowed
+
+-- ---- what is still to come of the source
+
+pub returns-in_err-script-clause-left : goal.returns-in_err-script-clause-left
+returns-in_err-script-clause-left g c =
+    let left = g.S.Source.left c.args.source.now in
+    let left_now = g.S.Source.left c.read_whole_script.new.source in
+    status_served_on c.from_residual.result (serving.Drive c.in_err-script.field-0.0) (λ status. IfSome left (λ bytes. LeavesSource bytes left_now status)) c.from_residual.ensures.1 c.in_err-script.ensures.left
+
+pub returns-in_err-check_settings-clause-left : goal.returns-in_err-check_settings-clause-left
+returns-in_err-check_settings-clause-left g c =
+    let left = g.S.Source.left c.args.source.now in
+    let left_now = g.S.Source.left c.read_whole_script.new.source in
+    status_served_on c.from_residual-in_err-check_settings.result (serving.Drive (faults.Setting c.in_err-check_settings.field-0.0)) (λ status. IfSome left (λ bytes. LeavesSource bytes left_now status))
+    c.from_residual-in_err-check_settings.ensures.1 (read_out left left_now 4 c.in_ok-script.ensures.left (λ e. omega (arith, e)))
+
+pub returns-in_err-served-clause-left : goal.returns-in_err-served-clause-left
+returns-in_err-served-clause-left g c =
+    let left = g.S.Source.left c.args.source.now in
+    let left_now = g.S.Source.left c.read_whole_script.new.source in
+    let fault = serve_fault c.in_err-served.field-0.0 in
+    status_served_on c.from_residual-in_err-served.result fault (λ status. IfSome left (λ bytes. LeavesSource bytes left_now status)) c.from_residual-in_err-served.ensures.1
+    (read_out left left_now (serve_status fault) c.in_ok-script.ensures.left (served_in_time c.in_err-served.field-0.0))
+
+pub returns-clause-left : goal.returns-clause-left
+returns-clause-left g c = c.in_ok-script.ensures.left

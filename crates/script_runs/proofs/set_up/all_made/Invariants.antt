@@ -1,6 +1,0 @@
-use Rattle.std.specs.List.{AllZip}
-use Rattle.script_runs.specs.Copies.{IsMade}
-use Rattle.script_runs.proofs.set_up.all_made.Given as goal
-
-abbrev pub invariant-loop-part : goal.invariant-loop-part
-invariant-loop-part l = AllZip IsMade l.yielded l.made.items
