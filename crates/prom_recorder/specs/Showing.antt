@@ -1,19 +1,14 @@
--- What pages and upkeeps are whose caller holds no pass: those of some recorder.
+-- What a page is whose caller holds no pass: that of some recorder.
 use Rattle.std.specs.Prelude.{◌≡◌, ◌⊎◌, ℕ, List, Option}
 use Rattle.metrics_core.specs.Outside.{GrewBy, GrewByPrefix}
 use Rattle.legal_history.specs.declared.history.View.{View}
 use Rattle.prom_exporter.specs.Exporter.{Exporter, written_body}
-use Rattle.prom_exporter.specs.Stepped.{KeepsUp}
 use Rattle.shared_recorder.specs.declared.entries.RecorderEntry.{RecorderEntry}
 use Rattle.shared_recorder.specs.Pages.{MakesPage, MakesPart, Paged}
 
--- the exporter was made of another so, in its turn: it was kept up, and made the page step at a moment; or it was so in part
+-- the exporter was kept up and made the page step at a moment, in its turn; or it was so in part
 abbrev pub IsPaged : (Exporter → Exporter → Type 0) → Exporter → Type 0
 IsPaged makes exporter = (before after : View RecorderEntry) × Paged makes exporter before after
-
--- an exporter was kept up
-abbrev pub KeepsOneUp : Type 0
-KeepsOneUp = (exporter : Exporter) × IsPaged KeepsUp exporter
 
 -- the text is the body of the page of such an exporter
 abbrev pub Shows : ℕ → List ℕ → Type 0

@@ -3,7 +3,7 @@
 ghost use Rattle.std.specs.Prelude.{◌≡◌, ◌≤◌, ◌⊎◌, Err, IfErr, IfOk, OnErr, OnOk, string_bytes};
 ghost use Rattle.std.specs.Arc.{arc_value};
 ghost use Rattle.metrics_core.specs.Outside.{Rose};
-ghost use Rattle.prom_recorder.specs.Showing.{KeepsOneUp, Shows, Writes, WritesInPart};
+ghost use Rattle.prom_recorder.specs.Showing.{Shows, Writes, WritesInPart};
 
 use crate::shared::{Shared, end_shared, same_recorder};
 use metrics_core::{Memory, Sink};
@@ -84,9 +84,7 @@ impl PrometheusHandle {
     }
 
     /// Drains the histograms of the state and publishes what is said of metrics, as a page does before it is shown.
-    pub fn run_upkeep<R: Wait>(&self, rt: &R, alloc: Global) -> Result<(), Memory>
-        ensures { OnOk result KeepsOneUp }
-    {
+    pub fn run_upkeep<R: Wait>(&self, rt: &R, alloc: Global) -> Result<(), Memory> {
         let mut own = self.shared.lock(rt);
         own.run_upkeep(rt, alloc)
     }

@@ -5,7 +5,7 @@ ghost use Rattle.std.specs.Arc.{arc_value};
 ghost use Rattle.metrics_core.specs.Outside.{Rose};
 ghost use Rattle.shared_recorder.specs.Recorder.{IsPass};
 ghost use Rattle.prom_recorder.specs.Handing.{IsHandedCounter, IsHandedGauge, IsHandedHistogram};
-ghost use Rattle.prom_recorder.specs.Showing.{KeepsOneUp, Shows, Writes, WritesInPart};
+ghost use Rattle.prom_recorder.specs.Showing.{Shows, Writes, WritesInPart};
 
 use crate::handing::{hand_out_counter, hand_out_gauge, hand_out_histogram};
 use crate::lent::{LentCounter, LentGauge, LentHistogram};
@@ -114,9 +114,7 @@ impl OwnPass {
     }
 
     /// Drains the histograms and publishes what is said of metrics.
-    pub(crate) fn run_upkeep<R: Wait>(&mut self, rt: &R, alloc: Global) -> Result<(), Memory>
-        ensures { OnOk result KeepsOneUp }
-    {
+    pub(crate) fn run_upkeep<R: Wait>(&mut self, rt: &R, alloc: Global) -> Result<(), Memory> {
         self.recorder.run_upkeep(rt, alloc, &mut self.pass)
     }
 
