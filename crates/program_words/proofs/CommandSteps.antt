@@ -1,5 +1,5 @@
 -- The words of one command are not those of another.
-use Rattle.std.proofs.Common.{◌≡◌, ◌≢◌, ℕ, ◌<◌, ◌≤◌, ◌⊎◌, List, [], ◌∷◌, length, get_or, Bool, IsTrue, Bor, true, false, ⊎_elim, refl, sym, ap, subst, ◌∙◌, arith}
+use Rattle.std.proofs.Common.{◌≡◌, ◌≢◌, ℕ, ◌<◌, ◌≤◌, ◌⊎◌, List, [], ◌∷◌, length, get_or, Bool, IsTrue, Bor, true, false, inl, inr, refl, sym, ap, subst, ◌∙◌, arith}
 use Rattle.std.specs.Prelude.{Option, Some, None, bytes_eq, codes, not}
 use Rattle.std.proofs.lemmas.Bool.{true≢false}
 use Rattle.std.proofs.lemmas.Fmt.{decimal_injective}
@@ -7,9 +7,9 @@ use Rattle.std.proofs.lemmas.Slice.Eq.{bytes_eq-Decides}
 use Rattle.net_addresses.specs.Addresses.{NetworkText}
 use Rattle.net_addresses.specs.Readings.{Reads}
 use Rattle.dsd_addresses.specs.Remotes.{RemoteText}
-use Rattle.program_words.specs.Answers.{HasAddress, IsDriveWords, IsMergeWords, texts_of}
+use Rattle.program_words.specs.Answers.{HasAddress, IsDriveWords, IsMergeWords, IsReceiveWords, texts_of}
 use Rattle.program_words.specs.BenchWords.{HasBenchWords, IsRounds}
-use Rattle.program_words.specs.Commands.{AreOfBench, AreOfDrive, AreOfMerge, AreOfServe, IsBenchWords, IsForm, IsServeWords}
+use Rattle.program_words.specs.Commands.{AreOfBench, AreOfDrive, AreOfMerge, AreOfReceive, AreOfServe, IsBenchWords, IsForm, IsServeWords, IsStreamWords}
 use Rattle.program_words.specs.Serving.{HasServeWords, IsCount}
 
 pub apart : (one other : List ℕ) → bytes_eq one other ≡ false → one ≢ other
@@ -28,12 +28,15 @@ pub drive_or_serve : (words : List (List ℕ)) → IsDriveWords words → ¬ IsS
 drive_or_serve words (to, (behind, drives, is)) (count, networks, (number, rest, serves, is_count, are)) =
     begin_once words (codes "drive") (codes "serve") behind (number ∷ rest) refl drives serves
 
-pub drive_or_merge : (words : List (List ℕ)) → IsDriveWords words → ¬ IsMergeWords words
-drive_or_merge words (to, (behind, drives, is)) merges = begin_once words (codes "drive") (codes "merge") behind [] refl drives merges
+pub drive_or_stream : (words : List (List ℕ)) → IsDriveWords words → ¬ IsStreamWords words
+drive_or_stream words (to, (behind, drives, is)) (inl merges) = begin_once words (codes "drive") (codes "merge") behind [] refl drives merges
+drive_or_stream words (to, (behind, drives, is)) (inr receives) = begin_once words (codes "drive") (codes "receive") behind [] refl drives receives
 
-pub serve_or_merge : (words : List (List ℕ)) → IsServeWords words → ¬ IsMergeWords words
-serve_or_merge words (count, networks, (number, rest, serves, is, are)) merges =
+pub serve_or_stream : (words : List (List ℕ)) → IsServeWords words → ¬ IsStreamWords words
+serve_or_stream words (count, networks, (number, rest, serves, is, are)) (inl merges) =
     begin_once words (codes "serve") (codes "merge") (number ∷ rest) [] refl serves merges
+serve_or_stream words (count, networks, (number, rest, serves, is, are)) (inr receives) =
+    begin_once words (codes "serve") (codes "receive") (number ∷ rest) [] refl serves receives
 
 pub drive_or_bench : (words : List (List ℕ)) → IsDriveWords words → ¬ IsBenchWords words
 drive_or_bench words (to, (behind, drives, is)) (count, (number, benches, also)) =
@@ -43,9 +46,14 @@ pub serve_or_bench : (words : List (List ℕ)) → IsServeWords words → ¬ IsB
 serve_or_bench words (count, networks, (number, rest, serves, is, are)) (rounds, (other, benches, also)) =
     begin_once words (codes "serve") (codes "bench") (number ∷ rest) (other ∷ []) refl serves benches
 
-pub bench_or_merge : (words : List (List ℕ)) → IsBenchWords words → ¬ IsMergeWords words
-bench_or_merge words (count, (number, benches, is)) merges =
+pub bench_or_stream : (words : List (List ℕ)) → IsBenchWords words → ¬ IsStreamWords words
+bench_or_stream words (count, (number, benches, is)) (inl merges) =
     begin_once words (codes "bench") (codes "merge") (number ∷ []) [] refl benches merges
+bench_or_stream words (count, (number, benches, is)) (inr receives) =
+    begin_once words (codes "bench") (codes "receive") (number ∷ []) [] refl benches receives
+
+pub merge_or_receive : (words : List (List ℕ)) → IsMergeWords words → ¬ IsReceiveWords words
+merge_or_receive words merges receives = begin_once words (codes "merge") (codes "receive") [] [] refl merges receives
 
 -- ---- which command words write
 
@@ -55,7 +63,7 @@ are_of_drive words to has = record {
   only = has.1;
   no_serve = drive_or_serve words (to, has.0);
   no_bench = drive_or_bench words (to, has.0);
-  no_merge = drive_or_merge words (to, has.0);
+  no_stream = drive_or_stream words (to, has.0);
 }
 
 pub are_of_serve : (words : List (List ℕ)) (count : ℕ) (networks : List NetworkText) → HasServeWords words (Some (count, networks)) → AreOfServe words count networks
@@ -64,15 +72,25 @@ are_of_serve words count networks has = record {
   only = has.1;
   no_drive = λ drives. drive_or_serve words drives (count, networks, has.0);
   no_bench = serve_or_bench words (count, networks, has.0);
-  no_merge = serve_or_merge words (count, networks, has.0);
+  no_stream = serve_or_stream words (count, networks, has.0);
 }
 
 pub are_of_merge : (words : List (List ℕ)) → IsMergeWords words → AreOfMerge words
 are_of_merge words merges = record {
   merges = merges;
-  no_drive = λ drives. drive_or_merge words drives merges;
-  no_serve = λ serves. serve_or_merge words serves merges;
-  no_bench = λ benches. bench_or_merge words benches merges;
+  no_drive = λ drives. drive_or_stream words drives (inl merges);
+  no_serve = λ serves. serve_or_stream words serves (inl merges);
+  no_bench = λ benches. bench_or_stream words benches (inl merges);
+  no_receive = merge_or_receive words merges;
+}
+
+pub are_of_receive : (words : List (List ℕ)) → IsReceiveWords words → AreOfReceive words
+are_of_receive words receives = record {
+  receives = receives;
+  no_drive = λ drives. drive_or_stream words drives (inr receives);
+  no_serve = λ serves. serve_or_stream words serves (inr receives);
+  no_bench = λ benches. bench_or_stream words benches (inr receives);
+  no_merge = λ merges. merge_or_receive words merges receives;
 }
 
 pub are_of_bench : (words : List (List ℕ)) (count : ℕ) → HasBenchWords words (Some count) → AreOfBench words count
@@ -81,21 +99,15 @@ are_of_bench words count has = record {
   only = has.1;
   no_drive = λ drives. drive_or_bench words drives (count, has.0);
   no_serve = λ serves. serve_or_bench words serves (count, has.0);
-  no_merge = bench_or_merge words (count, has.0);
+  no_stream = bench_or_stream words (count, has.0);
 }
 
-pub are_none : (words : List (List ℕ)) → ¬ IsMergeWords words → HasAddress words None → HasServeWords words None → HasBenchWords words None → ¬ IsForm words
-are_none words no_merge no_drive no_serve no_bench form =
-    ⊎_elim
-    (λ (drives : IsDriveWords words). no_drive drives.0 drives.1)
-    (λ (others : IsServeWords words ⊎ (IsBenchWords words ⊎ IsMergeWords words)). ⊎_elim
-    (λ (serves : IsServeWords words). no_serve serves.0 serves.1 serves.2)
-    (λ (rest : IsBenchWords words ⊎ IsMergeWords words). ⊎_elim
-    (λ (benches : IsBenchWords words). no_bench benches.0 benches.1)
-    no_merge
-    rest)
-    others)
-    form
+pub are_none : (words : List (List ℕ)) → ¬ IsMergeWords words → ¬ IsReceiveWords words → HasAddress words None → HasServeWords words None → HasBenchWords words None → ¬ IsForm words
+are_none words no_merge no_receive no_drive no_serve no_bench (inl (to, drives)) = no_drive to drives
+are_none words no_merge no_receive no_drive no_serve no_bench (inr (inl (count, networks, serves))) = no_serve count networks serves
+are_none words no_merge no_receive no_drive no_serve no_bench (inr (inr (inl (count, benches)))) = no_bench count benches
+are_none words no_merge no_receive no_drive no_serve no_bench (inr (inr (inr (inl merges)))) = no_merge merges
+are_none words no_merge no_receive no_drive no_serve no_bench (inr (inr (inr (inr receives)))) = no_receive receives
 
 -- ---- the words of the command `bench`
 

@@ -4,6 +4,7 @@ pub mod Sayings
 pub mod WordSteps
 pub mod RecordedRounds
 pub mod RelaySteps
+pub mod ReceiveSteps
 pub mod ServingSteps
 pub mod ServingWords
 pub mod CommandSteps

@@ -5,18 +5,33 @@ use Rattle.net_addresses.specs.Addresses.{NetworkText}
 use Rattle.dsd_addresses.specs.Remotes.{RemoteText}
 use Rattle.drive_script.specs.Faults.{fault_text}
 use Rattle.drive_script.specs.declared.faults.DriveFault.TheVariants as faults
-use Rattle.program_words.specs.Answers.{IsDriveTo, IsMergeWords, IsNoDriveStatus, IsSaidText, IsUnplayed, usage_text}
+use Rattle.program_words.specs.Answers.{IsDriveTo, IsMergeWords, IsNoDriveStatus, IsReceiveWords, IsSaidText, IsUnplayed, usage_text}
 use Rattle.program_words.specs.BenchWords.{AreBenchWords}
-use Rattle.program_words.specs.Commands.{AreOfBench, AreOfDrive, AreOfMerge, AreOfServe, IsForm}
+use Rattle.program_words.specs.Commands.{AreOfBench, AreOfDrive, AreOfMerge, AreOfReceive, AreOfServe, IsForm}
 use Rattle.program_words.specs.Devices.{SinkRun, SinkFailed}
 use Rattle.program_words.specs.Ends as ends
 use Rattle.program_words.specs.Ends.{ComesOf, IsUsageEnd, LeavesOthers}
 use Rattle.program_words.specs.Serving.{AreServeWords}
 
+-- ---- words that are no form
+
+pub usage_ends : (err : SinkRun) (number : ℕ) → number ≡ 2 → IsSaidText (SinkFailed err) err.written err.written' (line usage_text) → IsUsageEnd err number
+usage_ends err number is said = subst (λ n. IsUsageEnd err n) (sym is) (record {
+  no_form = inl refl;
+  said = record { text = line usage_text; meant = ends.usage; written = said };
+})
+
+pub usage_memory : (err : SinkRun) (number : ℕ) → number ≡ 8 → IsSaidText (SinkFailed err) err.written err.written' (line (fault_text faults.Memory)) → IsUsageEnd err number
+usage_memory err number is said = subst (λ n. IsUsageEnd err n) (sym is) (record {
+  no_form = inr refl;
+  said = record { text = line (fault_text faults.Memory); meant = ends.no_memory; written = said };
+})
+
 -- ---- which words a status comes of
 
-pub drive_comes : (words : List (List ℕ)) (to : RemoteText) (status number : ℕ) → IsDriveTo words to → number ≡ status → ¬ IsNoDriveStatus status → ComesOf words number
-drive_comes words to status number drives is others = subst (λ n. ComesOf words n) (sym is) (record {
+pub drive_comes : (words : List (List ℕ)) (to : RemoteText) (err : SinkRun) (status number : ℕ) → IsDriveTo words to → number ≡ status → ¬ IsNoDriveStatus status → ComesOf words err number
+drive_comes words to err status number drives is others = subst (λ n. ComesOf words err n) (sym is) (record {
+  no_form = λ none. absurd (none (inl (to, drives)));
   usage = λ e. absurd (others (inl e));
   bad_script = λ e. inl (to, drives);
   refused_setting = λ e. inl (to, drives);
@@ -25,12 +40,14 @@ drive_comes words to status number drives is others = subst (λ n. ComesOf words
   write_failed = λ e. inl (to, drives);
   listener_failed = λ e. absurd (others (inr (inl e)));
   bad_stream = λ e. absurd (others (inr (inr (inl e))));
-  conflict = λ e. absurd (others (inr (inr (inr e))));
+  conflict = λ e. absurd (others (inr (inr (inr (inl e)))));
+  cut_stream = λ e. absurd (others (inr (inr (inr (inr e)))));
 })
 
-pub serve_comes : (words : List (List ℕ)) (count : ℕ) (networks : List NetworkText) (status number : ℕ) → AreServeWords words count networks → number ≡ status
-    → (status ≢ 2) × (status ≢ 7) × (status ≢ 10) × (status ≢ 11) → ComesOf words number
-serve_comes words count networks status number serves is others = subst (λ n. ComesOf words n) (sym is) (record {
+pub serve_comes : (words : List (List ℕ)) (count : ℕ) (networks : List NetworkText) (err : SinkRun) (status number : ℕ) → AreServeWords words count networks → number ≡ status
+    → (status ≢ 2) × (status ≢ 7) × (status ≢ 10) × (status ≢ 11) × (status ≢ 12) → ComesOf words err number
+serve_comes words count networks err status number serves is others = subst (λ n. ComesOf words err n) (sym is) (record {
+  no_form = λ none. absurd (none (inr (inl (count, networks, serves))));
   usage = λ e. absurd (others.0 e);
   bad_script = λ e. inr (count, networks, serves);
   refused_setting = λ e. inr (count, networks, serves);
@@ -40,10 +57,12 @@ serve_comes words count networks status number serves is others = subst (λ n. C
   listener_failed = λ e. (count, networks, serves);
   bad_stream = λ e. absurd (others.2 e);
   conflict = λ e. absurd (others.3 e);
+  cut_stream = λ e. absurd (others.4 e);
 })
 
-pub bench_comes : (words : List (List ℕ)) (count : ℕ) (status number : ℕ) → AreBenchWords words count → number ≡ status → (status ≡ 0) ⊎ ((status ≡ 7) ⊎ (status ≡ 8)) → ComesOf words number
-bench_comes words count status number benches is only = subst (λ n. ComesOf words n) (sym is) (record {
+pub bench_comes : (words : List (List ℕ)) (count : ℕ) (err : SinkRun) (status number : ℕ) → AreBenchWords words count → number ≡ status → (status ≡ 0) ⊎ ((status ≡ 7) ⊎ (status ≡ 8)) → ComesOf words err number
+bench_comes words count err status number benches is only = subst (λ n. ComesOf words err n) (sym is) (record {
+  no_form = λ none. absurd (none (inr (inr (inl (count, benches)))));
   usage = λ e. absurd (grind (arith, e, only));
   bad_script = λ e. absurd (grind (arith, e, only));
   refused_setting = λ e. absurd (grind (arith, e, only));
@@ -53,23 +72,44 @@ bench_comes words count status number benches is only = subst (λ n. ComesOf wor
   listener_failed = λ e. absurd (grind (arith, e, only));
   bad_stream = λ e. absurd (grind (arith, e, only));
   conflict = λ e. absurd (grind (arith, e, only));
+  cut_stream = λ e. absurd (grind (arith, e, only));
 })
 
-pub merge_comes : (words : List (List ℕ)) (status number : ℕ) → IsMergeWords words → number ≡ status → (status ≢ 2) × (status ≢ 3) × (status ≢ 4) × (status ≢ 9) → ComesOf words number
-merge_comes words status number merges is others = subst (λ n. ComesOf words n) (sym is) (record {
+pub merge_comes : (words : List (List ℕ)) (err : SinkRun) (status number : ℕ) → IsMergeWords words → number ≡ status → (status ≢ 2) × (status ≢ 3) × (status ≢ 4) × (status ≢ 9) × (status ≢ 12) → ComesOf words err number
+merge_comes words err status number merges is others = subst (λ n. ComesOf words err n) (sym is) (record {
+  no_form = λ none. absurd (none (inr (inr (inr (inl merges)))));
   usage = λ e. absurd (others.0 e);
   bad_script = λ e. absurd (others.1 e);
   refused_setting = λ e. absurd (others.2 e);
-  too_long = λ e. inr merges;
-  read_failed = λ e. inr merges;
-  write_failed = λ e. inr (inr merges);
+  too_long = λ e. inr (inl merges);
+  read_failed = λ e. inr (inl merges);
+  write_failed = λ e. inr (inr (inl merges));
   listener_failed = λ e. absurd (others.3 e);
   bad_stream = λ e. merges;
   conflict = λ e. merges;
+  cut_stream = λ e. absurd (others.4 e);
 })
 
-pub none_comes : (words : List (List ℕ)) (number : ℕ) → ¬ IsForm words → number ≡ 2 → ComesOf words number
-none_comes words number none is = subst (λ n. ComesOf words n) (sym is) (record {
+pub receive_comes : (words : List (List ℕ)) (err : SinkRun) (status number : ℕ) → IsReceiveWords words → number ≡ status
+    → (status ≢ 2) × (status ≢ 3) × (status ≢ 4) × (status ≢ 9) × (status ≢ 10) × (status ≢ 11) → ComesOf words err number
+receive_comes words err status number receives is others = subst (λ n. ComesOf words err n) (sym is) (record {
+  no_form = λ none. absurd (none (inr (inr (inr (inr receives)))));
+  usage = λ e. absurd (others.0 e);
+  bad_script = λ e. absurd (others.1 e);
+  refused_setting = λ e. absurd (others.2 e);
+  too_long = λ e. inr (inr receives);
+  read_failed = λ e. inr (inr receives);
+  write_failed = λ e. inr (inr (inr receives));
+  listener_failed = λ e. absurd (others.3 e);
+  bad_stream = λ e. absurd (others.4 e);
+  conflict = λ e. absurd (others.5 e);
+  cut_stream = λ e. receives;
+})
+
+pub none_comes : (words : List (List ℕ)) (err : SinkRun) (number : ℕ) → ¬ IsForm words → number ≡ 2
+    → IsSaidText (SinkFailed err) err.written err.written' (line usage_text) → ComesOf words err number
+none_comes words err number none is said = subst (λ n. ComesOf words err n) (sym is) (record {
+  no_form = λ form. usage_ends err 2 refl said;
   usage = λ e. none;
   bad_script = λ e. absurd (omega (arith, e));
   refused_setting = λ e. absurd (omega (arith, e));
@@ -79,10 +119,13 @@ none_comes words number none is = subst (λ n. ComesOf words n) (sym is) (record
   listener_failed = λ e. absurd (omega (arith, e));
   bad_stream = λ e. absurd (omega (arith, e));
   conflict = λ e. absurd (omega (arith, e));
+  cut_stream = λ e. absurd (omega (arith, e));
 })
 
-pub memory_comes : (words : List (List ℕ)) (number : ℕ) → number ≡ 8 → ComesOf words number
-memory_comes words number is = subst (λ n. ComesOf words n) (sym is) (record {
+pub memory_comes : (words : List (List ℕ)) (err : SinkRun) (number : ℕ) → number ≡ 8
+    → IsSaidText (SinkFailed err) err.written err.written' (line (fault_text faults.Memory)) → ComesOf words err number
+memory_comes words err number is said = subst (λ n. ComesOf words err n) (sym is) (record {
+  no_form = λ form. usage_memory err 8 refl said;
   usage = λ e. absurd (omega (arith, e));
   bad_script = λ e. absurd (omega (arith, e));
   refused_setting = λ e. absurd (omega (arith, e));
@@ -92,6 +135,7 @@ memory_comes words number is = subst (λ n. ComesOf words n) (sym is) (record {
   listener_failed = λ e. absurd (omega (arith, e));
   bad_stream = λ e. absurd (omega (arith, e));
   conflict = λ e. absurd (omega (arith, e));
+  cut_stream = λ e. absurd (omega (arith, e));
 })
 
 -- ---- what they leave alone; each last fact says that a device is as it was
@@ -138,7 +182,18 @@ merge_leaves words S K L N number are unsent unserved = record {
   unserved = λ e. unserved;
   serve_writes_none = λ serves. absurd (are.no_serve serves);
   bench_reads_none = λ benches. absurd (are.no_bench benches);
-  no_form_leaves = λ none. absurd (none (inr (inr (inr are.merges))));
+  no_form_leaves = λ none. absurd (none (inr (inr (inr (inl are.merges)))));
+}
+
+pub receive_leaves : (words : List (List ℕ)) (S K L N : Type 0) (number : ℕ) → AreOfReceive words → L → N → LeavesOthers words S K L N number
+receive_leaves words S K L N number are unsent unserved = record {
+  only_drive_sends = λ no. unsent;
+  unsent = λ e. unsent;
+  only_serve_listens = λ no. unserved;
+  unserved = λ e. unserved;
+  serve_writes_none = λ serves. absurd (are.no_serve serves);
+  bench_reads_none = λ benches. absurd (are.no_bench benches);
+  no_form_leaves = λ none. absurd (none (inr (inr (inr (inr are.receives)))));
 }
 
 pub none_leaves : (words : List (List ℕ)) (S K L N : Type 0) (number : ℕ) → S → K → L → N → LeavesOthers words S K L N number
@@ -151,17 +206,3 @@ none_leaves words S K L N number unread unwritten unsent unserved = record {
   bench_reads_none = λ benches. unread;
   no_form_leaves = λ none. (unwritten, unread);
 }
-
--- ---- words that are no form
-
-pub usage_ends : (err : SinkRun) (number : ℕ) → number ≡ 2 → IsSaidText (SinkFailed err) err.written err.written' (line usage_text) → IsUsageEnd err number
-usage_ends err number is said = subst (λ n. IsUsageEnd err n) (sym is) (record {
-  no_form = inl refl;
-  said = record { text = line usage_text; meant = ends.usage; written = said };
-})
-
-pub usage_memory : (err : SinkRun) (number : ℕ) → number ≡ 8 → IsSaidText (SinkFailed err) err.written err.written' (line (fault_text faults.Memory)) → IsUsageEnd err number
-usage_memory err number is said = subst (λ n. IsUsageEnd err n) (sym is) (record {
-  no_form = inr refl;
-  said = record { text = line (fault_text faults.Memory); meant = ends.no_memory; written = said };
-})

@@ -3,7 +3,7 @@ use Rattle.std.specs.Prelude.{◌≡◌, ℕ, ◌⊎◌, List, Option, Some, Non
 use Rattle.net_addresses.specs.Addresses.{NetworkText}
 use Rattle.dsd_addresses.specs.Remotes.{RemoteText, remote_text}
 use Rattle.script_player.specs.Agent.{default_agent}
-use Rattle.program_words.specs.Answers.{IsDriveTo, IsDriveWords, IsMergeWords}
+use Rattle.program_words.specs.Answers.{IsDriveTo, IsDriveWords, IsMergeWords, IsReceiveWords}
 use Rattle.program_words.specs.BenchWords.{AreBenchWords}
 use Rattle.program_words.specs.Serving.{AreServeWords}
 use Rattle.program_words.specs.declared.command.Command.{Command}
@@ -17,9 +17,14 @@ IsServeWords words = (count : ℕ) × (networks : List NetworkText) × AreServeW
 abbrev pub IsBenchWords : List (List ℕ) → Type 0
 IsBenchWords words = (count : ℕ) × AreBenchWords words count
 
--- the words of the four forms: the command `drive`, alone or with the text of an address; the commands `serve`, `bench` and `merge`
+-- the words of a command that reads a stream: of pages, or of payloads
+abbrev pub IsStreamWords : List (List ℕ) → Type 0
+IsStreamWords words = IsMergeWords words ⊎ IsReceiveWords words
+
+-- the words of the five forms: the command `drive`, alone or with the text of an address; the commands `serve`, `bench`, `merge` and
+-- `receive`
 abbrev pub IsForm : List (List ℕ) → Type 0
-IsForm words = IsDriveWords words ⊎ (IsServeWords words ⊎ (IsBenchWords words ⊎ IsMergeWords words))
+IsForm words = IsDriveWords words ⊎ (IsServeWords words ⊎ (IsBenchWords words ⊎ IsStreamWords words))
 
 -- the words of a command that reads a script
 abbrev pub IsScriptWords : List (List ℕ) → Type 0
@@ -35,7 +40,7 @@ pub record AreOfDrive (words : List (List ℕ)) (to : RemoteText) : Type 0 where
   pub only : (other : RemoteText) → IsDriveTo words other → other ≡ to
   pub no_serve : ¬ IsServeWords words
   pub no_bench : ¬ IsBenchWords words
-  pub no_merge : ¬ IsMergeWords words
+  pub no_stream : ¬ IsStreamWords words
 
 -- of the command `serve` with this count and these networks
 pub record AreOfServe (words : List (List ℕ)) (count : ℕ) (networks : List NetworkText) : Type 0 where
@@ -43,7 +48,7 @@ pub record AreOfServe (words : List (List ℕ)) (count : ℕ) (networks : List N
   pub only : (other_count : ℕ) (others : List NetworkText) → AreServeWords words other_count others → (other_count ≡ count) × (others ≡ networks)
   pub no_drive : ¬ IsDriveWords words
   pub no_bench : ¬ IsBenchWords words
-  pub no_merge : ¬ IsMergeWords words
+  pub no_stream : ¬ IsStreamWords words
 
 -- of the command `bench` with this number of rounds
 pub record AreOfBench (words : List (List ℕ)) (count : ℕ) : Type 0 where
@@ -51,7 +56,7 @@ pub record AreOfBench (words : List (List ℕ)) (count : ℕ) : Type 0 where
   pub only : (other : ℕ) → AreBenchWords words other → other ≡ count
   pub no_drive : ¬ IsDriveWords words
   pub no_serve : ¬ IsServeWords words
-  pub no_merge : ¬ IsMergeWords words
+  pub no_stream : ¬ IsStreamWords words
 
 -- of the command `merge`
 pub record AreOfMerge (words : List (List ℕ)) : Type 0 where
@@ -59,6 +64,15 @@ pub record AreOfMerge (words : List (List ℕ)) : Type 0 where
   pub no_drive : ¬ IsDriveWords words
   pub no_serve : ¬ IsServeWords words
   pub no_bench : ¬ IsBenchWords words
+  pub no_receive : ¬ IsReceiveWords words
+
+-- of the command `receive`
+pub record AreOfReceive (words : List (List ℕ)) : Type 0 where
+  pub receives : IsReceiveWords words
+  pub no_drive : ¬ IsDriveWords words
+  pub no_serve : ¬ IsServeWords words
+  pub no_bench : ¬ IsBenchWords words
+  pub no_merge : ¬ IsMergeWords words
 
 -- the words write this command and no other, or none
 abbrev pub HasCommand : List (List ℕ) → Option Command → Type 0
@@ -67,3 +81,4 @@ HasCommand words (Some (command.Drive to)) = AreOfDrive words (remote_text to)
 HasCommand words (Some (command.Serve count networks)) = AreOfServe words count networks.items
 HasCommand words (Some (command.Bench count)) = AreOfBench words count
 HasCommand words (Some command.Merge) = AreOfMerge words
+HasCommand words (Some command.Receive) = AreOfReceive words

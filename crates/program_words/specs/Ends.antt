@@ -8,12 +8,13 @@ use Rattle.drive_script.specs.Faults.{fault_text}
 use Rattle.drive_script.specs.declared.faults.DriveFault.TheVariants as faults
 use Rattle.drive_script.specs.declared.faults.SettingFault.{SettingFault}
 use Rattle.script_player.specs.Agent.{default_agent}
-use Rattle.program_words.specs.Answers.{IsAimed, IsBadScript, IsComplete, IsDriveWords, IsLineOf, IsMergeWords, IsNoDriveStatus, IsRefusedSetting, IsReported, IsReportedInPart, IsTooLong, IsUnbegun, IsUnplayed, LeavesSource, Says, usage_text}
+use Rattle.program_words.specs.Answers.{IsAimed, IsBadScript, IsComplete, IsDriveWords, IsLineOf, IsMergeWords, IsReceiveWords, IsNoDriveStatus, IsRefusedSetting, IsReported, IsReportedInPart, IsTooLong, IsUnbegun, IsUnplayed, LeavesSource, Says, usage_text}
 use Rattle.script_player.specs.Benched.{IsBenched, IsBenchedInPart}
 use Rattle.program_words.specs.BenchSaid.{IsBenchLineOf}
-use Rattle.program_words.specs.Commands.{IsBenchWords, IsForm, IsScriptWords, IsServeWords}
+use Rattle.program_words.specs.Commands.{IsBenchWords, IsForm, IsScriptWords, IsServeWords, IsStreamWords}
 use Rattle.program_words.specs.Devices.{SourceRun, SinkRun, LinkRun, ListenerRun, SourceFailed, SinkFailed, ListenerFailed}
 use Rattle.script_player.specs.Headline.{IsPlayed, IsPlayedInPart}
+use Rattle.program_words.specs.Receive.{IsCutStream, IsReceiveComplete, IsReceiveLineOf, IsReceived, IsReceivedInPart}
 use Rattle.program_words.specs.Relay.{IsBadStream, IsRelayComplete, IsRelayLineOf, IsRelayed, IsRelayedInPart, IsUnmergeable, IsWithinLimit}
 use Rattle.program_words.specs.Serving.{IsScriptServed, IsScriptServedInPart, IsServeComplete, IsServeLineOf}
 use Rattle.script_player.specs.declared.report.Report.{Report}
@@ -89,7 +90,7 @@ pub record IsServeEnd (count : ℕ) (networks : List NetworkText) (source : Sour
   pub in_part : status ≡ 9
       → IfSome source.left (λ bytes. IsScriptServedInPart bytes networks count 0 listener.told listener.told')
   -- no other status comes
-  pub others : (status ≢ 2) × (status ≢ 7) × (status ≢ 10) × (status ≢ 11)
+  pub others : (status ≢ 2) × (status ≢ 7) × (status ≢ 10) × (status ≢ 11) × (status ≢ 12)
   -- how much of the source was read
   pub left : IfSome source.left (λ bytes. LeavesSource bytes source.left' status)
   -- each cause brings its status, or 8, where no device failed
@@ -137,7 +138,7 @@ pub record IsMergeEnd (source : SourceRun) (out err : SinkRun) (status : ℕ) : 
   pub conflict : status ≡ 11
       → IfSome source.left (λ bytes. (page : ℕ) × (name : List ℕ) × IsUnmergeable bytes page name)
   -- no other status comes
-  pub others : (status ≢ 2) × (status ≢ 3) × (status ≢ 4) × (status ≢ 9)
+  pub others : (status ≢ 2) × (status ≢ 3) × (status ≢ 4) × (status ≢ 9) × (status ≢ 12)
   -- after 5, 6, 10 and 11 nothing was written
   pub unplayed : IsUnplayed status → out.written' ≡ out.written
   -- how much of the source was read
@@ -146,6 +147,35 @@ pub record IsMergeEnd (source : SourceRun) (out err : SinkRun) (status : ℕ) : 
   pub complete : IfSome source.left (λ bytes. IsRelayComplete bytes (SourceFailed source) (SinkFailed out) status)
   -- `err` has the line of the status
   pub said : Says err (IsRelayLineOf source.left status)
+
+-- the word `receive`
+pub record IsReceiveEnd (source : SourceRun) (out err : SinkRun) (status : ℕ) : Type 0 where
+  -- 0: the bytes are whole frames, and the page of an exporter that received their lines was written
+  pub received : status ≡ 0
+      → IfSome source.left (λ bytes. IsWithinLimit bytes × IsReceived bytes out.written out.written')
+  -- 5: the bytes are longer than the limit
+  pub too_long : status ≡ 5 → IfSome source.left IsTooLong
+  -- 6: the source failed
+  pub read_failed : status ≡ 6 → SourceFailed source
+  -- 7: the sink failed
+  pub write_failed : status ≡ 7 → SinkFailed out
+  -- then a prefix of the page was written
+  pub prefix : status ≡ 7 → IfSome source.left (λ bytes. IsReceivedInPart bytes out.written out.written')
+  -- 8: memory was wanting, and the same was written, or nothing
+  pub no_memory : status ≡ 8
+      → IfSome source.left (λ bytes. (out.written' ≡ out.written) ⊎ IsReceivedInPart bytes out.written out.written')
+  -- 12: the bytes end within a frame
+  pub cut : status ≡ 12 → IfSome source.left (λ bytes. (count : ℕ) × IsCutStream bytes count)
+  -- no other status comes
+  pub others : (status ≢ 2) × (status ≢ 3) × (status ≢ 4) × (status ≢ 9) × (status ≢ 10) × (status ≢ 11)
+  -- after 5, 6 and 12 nothing was written
+  pub unplayed : IsUnplayed status → out.written' ≡ out.written
+  -- how much of the source was read
+  pub left : IfSome source.left (λ bytes. LeavesSource bytes source.left' status)
+  -- each cause brings its status, or 8, where no device failed
+  pub complete : IfSome source.left (λ bytes. IsReceiveComplete bytes (SourceFailed source) (SinkFailed out) status)
+  -- `err` has the line of the status
+  pub said : Says err (IsReceiveLineOf source.left status)
 
 -- the line that a status has where the words are no form
 pub data IsUsageLineOf : ℕ → List ℕ → Type 0 where
@@ -159,17 +189,19 @@ pub record IsUsageEnd (err : SinkRun) (status : ℕ) : Type 0 where
   -- `err` has the line of the status
   pub said : Says err (IsUsageLineOf status)
 
--- which words a status comes of; after 0 and 8 they may be any
-pub record ComesOf (words : List (List ℕ)) (status : ℕ) : Type 0 where
+-- what comes of words that are no form, and which words a status comes of; after 0 and 8 they may be any
+pub record ComesOf (words : List (List ℕ)) (err : SinkRun) (status : ℕ) : Type 0 where
+  pub no_form : ¬ IsForm words → IsUsageEnd err status
   pub usage : status ≡ 2 → ¬ IsForm words
   pub bad_script : status ≡ 3 → IsScriptWords words
   pub refused_setting : status ≡ 4 → IsScriptWords words
-  pub too_long : status ≡ 5 → IsScriptWords words ⊎ IsMergeWords words
-  pub read_failed : status ≡ 6 → IsScriptWords words ⊎ IsMergeWords words
-  pub write_failed : status ≡ 7 → IsDriveWords words ⊎ (IsBenchWords words ⊎ IsMergeWords words)
+  pub too_long : status ≡ 5 → IsScriptWords words ⊎ IsStreamWords words
+  pub read_failed : status ≡ 6 → IsScriptWords words ⊎ IsStreamWords words
+  pub write_failed : status ≡ 7 → IsDriveWords words ⊎ (IsBenchWords words ⊎ IsStreamWords words)
   pub listener_failed : status ≡ 9 → IsServeWords words
   pub bad_stream : status ≡ 10 → IsMergeWords words
   pub conflict : status ≡ 11 → IsMergeWords words
+  pub cut_stream : status ≡ 12 → IsReceiveWords words
 
 -- What stays as it was, which is told by a fact for each device: what a word has no use for, and, where no script is
 -- played, the link and the listener.
@@ -177,7 +209,7 @@ pub record LeavesOthers (words : List (List ℕ)) (SameSource SameOut SameLink S
     (status : ℕ) : Type 0 where
   -- only `drive` touches the link
   pub only_drive_sends : ¬ IsDriveWords words → SameLink
-  -- and nothing is sent after 2 to 6, 10 and 11
+  -- and nothing is sent after 2 to 6 and 10 to 12
   pub unsent : IsUnplayed status → SameLink
   -- only `serve` touches the listener
   pub only_serve_listens : ¬ IsServeWords words → SameListener

@@ -4,6 +4,7 @@ pub mod Serving
 pub mod BenchWords
 pub mod Commands
 pub mod BenchSaid
+pub mod Receive
 pub mod Relay
 pub mod Devices
 pub mod Statuses

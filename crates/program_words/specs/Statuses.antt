@@ -15,3 +15,4 @@ status_number statuses.NoMemory = 8
 status_number statuses.ListenerFailed = 9
 status_number statuses.BadStream = 10
 status_number statuses.Conflict = 11
+status_number statuses.CutStream = 12

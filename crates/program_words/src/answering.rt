@@ -3,11 +3,10 @@
 ghost use Rattle.std.specs.Prelude.{◌≡◌, ℕ, List, IfSome};
 ghost use Rattle.net_addresses.specs.Addresses.{NetworkText};
 ghost use Rattle.dsd_addresses.specs.Remotes.{RemoteText};
-ghost use Rattle.program_words.specs.Answers.{texts_of, IsDriveTo, IsDriveWords, IsMergeWords};
+ghost use Rattle.program_words.specs.Answers.{texts_of, IsDriveTo, IsDriveWords, IsMergeWords, IsReceiveWords};
 ghost use Rattle.program_words.specs.BenchWords.{AreBenchWords};
-ghost use Rattle.program_words.specs.Commands.{IsForm};
 ghost use Rattle.program_words.specs.Devices.{link_run, listener_run, sink_run, source_run};
-ghost use Rattle.program_words.specs.Ends.{ComesOf, IsBenchEnd, IsDriveEnd, IsMergeEnd, IsServeEnd, IsUsageEnd, LeavesOthers};
+ghost use Rattle.program_words.specs.Ends.{ComesOf, IsBenchEnd, IsDriveEnd, IsMergeEnd, IsReceiveEnd, IsServeEnd, LeavesOthers};
 ghost use Rattle.script_player.specs.Headline.{IsPlayed};
 ghost use Rattle.program_words.specs.Serving.{AreServeWords};
 ghost use Rattle.program_words.specs.Statuses.{status_number};
@@ -69,9 +68,11 @@ pub fn answer<
         (sink_run K.written K.faults out.old out.new) (sink_run E.written E.faults err.old err.new) result }
     ensures merge { IsMergeWords (texts_of words.now) → IsMergeEnd (source_run S.left S.faults source.old source.new)
         (sink_run K.written K.faults out.old out.new) (sink_run E.written E.faults err.old err.new) result }
-    ensures usage { AsksForNone (texts_of words.now) → ¬ IsForm (texts_of words.now)
-        → IsUsageEnd (sink_run E.written E.faults err.old err.new) result }
-    ensures statuses { AsksForNone (texts_of words.now) → ComesOf (texts_of words.now) result }
+    ensures receive { IsReceiveWords (texts_of words.now)
+        → IsReceiveEnd (source_run S.left S.faults source.old source.new)
+        (sink_run K.written K.faults out.old out.new) (sink_run E.written E.faults err.old err.new) result }
+    ensures statuses { AsksForNone (texts_of words.now)
+        → ComesOf (texts_of words.now) (sink_run E.written E.faults err.old err.new) result }
     ensures others { AsksForNone (texts_of words.now) → LeavesOthers (texts_of words.now) (source.new ≡ source.old)
         (out.new ≡ out.old) (link.new ≡ link.old) (listener.new ≡ listener.old) result }
 {

@@ -23,6 +23,8 @@ pub enum Command {
     Bench(u32),
     /// Pages become one page.
     Merge,
+    /// Payloads become a page.
+    Receive,
 }
 
 /// The command that the words write, or none where they write none.
@@ -31,6 +33,9 @@ pub(crate) fn read_command(alloc: Global, words: &[&str]) -> Result<Option<Comma
 {
     if is_word(words, "merge") {
         return Ok(Some(Command::Merge));
+    }
+    if is_word(words, "receive") {
+        return Ok(Some(Command::Receive));
     }
     if let Some(to) = drive_address(alloc, words)? {
         return Ok(Some(Command::Drive(to)));

@@ -1,7 +1,7 @@
 //! What the program does with the words behind its name. It answers those that ask for its help text or its version. All others are those
 //! of a run: a script is read from a source and played, a page for each round written and a flush sent; or the page of a script is served;
-//! or a generated script is played; or pages are read from a source, and the one page that they become is written. A run ends with a
-//! status and a line that says why.
+//! or a generated script is played; or pages are read from a source, and the one page that they become is written; or payloads are read, and
+//! the page that they make is written. A run ends with a status and a line that says why.
 //!
 //! An answer over devices in memory:
 //!
@@ -16,6 +16,7 @@ mod driving;
 mod examples;
 mod program;
 mod reading;
+mod receiving;
 mod relaying;
 mod running;
 mod say;
@@ -29,6 +30,7 @@ pub use answering::answer;
 pub use driving::drive;
 pub use examples::{basic_example, described_example, empty_example, sampled_example};
 pub use program::{Ended, answer_over_sockets, run_program};
+pub use receiving::{Received, StreamFault, receive};
 pub use relaying::relay;
 pub use running::run;
 pub use serving::{ServeScriptFault, serve_script};

@@ -3,12 +3,12 @@
 ghost use Rattle.std.specs.Prelude.{◌≡◌, ◌≤◌, ℕ, List, IfSome};
 ghost use Rattle.net_addresses.specs.Addresses.{NetworkText};
 ghost use Rattle.dsd_addresses.specs.Remotes.{RemoteText, remote_text};
-ghost use Rattle.program_words.specs.Answers.{fault_status, texts_of, IsDriveTo, IsDriveWords, IsMergeWords, IsUnplayed};
+ghost use Rattle.program_words.specs.Answers.{fault_status, texts_of, IsDriveTo, IsDriveWords, IsMergeWords, IsReceiveWords, IsUnplayed};
 ghost use Rattle.program_words.specs.BenchWords.{AreBenchWords};
-ghost use Rattle.program_words.specs.Commands.{IsForm};
 ghost use Rattle.program_words.specs.Devices.{link_run, listener_run, sink_run, source_run};
-ghost use Rattle.program_words.specs.Ends.{ComesOf, IsBenchEnd, IsDriveEnd, IsMergeEnd, IsServeEnd, IsUsageEnd, LeavesOthers};
+ghost use Rattle.program_words.specs.Ends.{ComesOf, IsBenchEnd, IsDriveEnd, IsMergeEnd, IsReceiveEnd, IsServeEnd, LeavesOthers};
 ghost use Rattle.script_player.specs.Headline.{IsPlayed};
+ghost use Rattle.program_words.specs.Receive.{stream_status};
 ghost use Rattle.program_words.specs.Relay.{relay_status};
 ghost use Rattle.program_words.specs.Serving.{serve_status, AreServeWords};
 ghost use Rattle.program_words.specs.Statuses.{status_number};
@@ -17,8 +17,11 @@ use crate::ServeScriptFault;
 use crate::command::{Command, read_command};
 use crate::driving::drive;
 use crate::reading::read_all;
+use crate::receiving::{StreamFault, receive};
 use crate::relaying::relay;
-use crate::say::{say_fault, say_merged, say_relay_fault, say_report, say_usage};
+use crate::say::{
+    say_fault, say_merged, say_received, say_relay_fault, say_report, say_stream_fault, say_usage,
+};
 use crate::serving::serve_script;
 use crate::serving_lines::{say_serve_fault, say_served};
 use crate::statuses::Status;
@@ -46,7 +49,8 @@ use std::thread::Threads;
 /// read and played without pages, and the page behind its last round is the answer to so many connections of `listener` as the second word
 /// says; where networks stand behind it, to peers in them alone. A failing connection changes no status. For the word `bench` so many rounds of the generated
 /// script are played, its payloads go nowhere, and the page of the last round is written to `out`. For the word `merge` the whole
-/// source is read as pages that stand one after the other, and the one page that they become is written to `out`.
+/// source is read as pages that stand one after the other, and the one page that they become is written to `out`. For the word `receive`
+/// it is read as DogStatsD payloads, each led by its length, and the page, at moment 0, of an exporter that received their lines is written to `out`.
 pub fn run<
     R: Net<Listener = TcpListener, Stream = TcpStream> + RandomSource + Threads + Wait + Sync,
     S: Source,
@@ -84,10 +88,12 @@ pub fn run<
         (sink_run K.written K.faults out.old out.new) (sink_run E.written E.faults err.old err.new) result }
     ensures merge { IsMergeWords (texts_of words.now) → IsMergeEnd (source_run S.left S.faults source.old source.new)
         (sink_run K.written K.faults out.old out.new) (sink_run E.written E.faults err.old err.new) result }
-    ensures usage { ¬ IsForm (texts_of words.now) → IsUsageEnd (sink_run E.written E.faults err.old err.new) result }
+    ensures receive { IsReceiveWords (texts_of words.now)
+        → IsReceiveEnd (source_run S.left S.faults source.old source.new)
+        (sink_run K.written K.faults out.old out.new) (sink_run E.written E.faults err.old err.new) result }
 
-    // All words: which of them a status comes of, and what they leave alone.
-    ensures statuses { ComesOf (texts_of words.now) result }
+    // All words: which of them a status comes of, what comes of those that are no form, and what they leave alone.
+    ensures statuses { ComesOf (texts_of words.now) (sink_run E.written E.faults err.old err.new) result }
     ensures others { LeavesOthers (texts_of words.now) (source.new ≡ source.old) (out.new ≡ out.old)
         (link.new ≡ link.old) (listener.new ≡ listener.old) result }
 {
@@ -101,6 +107,9 @@ pub fn run<
         Ok(Some(Command::Bench(rounds))) => run_bench(rt, alloc, rounds, out, err, gate).number(),
         Ok(Some(Command::Merge)) => {
             run_merge(alloc, HashStart::drawn(rt), source, out, err).number()
+        }
+        Ok(Some(Command::Receive)) => {
+            run_receive(rt, alloc, HashStart::drawn(rt), source, out, err).number()
         }
         Ok(None) => {
             say_usage(err);
@@ -239,6 +248,38 @@ fn run_merge<S: Source, K: Sink, E: Sink>(
     }
 }
 
+/// Does what the word `receive` asks for.
+fn run_receive<R: Wait, S: Source, K: Sink, E: Sink>(
+    rt: &R,
+    alloc: Global,
+    start: HashStart,
+    source: &mut S,
+    out: &mut K,
+    err: &mut E,
+) -> Status
+    ensures ends { IsReceiveEnd (source_run S.left S.faults source.old source.new)
+        (sink_run K.written K.faults out.old out.new) (sink_run E.written E.faults err.old err.new)
+        (status_number result) }
+{
+    let bytes = match read_all(alloc, source) {
+        Ok(bytes) => bytes,
+        Err(fault) => {
+            say_fault(err, fault);
+            return status_of(fault);
+        }
+    };
+    match receive(rt, alloc, start, &bytes, out) {
+        Ok(received) => {
+            say_received(err, &received);
+            Status::Done
+        }
+        Err(fault) => {
+            say_stream_fault(err, fault);
+            stream_status_of(fault)
+        }
+    }
+}
+
 /// The status that a fault ends the program with.
 fn status_of(fault: DriveFault) -> Status
     ensures { status_number result ≡ fault_status fault }
@@ -272,5 +313,16 @@ fn relay_status_of(fault: &RelayFault) -> Status
         RelayFault::Conflict { page: _, name: _ } => Status::Conflict,
         RelayFault::WriteFault => Status::WriteFailed,
         RelayFault::Memory => Status::NoMemory,
+    }
+}
+
+/// The status that a fault of receiving ends the program with.
+fn stream_status_of(fault: StreamFault) -> Status
+    ensures { status_number result ≡ stream_status fault }
+{
+    match fault {
+        StreamFault::Cut { frames: _ } => Status::CutStream,
+        StreamFault::WriteFault => Status::WriteFailed,
+        StreamFault::Memory => Status::NoMemory,
     }
 }

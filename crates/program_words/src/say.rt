@@ -7,8 +7,10 @@ ghost use Rattle.metrics_core.specs.Outside.{Rose};
 ghost use Rattle.dsd_addresses.specs.Faults.{limit_fault_text, limit_text};
 ghost use Rattle.drive_script.specs.Faults.{fault_text, setting_text};
 ghost use Rattle.program_words.specs.Answers.{IsSaidText, report_text, usage_text};
+ghost use Rattle.program_words.specs.Receive.{received_text, stream_fault_text};
 ghost use Rattle.program_words.specs.Relay.{merged_text, relay_fault_text};
 
+use crate::receiving::{Received, StreamFault};
 use drive_script::{DriveFault, SettingFault};
 use dsd_addresses::LimitFault;
 use itoa::Buffer;
@@ -22,7 +24,7 @@ pub(crate) fn say_usage<E: Sink>(err: &mut E)
 {
     say(
         err,
-        &[b"usage: drive [ADDRESS] | serve COUNT [NETWORK ..] | bench N | merge\n"],
+        &[b"usage: drive [ADDRESS] | serve COUNT [NETWORK ..] | bench N | merge | receive\n"],
     );
 }
 
@@ -160,6 +162,48 @@ pub(crate) fn say_relay_fault<E: Sink>(err: &mut E, fault: &RelayFault)
         ),
         RelayFault::WriteFault => say(err, &[b"write failed\n"]),
         RelayFault::Memory => say(err, &[b"out of memory\n"]),
+    }
+}
+
+/// Says what was received.
+pub(crate) fn say_received<E: Sink>(err: &mut E, received: &Received)
+    ensures said { IsSaidText (Rose (E.faults err.old) (E.faults err.new))
+        (E.written err.old) (E.written err.new) (line (received_text received.now)) }
+{
+    let (mut frames, mut lines, mut bad) = (Buffer::new(), Buffer::new(), Buffer::new());
+    say(
+        err,
+        &[
+            b"received ",
+            frames.format(received.frames).as_bytes(),
+            b" frames ",
+            lines.format(received.lines).as_bytes(),
+            b" lines ",
+            bad.format(received.bad).as_bytes(),
+            b" bad\n",
+        ],
+    );
+}
+
+/// Says why payloads weren't received.
+pub(crate) fn say_stream_fault<E: Sink>(err: &mut E, fault: StreamFault)
+    ensures said { IsSaidText (Rose (E.faults err.old) (E.faults err.new))
+        (E.written err.old) (E.written err.new) (line (stream_fault_text fault)) }
+{
+    match fault {
+        StreamFault::Cut { frames } => {
+            let mut number = Buffer::new();
+            say(
+                err,
+                &[
+                    b"stream: cut after ",
+                    number.format(frames).as_bytes(),
+                    b" frames\n",
+                ],
+            );
+        }
+        StreamFault::WriteFault => say(err, &[b"write failed\n"]),
+        StreamFault::Memory => say(err, &[b"out of memory\n"]),
     }
 }
 

@@ -28,6 +28,8 @@ pub enum Status {
     BadStream,
     /// The pages don't merge.
     Conflict,
+    /// The input ends within a payload.
+    CutStream,
 }
 
 impl Status {
@@ -47,6 +49,7 @@ impl Status {
             Status::ListenerFailed => 9,
             Status::BadStream => 10,
             Status::Conflict => 11,
+            Status::CutStream => 12,
         }
     }
 }

@@ -26,10 +26,10 @@ pub returns-in-Some-clause-bench : goal.returns-in-Some-clause-bench
 returns-in-Some-clause-bench g c = λ count benches. absurd (no_form _ _ c.in-Some.ensures (inr (inr (inl (count, benches)))))
 
 pub returns-in-Some-clause-merge : goal.returns-in-Some-clause-merge
-returns-in-Some-clause-merge g c = λ merges. absurd (no_form _ _ c.in-Some.ensures (inr (inr (inr merges))))
+returns-in-Some-clause-merge g c = λ merges. absurd (no_form _ _ c.in-Some.ensures (inr (inr (inr (inl merges)))))
 
-pub returns-in-Some-clause-usage : goal.returns-in-Some-clause-usage
-returns-in-Some-clause-usage g c = λ none others. absurd (none _ c.in-Some.ensures)
+pub returns-in-Some-clause-receive : goal.returns-in-Some-clause-receive
+returns-in-Some-clause-receive g c = λ receives. absurd (no_form _ _ c.in-Some.ensures (inr (inr (inr (inr receives)))))
 
 pub returns-in-Some-clause-statuses : goal.returns-in-Some-clause-statuses
 returns-in-Some-clause-statuses g c = λ none. absurd (none _ c.in-Some.ensures)
@@ -60,8 +60,8 @@ returns-in-None-clause-bench g c = c.run.ensures.bench
 pub returns-in-None-clause-merge : goal.returns-in-None-clause-merge
 returns-in-None-clause-merge g c = c.run.ensures.merge
 
-pub returns-in-None-clause-usage : goal.returns-in-None-clause-usage
-returns-in-None-clause-usage g c = λ none. c.run.ensures.usage
+pub returns-in-None-clause-receive : goal.returns-in-None-clause-receive
+returns-in-None-clause-receive g c = c.run.ensures.receive
 
 pub returns-in-None-clause-statuses : goal.returns-in-None-clause-statuses
 returns-in-None-clause-statuses g c = λ none. c.run.ensures.statuses
