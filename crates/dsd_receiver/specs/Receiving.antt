@@ -1,0 +1,64 @@
+-- What the calls of a receiver answer.
+use Rattle.std.specs.Prelude.{◌≡◌, ℕ, ◌<◌, Bool, true, false, List, ◌∷◌, ◌++◌, Option, take, length, ◌⊎◌}
+use Rattle.metrics_core.specs.declared.kinds.MetricKind.{MetricKind}
+use Rattle.metrics_core.specs.declared.kinds.MetricKind.TheVariants as kinds
+use Rattle.metrics_core.specs.Keys.{KeyText}
+use Rattle.metrics_core.specs.Calls.{Call}
+use Rattle.dsd_lines.specs.Grammar.{LineText, IsLine}
+use Rattle.dsd_lines.specs.Texts.{IsNoLine}
+use Rattle.prom_exporter.specs.State.{PrometheusState}
+use Rattle.dsd_receiver.specs.declared.receiver.Applied.{Applied}
+use Rattle.dsd_receiver.specs.declared.receiver.ReceiveFault.{ReceiveFault}
+use Rattle.dsd_receiver.specs.declared.receiver.ReceiveFault.TheVariants as faults
+use Rattle.dsd_receiver.specs.Received.{kind_said, calls_said, with_calls, after_line, AreRead, Receives, after_readings, count_lines, count_bad}
+
+-- all lines were received, and this many of them are lines of the grammar, and bad
+pub record IsApplied (moment : ℕ) (lines : List (List ℕ)) (s : PrometheusState) (applied : Applied) (t : PrometheusState) : Type 0 where
+  pub readings : List (Option LineText)
+  pub are_read : AreRead lines readings
+  pub state : t ≡ after_readings moment readings s
+  pub lines_are : applied.lines ≡ count_lines readings
+  pub bad_are : applied.bad ≡ count_bad readings
+
+-- what a line of the grammar says
+abbrev pub IsSaid : LineText → Type 0
+IsSaid said = (line : List ℕ) × IsLine line said
+
+-- a line was received: it is one of the grammar, and its calls were made; or it is bad, and nothing changed
+abbrev pub IsReceived : ℕ → List ℕ → Bool → PrometheusState → PrometheusState → Type 0
+IsReceived moment line true s t = (said : LineText) × IsLine line said × (t ≡ after_line moment s said)
+IsReceived moment line false s t = IsNoLine line × (t ≡ s)
+
+-- a key was registered, and these calls were made on its series, or nothing was done
+abbrev pub WithCalls : MetricKind → KeyText → List Call → Bool → PrometheusState → PrometheusState → Type 0
+WithCalls kind key calls false s t = t ≡ s
+WithCalls kind key calls true s t = t ≡ with_calls kind key calls s
+
+-- What a line says was done in part: nothing of it; or its series was registered, and the first of its calls were made, but not
+-- all. On a counter and on a gauge none were.
+abbrev pub IsInPart : ℕ → LineText → Bool → ℕ → PrometheusState → PrometheusState → Type 0
+IsInPart moment said false values s t = (values ≡ 0) × (t ≡ s)
+IsInPart moment said true values s t =
+    (values < length (calls_said moment said)) × (t ≡ with_calls (kind_said said.points) said.key (take values (calls_said moment said)) s)
+    × ((kind_said said.points ≡ kinds.Histogram) ⊎ (values ≡ 0))
+
+-- a line was received in part; where its series was registered it is one of the grammar
+abbrev pub StopsIn : ℕ → List ℕ → Bool → ℕ → PrometheusState → PrometheusState → Type 0
+StopsIn moment line false values s t = (values ≡ 0) × (t ≡ s)
+StopsIn moment line true values s t = (said : LineText) × IsLine line said × IsInPart moment said true values s t
+
+-- the first lines were received, so many, and the next one in part
+pub record StopsAfter (moment : ℕ) (lines : List (List ℕ)) (s : PrometheusState) (done : ℕ) (registered : Bool) (values : ℕ) (t : PrometheusState) : Type 0 where
+  pub treated : List (List ℕ)
+  pub next : List ℕ
+  pub later : List (List ℕ)
+  pub lines_are : lines ≡ treated ++ next ∷ later
+  pub done_is : done ≡ length treated
+  pub between : PrometheusState
+  pub receives : Receives moment treated s between
+  pub stops : StopsIn moment next registered values between t
+
+-- want of memory, after a flush, stopped the receiving there
+abbrev pub IsStopped : ℕ → List (List ℕ) → PrometheusState → ReceiveFault → PrometheusState → Type 0
+IsStopped moment lines s (faults.Memory flushed done registered values) t =
+    (flushed ≡ true) × StopsAfter moment lines s done registered values t

@@ -1,0 +1,166 @@
+//! One line: it is read, its series is registered, and its values become calls.
+
+ghost use Rattle.std.specs.Prelude.{◌≡◌, ◌<◌, ◌≤◌, [], IfOk, IfErr, OnOk, false, length, take};
+ghost use Rattle.metrics_core.specs.declared.kinds.MetricKind.TheVariants.{Counter, Gauge, Histogram};
+ghost use Rattle.dsd_lines.specs.Texts.{line_text, numbers_of};
+ghost use Rattle.prom_exporter.specs.Exporter.{AllHome, state_of};
+ghost use Rattle.dsd_receiver.specs.Received.{after_line, increments, sets, records, times_at, with_calls};
+ghost use Rattle.dsd_receiver.specs.Receiving.{IsInPart, IsReceived, IsSaid, StopsIn, WithCalls};
+
+use crate::calls::{call_counter, call_gauge, call_histogram};
+use dsd_lines::{Line, Points, read_line};
+use metrics_core::{BILLIONTHS, Fixed, Key, Memory};
+use prom_exporter::PrometheusState;
+use std::alloc::Global;
+use std::sync::Wait;
+
+/// What was done of a line when memory was refused.
+#[derive(Clone, Copy, Drop)]
+pub(crate) struct Stop {
+    /// Whether its series was registered.
+    pub registered: bool,
+    /// How many of its values were applied.
+    pub values: u64,
+}
+
+impl From<Memory> for Stop {
+    ghost from_gives = { λ _ stop. stop ≡ record { registered = false; values = 0 } };
+
+    fn from(_refused: Memory) -> Stop {
+        Stop {
+            registered: false,
+            values: 0,
+        }
+    }
+}
+
+/// Applies a line, which stands without its newline. Answers whether it is one of the grammar.
+pub(crate) fn apply_line<R: Wait>(
+    state: &mut PrometheusState,
+    rt: &R,
+    alloc: Global,
+    bytes: &[u8],
+    moment: u64,
+) -> Result<bool, Stop>
+    requires home { AllHome state.old }
+    ensures home { AllHome state.new }
+    ensures settings { state.new.settings ≡ state.old.settings }
+    ensures applied { IfOk result (λ is_line. IsReceived moment bytes.now is_line (state_of state.old) (state_of state.new)) }
+    ensures stopped { IfErr result (λ stop. StopsIn moment bytes.now stop.registered stop.values (state_of state.old) (state_of state.new)) }
+{
+    let Some(line) = read_line(alloc, bytes)? else {
+        return Ok(false);
+    };
+    apply_said(state, rt, alloc, line, moment)?;
+    Ok(true)
+}
+
+/// Applies what a line says.
+fn apply_said<R: Wait>(
+    state: &mut PrometheusState,
+    rt: &R,
+    alloc: Global,
+    line: Line,
+    moment: u64,
+) -> Result<(), Stop>
+    requires home { AllHome state.old }
+    requires said { IsSaid (line_text line) }
+    ensures home { AllHome state.new }
+    ensures settings { state.new.settings ≡ state.old.settings }
+    ensures applied { OnOk result (state_of state.new ≡ after_line moment (state_of state.old) (line_text line)) }
+    ensures stopped { IfErr result (λ stop. IsInPart moment (line_text line) stop.registered stop.values (state_of state.old) (state_of state.new)) }
+{
+    let Line {
+        key,
+        points,
+        rate,
+        timestamp: _,
+    } = line;
+    let rate = rate.unwrap_or(BILLIONTHS);
+    match points {
+        Points::Counter(counts) => apply_counter(state, rt, alloc, key, counts.as_slice(), rate),
+        Points::Gauge(values) => apply_gauge(state, rt, alloc, key, values.as_slice()),
+        Points::Histogram(values) | Points::Distribution(values) => {
+            apply_histogram(state, rt, alloc, key, values.as_slice(), moment, rate)
+        }
+    }
+}
+
+/// Registers a counter, and adds to it what these counts stand for at a rate.
+fn apply_counter<R: Wait>(
+    state: &mut PrometheusState,
+    rt: &R,
+    alloc: Global,
+    key: Key,
+    counts: &[u64],
+    rate: u32,
+) -> Result<(), Stop>
+    requires home { AllHome state.old }
+    requires rate { 0 < rate }
+    ensures home { AllHome state.new }
+    ensures settings { state.new.settings ≡ state.old.settings }
+    ensures applied { OnOk result (state_of state.new ≡ with_calls Counter key (increments rate counts.now) (state_of state.old)) }
+    ensures stopped { IfErr result (λ stop. (stop.values ≡ 0) × WithCalls Counter key [] stop.registered (state_of state.old) (state_of state.new)) }
+{
+    let id = state.register_owned_counter(alloc, key)?;
+    match call_counter(state, rt, alloc, id, counts, rate) {
+        Ok(()) => Ok(()),
+        Err(Memory) => Err(Stop {
+            registered: true,
+            values: 0,
+        }),
+    }
+}
+
+/// Registers a gauge, and sets it to each of these values.
+fn apply_gauge<R: Wait>(
+    state: &mut PrometheusState,
+    rt: &R,
+    alloc: Global,
+    key: Key,
+    values: &[Fixed],
+) -> Result<(), Stop>
+    requires home { AllHome state.old }
+    ensures home { AllHome state.new }
+    ensures settings { state.new.settings ≡ state.old.settings }
+    ensures applied { OnOk result (state_of state.new ≡ with_calls Gauge key (sets (numbers_of values.now)) (state_of state.old)) }
+    ensures stopped { IfErr result (λ stop. (stop.values ≡ 0) × WithCalls Gauge key [] stop.registered (state_of state.old) (state_of state.new)) }
+{
+    let id = state.register_owned_gauge(alloc, key)?;
+    match call_gauge(state, rt, alloc, id, values) {
+        Ok(()) => Ok(()),
+        Err(Memory) => Err(Stop {
+            registered: true,
+            values: 0,
+        }),
+    }
+}
+
+/// Registers a histogram, and records each of these values as often as it stands for at a rate.
+fn apply_histogram<R: Wait>(
+    state: &mut PrometheusState,
+    rt: &R,
+    alloc: Global,
+    key: Key,
+    values: &[Fixed],
+    moment: u64,
+    rate: u32,
+) -> Result<(), Stop>
+    requires home { AllHome state.old }
+    requires rate { 0 < rate }
+    ensures home { AllHome state.new }
+    ensures settings { state.new.settings ≡ state.old.settings }
+    ensures applied { OnOk result (state_of state.new ≡ with_calls Histogram key (records moment (times_at rate) (numbers_of values.now)) (state_of state.old)) }
+    ensures stopped { IfErr result (λ stop. WithCalls Histogram key (take stop.values (records moment (times_at rate) (numbers_of values.now))) stop.registered (state_of state.old) (state_of state.new)) }
+    ensures within { IfErr result (λ stop. (stop.values ≤ length values.now)) }
+{
+    let id = state.register_owned_histogram(alloc, key)?;
+    let done = call_histogram(state, rt, alloc, id, values, moment, BILLIONTHS / rate);
+    if done == values.len() {
+        return Ok(());
+    }
+    Err(Stop {
+        registered: true,
+        values: done as u64,
+    })
+}

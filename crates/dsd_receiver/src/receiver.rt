@@ -1,0 +1,115 @@
+//! The receiver: payloads are cut into lines, and each line is applied to the exporter.
+
+ghost use Rattle.std.specs.Prelude.{◌≡◌, IfOk, IfErr, length};
+ghost use Rattle.dsd_lines.specs.Payloads.{payload_lines};
+ghost use Rattle.prom_exporter.specs.Exporter.{AllHome, state_of};
+ghost use Rattle.dsd_receiver.specs.Receiving.{IsApplied, IsStopped};
+
+use crate::lines::apply_line;
+use dsd_lines::split_line;
+use prom_exporter::PrometheusState;
+use std::alloc::Global;
+use std::marker::Model;
+use std::sync::Wait;
+
+/// How many lines of a payload are in the grammar of lines, and how many are not. A bad line changes nothing.
+#[derive(Clone, Copy, Debug, PartialEq, Eq, Drop)]
+pub struct Applied {
+    /// The lines of the grammar, which were applied.
+    pub lines: u64,
+    /// The other lines.
+    pub bad: u64,
+}
+
+/// Why not all lines were applied.
+#[derive(Clone, Copy, Debug, PartialEq, Eq, Drop)]
+pub enum ReceiveFault {
+    /// Memory was refused.
+    Memory {
+        /// Whether the flush that was to give the lines was made; lines that are given are flushed.
+        flushed: bool,
+        /// How many lines were treated, bad ones included.
+        done: u64,
+        /// Whether the series of the next line was registered.
+        registered: bool,
+        /// How many values of the next line were applied. It is 0 but for a histogram.
+        values: u64,
+    },
+}
+
+/// Applies payloads to an exporter of which nothing is lent out. A contract sees it as the exporter.
+pub struct Receiver {
+    state: PrometheusState,
+}
+
+impl Model for Receiver {
+    ghost use Rattle.prom_exporter.specs.Exporter.{AllHome, Exporter};
+
+    ghost Value = { Exporter };
+
+    ghost view = { λ receiver. receiver.state };
+
+    ghost invariant = { λ receiver. AllHome receiver.state };
+}
+
+impl Receiver {
+    /// A receiver over this exporter, of which nothing is lent out. It takes no memory.
+    pub fn new(_alloc: Global, state: PrometheusState) -> Receiver
+        requires home { AllHome state }
+        ensures same { result ≡ state }
+    {
+        Receiver { state }
+    }
+
+    /// The exporter.
+    pub fn state(&self) -> &PrometheusState
+        ensures same { result.now ≡ self.now }
+    {
+        &self.state
+    }
+
+    /// The exporter alone, to write a page or to lend of it. A receiver is ended so.
+    pub fn into_state(self) -> PrometheusState
+        ensures same { result ≡ self }
+        ensures home { AllHome result }
+    {
+        let Receiver { state } = self;
+        state
+    }
+
+    /// Applies the lines of a payload in order, each at this moment, in nanoseconds. A payload is cut at each newline, and an
+    /// empty last piece is no line.
+    pub fn apply_payload<R: Wait>(
+        &mut self,
+        rt: &R,
+        alloc: Global,
+        payload: &[u8],
+        moment: u64,
+    ) -> Result<Applied, ReceiveFault>
+        ensures applied { IfOk result (λ applied.
+            IsApplied moment (payload_lines payload.now) (state_of self.old) applied (state_of self.new)) }
+        ensures refused { IfErr result (λ fault.
+            IsStopped moment (payload_lines payload.now) (state_of self.old) fault (state_of self.new)) }
+        ensures settings { self.new.settings ≡ self.old.settings }
+    {
+        let mut applied = Applied { lines: 0, bad: 0 };
+        let mut rest = payload;
+        while !rest.is_empty() {
+            let (line, behind) = split_line(rest);
+            match apply_line(&mut self.state, rt, alloc, line, moment) {
+                Ok(true) => applied.lines += 1,
+                Ok(false) => applied.bad += 1,
+                Err(stop) => {
+                    return Err(ReceiveFault::Memory {
+                        flushed: true,
+                        done: applied.lines + applied.bad,
+                        registered: stop.registered,
+                        values: stop.values,
+                    });
+                }
+            }
+            rest = behind;
+        }
+        Ok(applied)
+    }
+}

@@ -1,0 +1,5 @@
+//! Tests of the receiver: payloads, how many of their lines are good and bad, and the page that shows what they left.
+#![tactic(auto)]
+
+#[cfg(test)]
+mod rows;
