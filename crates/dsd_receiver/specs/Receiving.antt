@@ -29,17 +29,15 @@ abbrev pub IsReceived : ℕ → List ℕ → Bool → PrometheusState → Promet
 IsReceived moment line true s t = (said : LineText) × IsLine line said × (t ≡ after_line moment s said)
 IsReceived moment line false s t = IsNoLine line × (t ≡ s)
 
--- a key was registered, and these calls were made on its series, or nothing was done
-abbrev pub WithCalls : MetricKind → KeyText → List Call → Bool → PrometheusState → PrometheusState → Type 0
-WithCalls kind key calls false s t = t ≡ s
-WithCalls kind key calls true s t = t ≡ with_calls kind key calls s
+-- nothing was done; or a key was registered, and the first of these calls were made on its series, so many, but not all
+abbrev pub InPart : MetricKind → KeyText → List Call → Bool → ℕ → PrometheusState → PrometheusState → Type 0
+InPart kind key calls false values s t = (values ≡ 0) × (t ≡ s)
+InPart kind key calls true values s t = (values < length calls) × (t ≡ with_calls kind key (take values calls) s)
 
--- What a line says was done in part: nothing of it; or its series was registered, and the first of its calls were made, but not
--- all. On a counter and on a gauge none were.
+-- what a line says was done in part; of a counter's and of a gauge's values none was applied
 abbrev pub IsInPart : ℕ → LineText → Bool → ℕ → PrometheusState → PrometheusState → Type 0
-IsInPart moment said false values s t = (values ≡ 0) × (t ≡ s)
-IsInPart moment said true values s t =
-    (values < length (calls_said moment said)) × (t ≡ with_calls (kind_said said.points) said.key (take values (calls_said moment said)) s)
+IsInPart moment said registered values s t =
+    InPart (kind_said said.points) said.key (calls_said moment said) registered values s t
     × ((kind_said said.points ≡ kinds.Histogram) ⊎ (values ≡ 0))
 
 -- a line was received in part; where its series was registered it is one of the grammar

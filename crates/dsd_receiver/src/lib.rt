@@ -8,6 +8,7 @@
 
 mod calls;
 mod lines;
+mod payloads;
 mod receiver;
 
 pub use receiver::{Applied, ReceiveFault, Receiver};

@@ -1,11 +1,12 @@
 //! One line: it is read, its series is registered, and its values become calls.
 
-ghost use Rattle.std.specs.Prelude.{◌≡◌, ◌<◌, ◌≤◌, [], IfOk, IfErr, OnOk, false, length, take};
+ghost use Rattle.std.specs.Prelude.{◌≡◌, ◌<◌, ◌≤◌, IfOk, IfErr, OnOk, false, length};
 ghost use Rattle.metrics_core.specs.declared.kinds.MetricKind.TheVariants.{Counter, Gauge, Histogram};
+ghost use Rattle.metrics_core.specs.Numbers.{one};
 ghost use Rattle.dsd_lines.specs.Texts.{line_text, numbers_of};
 ghost use Rattle.prom_exporter.specs.Exporter.{AllHome, state_of};
 ghost use Rattle.dsd_receiver.specs.Received.{after_line, increments, sets, records, times_at, with_calls};
-ghost use Rattle.dsd_receiver.specs.Receiving.{IsInPart, IsReceived, IsSaid, StopsIn, WithCalls};
+ghost use Rattle.dsd_receiver.specs.Receiving.{InPart, IsInPart, IsReceived, IsSaid, StopsIn};
 
 use crate::calls::{call_counter, call_gauge, call_histogram};
 use dsd_lines::{Line, Points, read_line};
@@ -96,11 +97,12 @@ fn apply_counter<R: Wait>(
     rate: u32,
 ) -> Result<(), Stop>
     requires home { AllHome state.old }
+    requires some { 0 < length counts.now }
     requires rate { 0 < rate }
     ensures home { AllHome state.new }
     ensures settings { state.new.settings ≡ state.old.settings }
     ensures applied { OnOk result (state_of state.new ≡ with_calls Counter key (increments rate counts.now) (state_of state.old)) }
-    ensures stopped { IfErr result (λ stop. (stop.values ≡ 0) × WithCalls Counter key [] stop.registered (state_of state.old) (state_of state.new)) }
+    ensures stopped { IfErr result (λ stop. (stop.values ≡ 0) × InPart Counter key (increments rate counts.now) stop.registered stop.values (state_of state.old) (state_of state.new)) }
 {
     let id = state.register_owned_counter(alloc, key)?;
     match call_counter(state, rt, alloc, id, counts, rate) {
@@ -121,10 +123,11 @@ fn apply_gauge<R: Wait>(
     values: &[Fixed],
 ) -> Result<(), Stop>
     requires home { AllHome state.old }
+    requires some { 0 < length values.now }
     ensures home { AllHome state.new }
     ensures settings { state.new.settings ≡ state.old.settings }
     ensures applied { OnOk result (state_of state.new ≡ with_calls Gauge key (sets (numbers_of values.now)) (state_of state.old)) }
-    ensures stopped { IfErr result (λ stop. (stop.values ≡ 0) × WithCalls Gauge key [] stop.registered (state_of state.old) (state_of state.new)) }
+    ensures stopped { IfErr result (λ stop. (stop.values ≡ 0) × InPart Gauge key (sets (numbers_of values.now)) stop.registered stop.values (state_of state.old) (state_of state.new)) }
 {
     let id = state.register_owned_gauge(alloc, key)?;
     match call_gauge(state, rt, alloc, id, values) {
@@ -147,12 +150,11 @@ fn apply_histogram<R: Wait>(
     rate: u32,
 ) -> Result<(), Stop>
     requires home { AllHome state.old }
-    requires rate { 0 < rate }
+    requires rate { (0 < rate) × (rate ≤ one) }
     ensures home { AllHome state.new }
     ensures settings { state.new.settings ≡ state.old.settings }
     ensures applied { OnOk result (state_of state.new ≡ with_calls Histogram key (records moment (times_at rate) (numbers_of values.now)) (state_of state.old)) }
-    ensures stopped { IfErr result (λ stop. WithCalls Histogram key (take stop.values (records moment (times_at rate) (numbers_of values.now))) stop.registered (state_of state.old) (state_of state.new)) }
-    ensures within { IfErr result (λ stop. (stop.values ≤ length values.now)) }
+    ensures stopped { IfErr result (λ stop. InPart Histogram key (records moment (times_at rate) (numbers_of values.now)) stop.registered stop.values (state_of state.old) (state_of state.new)) }
 {
     let id = state.register_owned_histogram(alloc, key)?;
     let done = call_histogram(state, rt, alloc, id, values, moment, BILLIONTHS / rate);

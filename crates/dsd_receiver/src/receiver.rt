@@ -1,12 +1,11 @@
-//! The receiver: payloads are cut into lines, and each line is applied to the exporter.
+//! The receiver: an exporter of which nothing is lent out, to which payloads are applied.
 
-ghost use Rattle.std.specs.Prelude.{◌≡◌, IfOk, IfErr, length};
+ghost use Rattle.std.specs.Prelude.{◌≡◌, ◌≤◌, ◌+◌, IfOk, IfErr, length};
 ghost use Rattle.dsd_lines.specs.Payloads.{payload_lines};
 ghost use Rattle.prom_exporter.specs.Exporter.{AllHome, state_of};
 ghost use Rattle.dsd_receiver.specs.Receiving.{IsApplied, IsStopped};
 
-use crate::lines::apply_line;
-use dsd_lines::split_line;
+use crate::payloads::apply_lines;
 use prom_exporter::PrometheusState;
 use std::alloc::Global;
 use std::marker::Model;
@@ -91,25 +90,10 @@ impl Receiver {
         ensures refused { IfErr result (λ fault.
             IsStopped moment (payload_lines payload.now) (state_of self.old) fault (state_of self.new)) }
         ensures settings { self.new.settings ≡ self.old.settings }
+
+        // Each line takes a byte at least.
+        ensures few { IfOk result (λ applied. applied.lines + applied.bad ≤ length payload.now) }
     {
-        let mut applied = Applied { lines: 0, bad: 0 };
-        let mut rest = payload;
-        while !rest.is_empty() {
-            let (line, behind) = split_line(rest);
-            match apply_line(&mut self.state, rt, alloc, line, moment) {
-                Ok(true) => applied.lines += 1,
-                Ok(false) => applied.bad += 1,
-                Err(stop) => {
-                    return Err(ReceiveFault::Memory {
-                        flushed: true,
-                        done: applied.lines + applied.bad,
-                        registered: stop.registered,
-                        values: stop.values,
-                    });
-                }
-            }
-            rest = behind;
-        }
-        Ok(applied)
+        apply_lines(&mut self.state, rt, alloc, payload, moment)
     }
 }
