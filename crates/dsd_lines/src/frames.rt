@@ -1,6 +1,6 @@
 //! Streams of payloads, each led by its length in four bytes, little-endian.
 
-ghost use Rattle.std.specs.Prelude.{◌≡◌, ◌++◌, ◌∷◌, [], ℕ, List, true, MatchOption, IfOk, OnOk, OnErr};
+ghost use Rattle.std.specs.Prelude.{◌≡◌, ◌↔◌, ◌++◌, ◌∷◌, [], ℕ, List, true, IsTrue, MatchOption, IfOk, OnOk, OnErr};
 ghost use Rattle.dsd_writer.specs.Lines.{framed};
 ghost use Rattle.dsd_lines.specs.Frames.{AreFrames, BeginsNoFrame, BeginsFrame, Splits};
 
@@ -70,6 +70,13 @@ impl Frames {
         let frame = Vec::from_slice(alloc, payload)?;
         self.begin += LEAD + length;
         Ok(Some(frame))
+    }
+
+    /// Whether nothing is left: each byte that was fed stands in a payload that was taken.
+    pub fn is_empty(&self) -> bool
+        ensures { IsTrue result ↔ (self.now ≡ []) }
+    {
+        self.begin == self.bytes.len()
     }
 
     /// Gives the room of what was taken to what comes, once that is half of all bytes or more: so each byte is moved once at most
