@@ -6,3 +6,6 @@ pub mod Changing
 pub mod Loops
 pub mod Lines
 pub mod Payloads
+pub mod ReceivedPages
+pub mod ReceivedMoments
+pub mod ReceivedStreams

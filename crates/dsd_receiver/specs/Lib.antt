@@ -1,3 +1,4 @@
 pub mod Received
 pub mod Receiving
 pub mod Passes
+pub mod Streams

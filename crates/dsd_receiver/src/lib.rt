@@ -10,5 +10,7 @@ mod calls;
 mod lines;
 mod payloads;
 mod receiver;
+mod streams;
 
 pub use receiver::{Applied, ReceiveFault, Receiver};
+pub use streams::{Received, StreamFault, receive};

@@ -5,8 +5,6 @@ pub mod WordSteps
 pub mod RecordedRounds
 pub mod RelaySteps
 pub mod ReceiveSteps
-pub mod ReceivedMoments
-pub mod ReceivedStreams
 pub mod ServingSteps
 pub mod ServingWords
 pub mod CommandSteps

@@ -1,49 +1,21 @@
 -- From the parts of receiving to what a run of it says as a whole.
-use Rattle.std.proofs.Common.{◌≡◌, ◌≢◌, ℕ, ◌+◌, ◌≤◌, ◌<◌, ◌⊎◌, inl, inr, List, [], ◌∷◌, ◌++◌, length, refl, sym, ap, subst, ◌∙◌, append_assoc, arith}
-use Rattle.std.specs.Prelude.{Option, Some, None, IfSome, codes, decimal, true}
-use Rattle.metrics_core.specs.Characters.{line, newline}
-use Rattle.metrics_core.specs.Outside.{GrewBy, GrewByPrefix}
+use Rattle.std.proofs.Common.{◌≡◌, ℕ, ◌⊎◌, inl, inr, List, refl, sym, subst, arith}
+use Rattle.std.specs.Prelude.{Option, Some, None, IfSome}
+use Rattle.metrics_core.specs.Characters.{line}
 use Rattle.drive_script.specs.Faults.{fault_text}
 use Rattle.drive_script.specs.declared.faults.DriveFault.{DriveFault}
 use Rattle.drive_script.specs.declared.faults.DriveFault.TheVariants as faults
-use Rattle.prom_format.specs.Pages.{page_text}
-use Rattle.prom_exporter.specs.State.{PrometheusState, page_step}
-use Rattle.prom_exporter.specs.Families.{window_of}
-use Rattle.prom_exporter.specs.Exporter.{default_settings, families_shown}
-use Rattle.prom_exporter.proofs.Printable.{page_reads}
-use Rattle.dsd_lines.specs.Frames.{AreFrames, BeginsNoFrame, Splits}
-use Rattle.program_words.specs.Answers.{IsSaidText, IsTooLong, LeavesSource, Says, fault_status}
+use Rattle.program_words.specs.Answers.{IsTooLong, LeavesSource, Says, fault_status}
 use Rattle.program_words.specs.Devices.{SourceRun, SinkRun, SourceFailed, SinkFailed}
 use Rattle.program_words.specs.Ends.{IsReceiveEnd}
 use Rattle.program_words.specs.Reading.{IsReadFault}
-use Rattle.program_words.specs.Receive.{AreCounted, AreNoFrames, HasStreamCause, IsCutAfter, IsCutStream, IsReceiveComplete, IsReceiveLineOf, IsReceived, IsReceivedInPart, IsReceivedPage, IsTakenIn, LeavesStream, cut, done, no_memory, read_failed, received_text, stream_fault_text, stream_status, too_long, write_failed}
+use Rattle.dsd_receiver.specs.Streams.{AreCounted, AreNoFrames, HasStreamCause, IsReceived, IsReceivedInPart, IsReceivedPage, LeavesStream}
+use Rattle.program_words.specs.Receive.{IsCutStream, IsReceiveComplete, IsReceiveLineOf, cut, done, no_memory, read_failed, received_text, stream_fault_text, stream_status, too_long, write_failed}
 use Rattle.program_words.specs.Relay.{IsWithinLimit}
-use Rattle.program_words.specs.declared.receiving.Received.{Received}
-use Rattle.program_words.specs.declared.receiving.StreamFault.{StreamFault}
-use Rattle.program_words.specs.declared.receiving.StreamFault.TheVariants as stream
+use Rattle.dsd_receiver.specs.declared.streams.Received.{Received}
+use Rattle.dsd_receiver.specs.declared.streams.StreamFault.{StreamFault}
+use Rattle.dsd_receiver.specs.declared.streams.StreamFault.TheVariants as stream
 use Rattle.program_words.proofs.ReadingSteps.{of_any, some_of}
-
--- ---- the page
-
-pub received_page : (bytes : List ℕ) (received : Received) (state : PrometheusState) → IsTakenIn bytes received state
-    → IsReceivedPage bytes (page_text (families_shown default_settings 0 state))
-received_page bytes received state taken = record {
-  frames = taken.counted.frames;
-  state = state;
-  whole = taken.counted.whole;
-  receives = (taken.counted.readings, taken.counted.are_read, taken.state_is);
-  page = page_reads default_settings (window_of default_settings 0) (page_step default_settings.idle 0 state);
-}
-
-pub received_whole : (bytes : List ℕ) (received : Received) (state : PrometheusState) (written written' : Option (List ℕ)) → IsTakenIn bytes received state
-    → GrewBy written written' (page_text (families_shown default_settings 0 state)) → IsReceived bytes written written'
-received_whole bytes received state written written' taken grew =
-    record { text = page_text (families_shown default_settings 0 state); page = received_page bytes received state taken; grew = grew }
-
-pub received_prefix : (bytes : List ℕ) (received : Received) (state : PrometheusState) (written written' : Option (List ℕ)) → IsTakenIn bytes received state
-    → GrewByPrefix written written' (page_text (families_shown default_settings 0 state)) → IsReceivedInPart bytes written written'
-received_prefix bytes received state written written' taken grew =
-    record { text = page_text (families_shown default_settings 0 state); page = received_page bytes received state taken; grew = grew }
 
 -- ---- which status each cause brings
 

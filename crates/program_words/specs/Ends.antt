@@ -4,6 +4,7 @@ use Rattle.metrics_core.specs.Characters.{line}
 use Rattle.net_addresses.specs.Addresses.{NetworkText}
 use Rattle.dsd_addresses.specs.Remotes.{RemoteText}
 use Rattle.prom_serve.specs.Connections.{CountedOn}
+use Rattle.dsd_receiver.specs.Streams.{IsReceived, IsReceivedInPart}
 use Rattle.drive_script.specs.Faults.{fault_text}
 use Rattle.drive_script.specs.declared.faults.DriveFault.TheVariants as faults
 use Rattle.drive_script.specs.declared.faults.SettingFault.{SettingFault}
@@ -14,7 +15,7 @@ use Rattle.program_words.specs.BenchSaid.{IsBenchLineOf}
 use Rattle.program_words.specs.Commands.{IsBenchWords, IsForm, IsScriptWords, IsServeWords, IsStreamWords}
 use Rattle.program_words.specs.Devices.{SourceRun, SinkRun, LinkRun, ListenerRun, SourceFailed, SinkFailed, ListenerFailed}
 use Rattle.script_player.specs.Headline.{IsPlayed, IsPlayedInPart}
-use Rattle.program_words.specs.Receive.{IsCutStream, IsReceiveComplete, IsReceiveLineOf, IsReceived, IsReceivedInPart}
+use Rattle.program_words.specs.Receive.{IsCutStream, IsReceiveComplete, IsReceiveLineOf}
 use Rattle.program_words.specs.Relay.{IsBadStream, IsRelayComplete, IsRelayLineOf, IsRelayed, IsRelayedInPart, IsUnmergeable, IsWithinLimit}
 use Rattle.program_words.specs.Serving.{IsScriptServed, IsScriptServedInPart, IsServeComplete, IsServeLineOf}
 use Rattle.script_player.specs.declared.report.Report.{Report}

@@ -17,7 +17,6 @@ use crate::ServeScriptFault;
 use crate::command::{Command, read_command};
 use crate::driving::drive;
 use crate::reading::read_all;
-use crate::receiving::{StreamFault, receive};
 use crate::relaying::relay;
 use crate::say::{
     say_fault, say_merged, say_received, say_relay_fault, say_report, say_stream_fault, say_usage,
@@ -28,6 +27,7 @@ use crate::statuses::Status;
 use drive_script::DriveFault;
 use dsd_addresses::RemoteAddr;
 use dsd_exporter::Link;
+use dsd_receiver::{StreamFault, receive};
 use hash_starts::HashStart;
 use metrics_core::{Sink, Source};
 use net_addresses::Network;

@@ -10,9 +10,9 @@ ghost use Rattle.program_words.specs.Answers.{IsSaidText, report_text, usage_tex
 ghost use Rattle.program_words.specs.Receive.{received_text, stream_fault_text};
 ghost use Rattle.program_words.specs.Relay.{merged_text, relay_fault_text};
 
-use crate::receiving::{Received, StreamFault};
 use drive_script::{DriveFault, SettingFault};
 use dsd_addresses::LimitFault;
+use dsd_receiver::{Received, StreamFault};
 use itoa::Buffer;
 use metrics_core::{Sink, write_whole};
 use page_relay::RelayFault;

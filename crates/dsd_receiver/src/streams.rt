@@ -1,14 +1,14 @@
-//! Receiving: a stream of payloads becomes a page.
+//! Streams: payloads one after another, each led by its length, become a page.
 
 ghost use Rattle.std.specs.Prelude.{◌≡◌, IfErr, IfOk, OnErr, OnOk};
 ghost use Rattle.metrics_core.specs.Outside.{Rose, GrewBy, GrewByPrefix};
 ghost use Rattle.prom_format.specs.Pages.{page_text};
 ghost use Rattle.prom_exporter.specs.Exporter.{AllHome, AreTimely, default_settings, page_families, state_of};
 ghost use Rattle.prom_exporter.specs.State.{empty_state};
-ghost use Rattle.program_words.specs.Receive.{AreCounted, HasStreamCause, IsIntakeFault, IsReceived, IsTakenIn, IsWritingFault, LeavesStream};
+ghost use Rattle.dsd_receiver.specs.Streams.{AreCounted, HasStreamCause, IsIntakeFault, IsReceived, IsTakenIn, IsWritingFault, LeavesStream};
 
+use crate::receiver::{Applied, Receiver};
 use dsd_lines::Frames;
-use dsd_receiver::{Applied, Receiver};
 use hash_starts::HashStart;
 use metrics_core::{Memory, Sink, write_whole};
 use prom_exporter::{BuildError, PrometheusBuilder, PrometheusState};

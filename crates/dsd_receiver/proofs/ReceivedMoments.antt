@@ -1,5 +1,5 @@
 -- An exporter that received lines at moment 0 alone has its samples there, so its page shows them.
-use Rattle.std.proofs.Common.{◌≡◌, ℕ, ◌+◌, ◌≤◌, Bool, true, false, List, [], ◌∷◌, ◌++◌, map, fold, append-nil, refl, sym, subst, arith, Option, Some, None}
+use Rattle.std.proofs.Common.{◌≡◌, ℕ, ◌+◌, ◌≤◌, Bool, true, false, List, [], ◌∷◌, ◌++◌, map, fold, append-nil, refl, ap, sym, subst, arith, Option, Some, None}
 use Rattle.std.specs.Prelude.{All, ◌==◌, if◌then◌else◌, is_some}
 use Rattle.std.proofs.lemmas.List.Concat.{flat_map-append}
 use Rattle.std.proofs.lemmas.List.Elements.{All-append, All-cons, All-head, All-nil, All-replicate, All-tail, All-weaker}
@@ -7,12 +7,17 @@ use Rattle.metrics_core.specs.Calls.{Call}
 use Rattle.metrics_core.specs.Keys.{KeyText}
 use Rattle.metrics_core.specs.declared.kinds.MetricKind.{MetricKind}
 use Rattle.metrics_core.specs.declared.kinds.MetricKind.TheVariants as kinds
+use Rattle.metrics_registry.specs.Live.{LiveSeries}
+use Rattle.histogram_series.specs.Entries.{TimedEntry, records_of, samples_of_entries, samples_of_entry}
+use Rattle.histogram_series.specs.Series.{entries}
 use Rattle.rolling_summaries.specs.Standing.{NeverFall, NoneAfter}
 use Rattle.rolling_summaries.specs.Window.{Sample, timed_samples, timed_samples_of}
+use Rattle.prom_exporter.specs.Exporter.{AreTimely, Exporter, state_of}
+use Rattle.prom_exporter.specs.Sampled.{IsTimely, Sampled, calls_known}
+use Rattle.prom_exporter.specs.Values.{sampled_series, series_of}
 use Rattle.prom_exporter.specs.State.{PrometheusState, Series, call_on, empty_state, live, live_series, no_series, number_given, register, with_call, with_live}
 use Rattle.dsd_lines.specs.Grammar.{Counter, Distribution, Gauge, Histogram, LineText, PointsText}
 use Rattle.dsd_receiver.specs.Received.{after_calls, after_line, after_reading, after_readings, calls_of_points, calls_said, kind_said, rate_said, registered, scaled, times_at}
-use Rattle.script_player.specs.Timely.{AreTimelyCalls, IsTimelyState}
 
 -- ---- samples at the first moment
 
@@ -38,9 +43,24 @@ never_fall (s ∷ samples) same =
 none_after : (samples : List Sample) → AreAtStart samples → NoneAfter 0 samples
 none_after samples same = All-weaker AtStart (λ (s : Sample). s.moment ≤ 0) (λ s is. omega (arith, is)) samples same
 
-pub start_timely : (s : PrometheusState) → StateAtStart s → IsTimelyState 0 s
-start_timely s at =
-    All-weaker CallsAtStart (λ (x : Series). AreTimelyCalls 0 x.calls) (λ x h. (never_fall (timed_samples x.calls) h, none_after (timed_samples x.calls) h)) s.histograms at
+-- entries stand for the samples of the calls that they tell
+calls_tell : (es : List TimedEntry) → timed_samples (records_of es) ≡ samples_of_entries es
+calls_tell [] = refl
+calls_tell (e ∷ es) = ap (λ samples. samples_of_entry e ++ samples) (calls_tell es)
+
+cell_timely : (cell : Sampled) → AreAtStart (timed_samples (calls_known cell)) → IsTimely 0 cell
+cell_timely cell at =
+    let known : AreAtStart (samples_of_entries (entries cell.series)) = subst AreAtStart (calls_tell (entries cell.series)) at in
+    (never_fall _ known, none_after _ known)
+
+abbrev known_series : LiveSeries Sampled → Series
+known_series s = series_of (sampled_series calls_known s)
+
+each_timely : (hs : List (LiveSeries Sampled)) → All CallsAtStart (map series_of (map (sampled_series calls_known) hs)) → All (λ (s : LiveSeries Sampled). IsTimely 0 s.cell) hs
+each_timely [] at = All-nil _
+each_timely (h ∷ hs) at =
+    All-cons (λ (s : LiveSeries Sampled). IsTimely 0 s.cell) h hs (cell_timely h.cell (All-head CallsAtStart (known_series h) _ at))
+    (each_timely hs (All-tail CallsAtStart (known_series h) _ at))
 
 -- ---- the calls of a line
 
@@ -119,5 +139,5 @@ readings_at : (readings : List (Option LineText)) (s : PrometheusState) → Stat
 readings_at [] s at = at
 readings_at (reading ∷ readings) s at = readings_at readings (after_reading 0 s reading) (reading_at s reading at)
 
-pub received_timely : (readings : List (Option LineText)) → IsTimelyState 0 (after_readings 0 readings empty_state)
-received_timely readings = start_timely _ (readings_at readings empty_state (All-nil _))
+pub received_timely : (e : Exporter) (readings : List (Option LineText)) → state_of e ≡ after_readings 0 readings empty_state → AreTimely 0 e
+received_timely e readings is = each_timely e.series.histograms (subst StateAtStart (sym is) (readings_at readings empty_state (All-nil _)))

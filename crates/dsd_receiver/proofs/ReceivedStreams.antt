@@ -14,8 +14,8 @@ use Rattle.dsd_lines.proofs.Streams.{all_taken, frames_told, too_short}
 use Rattle.dsd_receiver.specs.Received.{AreRead, IsRead, after_reading, after_readings, count_bad, count_lines}
 use Rattle.dsd_receiver.specs.Receiving.{IsApplied}
 use Rattle.dsd_receiver.specs.declared.receiver.Applied.{Applied}
-use Rattle.program_words.specs.Receive.{AreCounted, AreNoFrames, IsCutAfter, IsTakenIn, lines_of}
-use Rattle.program_words.specs.declared.receiving.Received.{Received}
+use Rattle.dsd_receiver.specs.Streams.{AreCounted, AreNoFrames, IsCutAfter, IsTakenIn, lines_of}
+use Rattle.dsd_receiver.specs.declared.streams.Received.{Received}
 
 -- the payloads that stand before the rest of a stream were received
 pub record IsTakenSoFar (bytes rest : List ℕ) (received : Received) (state : PrometheusState) : Type 0 where

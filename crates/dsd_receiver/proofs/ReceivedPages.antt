@@ -1,0 +1,31 @@
+-- The page of what was received.
+use Rattle.std.proofs.Common.{◌≡◌, ℕ, List}
+use Rattle.std.specs.Prelude.{Option}
+use Rattle.metrics_core.specs.Outside.{GrewBy, GrewByPrefix}
+use Rattle.prom_format.specs.Pages.{page_text}
+use Rattle.prom_exporter.specs.State.{PrometheusState, page_step}
+use Rattle.prom_exporter.specs.Families.{window_of}
+use Rattle.prom_exporter.specs.Exporter.{default_settings, families_shown}
+use Rattle.prom_exporter.proofs.Printable.{page_reads}
+use Rattle.dsd_receiver.specs.Streams.{IsReceived, IsReceivedInPart, IsReceivedPage, IsTakenIn}
+use Rattle.dsd_receiver.specs.declared.streams.Received.{Received}
+
+pub received_page : (bytes : List ℕ) (received : Received) (state : PrometheusState) → IsTakenIn bytes received state
+    → IsReceivedPage bytes (page_text (families_shown default_settings 0 state))
+received_page bytes received state taken = record {
+  frames = taken.counted.frames;
+  state = state;
+  whole = taken.counted.whole;
+  receives = (taken.counted.readings, taken.counted.are_read, taken.state_is);
+  page = page_reads default_settings (window_of default_settings 0) (page_step default_settings.idle 0 state);
+}
+
+pub received_whole : (bytes : List ℕ) (received : Received) (state : PrometheusState) (written written' : Option (List ℕ)) → IsTakenIn bytes received state
+    → GrewBy written written' (page_text (families_shown default_settings 0 state)) → IsReceived bytes written written'
+received_whole bytes received state written written' taken grew =
+    record { text = page_text (families_shown default_settings 0 state); page = received_page bytes received state taken; grew = grew }
+
+pub received_prefix : (bytes : List ℕ) (received : Received) (state : PrometheusState) (written written' : Option (List ℕ)) → IsTakenIn bytes received state
+    → GrewByPrefix written written' (page_text (families_shown default_settings 0 state)) → IsReceivedInPart bytes written written'
+received_prefix bytes received state written written' taken grew =
+    record { text = page_text (families_shown default_settings 0 state); page = received_page bytes received state taken; grew = grew }
