@@ -76,7 +76,7 @@ impl Frames {
     pub fn is_empty(&self) -> bool
         ensures { IsTrue result ↔ (self.now ≡ []) }
     {
-        self.begin == self.bytes.len()
+        self.bytes.as_slice()[self.begin..].is_empty()
     }
 
     /// Gives the room of what was taken to what comes, once that is half of all bytes or more: so each byte is moved once at most
