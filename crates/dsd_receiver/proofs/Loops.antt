@@ -55,8 +55,7 @@ pub recorded_more : (before now after : TimedPass) (calls : List Call) (value : 
     → histograms.Records timed now (Record value.0 moment times) after → MakesRecords before (calls ++ Record value.0 moment times ∷ []) after
 recorded_more before now after calls value moment zero some makes records = absurd (omega (arith, some))
 recorded_more before now after calls value moment (suc more) some (entries, are, mine) (log, x, y, sees, runs, step, left) =
-    let new : TimedEntry = entry_of (timed value.0 moment) (suc more) in
-    (
+    let new : TimedEntry = entry_of (timed value.0 moment) (suc more) in (
       entries ++ new ∷ [],
       map-append record_of entries (new ∷ []) ∙ ap (λ cs. cs ++ Record value.0 moment (suc more) ∷ []) are,
       ap (λ v. v.mine) left ∙ ap (λ cs. cs ++ Push new ∷ []) mine ∙ append_assoc (samples.view_of before).mine (map Push entries) (Push new ∷ [])

@@ -1,12 +1,13 @@
 -- The page of what was received.
-use Rattle.std.proofs.Common.{◌≡◌, ℕ, List}
+use Rattle.std.proofs.Common.{◌≡◌, ℕ, List, subst}
 use Rattle.std.specs.Prelude.{Option}
 use Rattle.metrics_core.specs.Outside.{GrewBy, GrewByPrefix}
 use Rattle.prom_format.specs.Pages.{page_text}
 use Rattle.prom_exporter.specs.State.{PrometheusState, page_step}
 use Rattle.prom_exporter.specs.Families.{window_of}
-use Rattle.prom_exporter.specs.Exporter.{default_settings, families_shown}
+use Rattle.prom_exporter.specs.Exporter.{AreTimely, Exporter, default_settings, families_shown, page_body, written_page}
 use Rattle.prom_exporter.proofs.Printable.{page_reads}
+use Rattle.prom_exporter.proofs.TimelyPages.{timely_page}
 use Rattle.dsd_receiver.specs.Streams.{IsReceived, IsReceivedInPart, IsReceivedPage, IsTakenIn}
 use Rattle.dsd_receiver.specs.declared.streams.Received.{Received}
 
@@ -29,3 +30,11 @@ pub received_prefix : (bytes : List ℕ) (received : Received) (state : Promethe
     → GrewByPrefix written written' (page_text (families_shown default_settings 0 state)) → IsReceivedInPart bytes written written'
 received_prefix bytes received state written written' taken grew =
     record { text = page_text (families_shown default_settings 0 state); page = received_page bytes received state taken; grew = grew }
+
+-- what was written of a timely exporter is its page
+module _ (moment : ℕ) (e : Exporter) (before after : Option (List ℕ)) (timely : AreTimely moment e) where
+  pub grew_page : GrewBy before after (written_page moment e) → GrewBy before after (page_body moment e)
+  grew_page = subst (GrewBy before after) (timely_page moment e timely)
+
+  pub grew_page_prefix : GrewByPrefix before after (written_page moment e) → GrewByPrefix before after (page_body moment e)
+  grew_page_prefix = subst (GrewByPrefix before after) (timely_page moment e timely)

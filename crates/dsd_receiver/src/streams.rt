@@ -1,10 +1,11 @@
 //! Streams: payloads one after another, each led by its length, become a page.
 
-ghost use Rattle.std.specs.Prelude.{◌≡◌, IfErr, IfOk, OnErr, OnOk};
+ghost use Rattle.std.specs.Prelude.{◌≡◌, ◌≢◌, [], IfErr, IfOk, OnErr, OnOk};
 ghost use Rattle.metrics_core.specs.Outside.{Rose, GrewBy, GrewByPrefix};
 ghost use Rattle.prom_format.specs.Pages.{page_text};
 ghost use Rattle.prom_exporter.specs.Exporter.{AllHome, AreTimely, default_settings, page_families, state_of};
 ghost use Rattle.prom_exporter.specs.State.{empty_state};
+ghost use Rattle.dsd_receiver.specs.declared.streams.StreamFault.TheVariants.{Cut};
 ghost use Rattle.dsd_receiver.specs.Streams.{AreCounted, HasStreamCause, IsIntakeFault, IsReceived, IsTakenIn, IsWritingFault, LeavesStream};
 
 use crate::receiver::{Applied, Receiver};
@@ -136,7 +137,10 @@ fn receive_stream<R: Wait>(
 }
 
 /// What was received, unless something is left of the stream.
-fn whole(received: Received, rest: &Frames) -> Result<Received, StreamFault> {
+fn whole(received: Received, rest: &Frames) -> Result<Received, StreamFault>
+    ensures whole { IfOk result (λ all. (all ≡ received) × (rest.now ≡ [])) }
+    ensures cut { IfErr result (λ fault. (fault ≡ Cut received.frames) × (rest.now ≢ [])) }
+{
     if rest.is_empty() {
         return Ok(received);
     }
@@ -146,8 +150,17 @@ fn whole(received: Received, rest: &Frames) -> Result<Received, StreamFault> {
 }
 
 impl Received {
+    ghost use Rattle.std.specs.Prelude.{◌≡◌, ◌+◌, ◌<◌, ◌^◌};
+
     /// The same with a payload more.
-    fn and(self, applied: Applied) -> Received {
+    fn and(self, applied: Applied) -> Received
+        requires frames { self.frames + 1 < 2 ^ 64 }
+        requires lines { self.lines + applied.lines < 2 ^ 64 }
+        requires bad { self.bad + applied.bad < 2 ^ 64 }
+        ensures frames { result.frames ≡ self.frames + 1 }
+        ensures lines { result.lines ≡ self.lines + applied.lines }
+        ensures bad { result.bad ≡ self.bad + applied.bad }
+    {
         Received {
             frames: self.frames + 1,
             lines: self.lines + applied.lines,
