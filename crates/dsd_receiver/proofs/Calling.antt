@@ -24,20 +24,20 @@ more_none number s = elim (s.number == number) as (λ b. cond b (record s { call
   | false ↦ refl
 ]
 
+abbrev with_one : Call → Series → Series
+with_one call s = record s { calls = s.calls ++ call ∷ [] }
+
 more_next : (number : ℕ) (call : Call) (calls : List Call) (s : Series) → with_more number calls (with_call number call s) ≡ with_more number (call ∷ calls) s
 more_next number call calls s = by (s.number == number) refl
   where
-    abbrev one : Series
-    one = record s { calls = s.calls ++ call ∷ [] }
-
     by : (b : Bool) → (s.number == number) ≡ b → with_more number calls (with_call number call s) ≡ with_more number (call ∷ calls) s
     by true is =
-        ap (with_more number calls) (ap (λ b. cond b one s) is)
-        ∙ ap (λ b. cond b (record one { calls = one.calls ++ calls }) one) is
+        ap (with_more number calls) (ap (λ b. cond b (with_one call s) s) is)
+        ∙ ap (λ b. cond b (record s { calls = (s.calls ++ call ∷ []) ++ calls }) (with_one call s)) is
         ∙ ap (λ l. record s { calls = l }) (append_assoc s.calls (call ∷ []) calls)
         ∙ sym (ap (λ b. cond b (record s { calls = s.calls ++ call ∷ calls }) s) is)
     by false is =
-        ap (with_more number calls) (ap (λ b. cond b one s) is)
+        ap (with_more number calls) (ap (λ b. cond b (with_one call s) s) is)
         ∙ ap (λ b. cond b (record s { calls = s.calls ++ calls }) s) is
         ∙ sym (ap (λ b. cond b (record s { calls = s.calls ++ call ∷ calls }) s) is)
 

@@ -37,22 +37,16 @@ use Rattle.dsd_receiver.proofs.Growth.{given_back, sampled_grew, sampled_home, v
 module _ {X : Type 0} (id : SeriesId) where
   pub cell_put : (es : List (LiveSeries X)) (before after : X) → cell_of id es ≡ Some before → cell_of id (with_cell id es after) ≡ Some after
   cell_put [] before after found = absurd cc
-  cell_put (e ∷ es) before after found = by (has_id id e) refl
+  cell_put (e ∷ es) before after found = by (has_id id e) refl (λ later. cell_put es before after later)
     where
-      abbrev first : LiveSeries X
-      first = record e { cell = after }
-
-      abbrev rest : List (LiveSeries X)
-      rest = with_cell id es after
-
-      by : (b : Bool) → has_id id e ≡ b → cell_of id (with_cell id (e ∷ es) after) ≡ Some after
-      by true has =
-          ap (λ (s : LiveSeries X). option_map (λ (s : LiveSeries X). s.cell) (cond (has_id id s) (Some s) (find (has_id id) rest))) (ap (λ b. cond b first e) has)
-          ∙ ap (λ b. option_map (λ (s : LiveSeries X). s.cell) (cond b (Some first) (find (has_id id) rest))) has
-      by false has =
-          ap (λ (s : LiveSeries X). option_map (λ (s : LiveSeries X). s.cell) (cond (has_id id s) (Some s) (find (has_id id) rest))) (ap (λ b. cond b first e) has)
-          ∙ ap (λ b. option_map (λ (s : LiveSeries X). s.cell) (cond b (Some e) (find (has_id id) rest))) has
-          ∙ cell_put es before after (sym (ap (λ b. option_map (λ (s : LiveSeries X). s.cell) (cond b (Some e) (find (has_id id) es))) has) ∙ found)
+      by : (b : Bool) → has_id id e ≡ b → (cell_of id es ≡ Some before → cell_of id (with_cell id es after) ≡ Some after) → cell_of id (with_cell id (e ∷ es) after) ≡ Some after
+      by true has rest =
+          ap (λ (s : LiveSeries X). option_map (λ (s : LiveSeries X). s.cell) (cond (has_id id s) (Some s) (find (has_id id) (with_cell id es after)))) (ap (λ b. cond b (record e { cell = after }) e) has)
+          ∙ ap (λ b. option_map (λ (s : LiveSeries X). s.cell) (cond b (Some (record e { cell = after })) (find (has_id id) (with_cell id es after)))) has
+      by false has rest =
+          ap (λ (s : LiveSeries X). option_map (λ (s : LiveSeries X). s.cell) (cond (has_id id s) (Some s) (find (has_id id) (with_cell id es after)))) (ap (λ b. cond b (record e { cell = after }) e) has)
+          ∙ ap (λ b. option_map (λ (s : LiveSeries X). s.cell) (cond b (Some e) (find (has_id id) (with_cell id es after)))) has
+          ∙ rest (sym (ap (λ b. option_map (λ (s : LiveSeries X). s.cell) (cond b (Some e) (find (has_id id) es))) has) ∙ found)
 
   set_twice : (e : LiveSeries X) (one two : X) → set_cell id two (set_cell id one e) ≡ set_cell id two e
   set_twice e one two = by (has_id id e) refl
@@ -130,7 +124,7 @@ module _ (old : Exporter) (id : SeriesId) (numbered : IsNumbered old.series) whe
           ∙ ap (λ l. record old { series = record old.series { counters = l } }) (put_twice id old.series.counters lends.1 counter_left)
 
       counter_was_home : IsHome counter
-      counter_was_home = let at = found_at id old.series.counters counter lends.2 in subst (λ (s : SharedCounter). IsHome s) at.4 (at_all _ old.series.counters at.0 at.1 at.2 home.0)
+      counter_was_home = let at = found_at id old.series.counters counter lends.2 in subst (λ (s : SharedCounter). IsHome s) at.4 (at_all (λ (s : LiveSeries SharedCounter). IsHome s.cell) old.series.counters at.0 at.1 at.2 home.0)
 
       counter_knew : Settled counter.root
       counter_knew = settled.counter counter lends.2
@@ -215,7 +209,7 @@ module _ (old : Exporter) (id : SeriesId) (numbered : IsNumbered old.series) whe
           ∙ ap (λ l. record old { series = record old.series { gauges = l } }) (put_twice id old.series.gauges lends.1 gauge_left)
 
       gauge_was_home : IsHome gauge
-      gauge_was_home = let at = found_at id old.series.gauges gauge lends.2 in subst (λ (s : SharedGauge). IsHome s) at.4 (at_all _ old.series.gauges at.0 at.1 at.2 home.1)
+      gauge_was_home = let at = found_at id old.series.gauges gauge lends.2 in subst (λ (s : SharedGauge). IsHome s) at.4 (at_all (λ (s : LiveSeries SharedGauge). IsHome s.cell) old.series.gauges at.0 at.1 at.2 home.1)
 
       gauge_knew : Settled gauge.root
       gauge_knew = settled.gauge gauge lends.2
@@ -263,7 +257,7 @@ module _ (old : Exporter) (id : SeriesId) (numbered : IsNumbered old.series) whe
     histogram_out : cell_of id out.series.histograms ≡ Some lends.1
     histogram_out = ap (λ (e : Exporter). cell_of id e.series.histograms) lends.4 ∙ cell_put id old.series.histograms histogram lends.1 lends.2
 
-    histogram_id : lent.id ≡ id
+    pub histogram_id : lent.id ≡ id
     histogram_id = lends.3.0.id_is
 
     histogram_out_own : cell_of lent.id out.series.histograms ≡ Some lends.1
@@ -303,7 +297,7 @@ module _ (old : Exporter) (id : SeriesId) (numbered : IsNumbered old.series) whe
         are_histograms = subst (λ k. AreOf k old.series.made old.series.histograms) (sym kind) numbered.histograms.1
 
         histogram_was_home : IsAtRest histogram
-        histogram_was_home = let at = found_at id old.series.histograms histogram lends.2 in subst (λ (s : Sampled). IsAtRest s) at.4 (at_all _ old.series.histograms at.0 at.1 at.2 home.2)
+        histogram_was_home = let at = found_at id old.series.histograms histogram lends.2 in subst (λ (s : Sampled). IsAtRest s) at.4 (at_all (λ (s : LiveSeries Sampled). IsAtRest s.cell) old.series.histograms at.0 at.1 at.2 home.2)
 
         pub histogram_home : AllHome new
         histogram_home =

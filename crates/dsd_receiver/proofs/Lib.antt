@@ -4,8 +4,10 @@ pub mod Growth
 pub mod Calling
 pub mod Changing
 pub mod Loops
-pub mod Lines
-pub mod Payloads
+pub mod Said
+pub mod SoFar
+pub mod Twice
+pub mod Runs
 pub mod ReceivedPages
 pub mod ReceivedMoments
 pub mod ReceivedStreams

@@ -1,11 +1,17 @@
 -- Calls that a pass makes one after another.
-use Rattle.std.proofs.Common.{◌≡◌, ℕ, zero, suc, ◌<◌, List, [], ◌∷◌, ◌++◌, map, Option, Some, refl, sym, ap, subst, ◌∙◌, append_assoc, append-nil, arith}
-use Rattle.std.proofs.lemmas.List.{map-append}
-use Rattle.metrics_core.specs.Calls.{Call, Record}
+use Rattle.std.proofs.Common.{◌≡◌, ℕ, zero, suc, ◌+◌, ◌<◌, take, length, get_or, true, false, List, [], ◌∷◌, ◌++◌, map, Option, Some, refl, sym, ap, subst, ◌∙◌, append_assoc, append-nil, arith}
+use Rattle.std.specs.Prelude.{Result, Ok, Err, is_err}
+use Rattle.std.proofs.lemmas.Bool.{true≢false}
+use Rattle.std.proofs.lemmas.List.{map-append, map_more, take-map}
+use Rattle.metrics_core.specs.Calls.{Call, Increment, Set, Record}
+use Rattle.dsd_lines.specs.Texts.{numbers_of}
+use Rattle.dsd_receiver.specs.Received.{increments, records, scaled, sets}
 use Rattle.metrics_core.specs.Series.{call_of}
 use Rattle.metrics_core.specs.declared.calls.SeriesCall.{SeriesCall}
 use Rattle.metrics_core.specs.declared.numbers.Fixed.{Fixed}
-use Rattle.metrics_facade.specs.Handles.{Stands}
+use Rattle.metrics_facade.specs.Handles.{Recorded, Refused, Stands}
+use Rattle.metrics_facade.specs.declared.faults.RecordFault.{RecordFault}
+use Rattle.metrics_facade.specs.declared.faults.RecordFault.TheVariants as faults
 use Rattle.series_cells.specs.declared.counter.PromCounter.{PromCounter}
 use Rattle.series_cells.specs.declared.gauge.PromGauge.{PromGauge}
 use Rattle.series_cells.specs.declared.pass.CellPass.{CellPass}
@@ -19,6 +25,25 @@ use Rattle.sample_queue.specs.declared.calls.QueueCall.TheVariants.{Push}
 use Rattle.histogram_series.specs.Entries.{TimedEntry, TimedQueue, record_of, records_of}
 use Rattle.prom_exporter.specs.Lending.{TimedPass}
 use Rattle.dsd_receiver.specs.Passes.{IsCounterHeld, IsGaugeHeld, IsHistogramHeld, MakesCalls, MakesRecords}
+
+-- ---- one more value
+
+pub increments_more : (rate : ℕ) (xs : List ℕ) (i d n : ℕ) → i < length xs → n ≡ scaled rate (get_or xs i d) → increments rate (take i xs) ++ Increment n ∷ [] ≡ increments rate (take (i + 1) xs)
+increments_more rate xs i d n within is = (λ j. increments rate (take i xs) ++ Increment (is j) ∷ []) ∙ sym (map_more _ xs i d within)
+
+numbers_more : (xs : List Fixed) (i : ℕ) (d : Fixed) → i < length xs → numbers_of (take (i + 1) xs) ≡ numbers_of (take i xs) ++ (get_or xs i d).0 ∷ []
+numbers_more xs i d within = map_more _ xs i d within
+
+pub sets_more : (xs : List Fixed) (i : ℕ) (d : Fixed) → i < length xs → sets (numbers_of (take i xs)) ++ Set (get_or xs i d).0 ∷ [] ≡ sets (numbers_of (take (i + 1) xs))
+sets_more xs i d within = sym (ap sets (numbers_more xs i d within) ∙ map-append Set (numbers_of (take i xs)) ((get_or xs i d).0 ∷ []))
+
+pub records_more : (moment times : ℕ) (xs : List Fixed) (i : ℕ) (d : Fixed) → i < length xs
+    → records moment times (numbers_of (take i xs)) ++ Record (get_or xs i d).0 moment times ∷ [] ≡ records moment times (numbers_of (take (i + 1) xs))
+records_more moment times xs i d within = sym (ap (records moment times) (numbers_more xs i d within) ∙ map-append (λ value. Record value moment times) (numbers_of (take i xs)) ((get_or xs i d).0 ∷ []))
+
+-- the records of the first values
+pub first_records : (moment times n : ℕ) (xs : List Fixed) → records moment times (numbers_of (take n xs)) ≡ take n (records moment times (numbers_of xs))
+first_records moment times n xs = ap (records moment times) (sym (take-map _ n xs)) ∙ sym (take-map (λ value. Record value moment times) n (numbers_of xs))
 
 -- ---- counters and gauges
 
@@ -50,12 +75,25 @@ gauge_stands handle before after call (cell, is, pass) stands =
 pub recorded_none : (pass : TimedPass) → MakesRecords pass [] pass
 recorded_none pass = ([], refl, sym (append-nil (samples.view_of pass).mine))
 
+-- after a record by the handle the pass is one of its queue; the record was made, or the pass tells what it told before
+pub record_stands : (handle : Option TimedQueue) (before after : TimedPass) (call : Call) (answer : Result (Unit {0}) RecordFault) → IsHistogramHeld handle before
+    → Recorded samples.IsSamplePass (λ _. histograms.Records timed) (λ _. histograms.Stays) handle before after call answer
+    → IsHistogramHeld handle after × (is_err answer ≡ false → histograms.Records timed before call after) × (is_err answer ≡ true → histograms.Stays before after)
+record_stands handle before after call (Ok _) (queue, is, pass) stands =
+    let own = subst (λ h. Stands samples.IsSamplePass (λ _. histograms.Records timed) h before call after) is stands in
+    ((queue, is, own.0), (λ _. own.1), (λ e. absurd (true≢false (sym e))))
+record_stands handle before after call (Err faults.Memory) (queue, is, pass) refused =
+    let own = subst (λ h. Refused samples.IsSamplePass (λ _. histograms.Stays) h before after) is refused in
+    ((queue, is, own.0), (λ e. absurd (true≢false e)), (λ _. own.1))
+record_stands handle before after call (Err faults.OutOfRange) held never = absurd never
+
 -- a record of a sample or more is one push
 pub recorded_more : (before now after : TimedPass) (calls : List Call) (value : Fixed) (moment times : ℕ) → 0 < times → MakesRecords before calls now
     → histograms.Records timed now (Record value.0 moment times) after → MakesRecords before (calls ++ Record value.0 moment times ∷ []) after
 recorded_more before now after calls value moment zero some makes records = absurd (omega (arith, some))
 recorded_more before now after calls value moment (suc more) some (entries, are, mine) (log, x, y, sees, runs, step, left) =
-    let new : TimedEntry = entry_of (timed value.0 moment) (suc more) in (
+    let new : TimedEntry = entry_of (timed value.0 moment) (suc more) in
+    (
       entries ++ new ∷ [],
       map-append record_of entries (new ∷ []) ∙ ap (λ cs. cs ++ Record value.0 moment (suc more) ∷ []) are,
       ap (λ v. v.mine) left ∙ ap (λ cs. cs ++ Push new ∷ []) mine ∙ append_assoc (samples.view_of before).mine (map Push entries) (Push new ∷ [])

@@ -17,7 +17,7 @@ use Rattle.prom_exporter.specs.Sampled.{IsTimely, Sampled, calls_known}
 use Rattle.prom_exporter.specs.Values.{sampled_series, series_of}
 use Rattle.prom_exporter.specs.State.{PrometheusState, Series, call_on, empty_state, live, live_series, no_series, number_given, register, with_call, with_live}
 use Rattle.dsd_lines.specs.Grammar.{Counter, Distribution, Gauge, Histogram, LineText, PointsText}
-use Rattle.dsd_receiver.specs.Received.{after_calls, after_line, after_reading, after_readings, calls_of_points, calls_said, kind_said, rate_said, registered, scaled, times_at}
+use Rattle.dsd_receiver.specs.Received.{after_calls, after_line, after_reading, after_readings, calls_of_points, calls_said, kind_said, rate_said, scaled, times_at}
 
 -- ---- samples at the first moment
 
@@ -128,7 +128,7 @@ registered_at kind key s at = by (is_some (live_series kind key s)) (s.made == n
 
 line_at : (s : PrometheusState) (said : LineText) → StateAtStart s → StateAtStart (after_line 0 s said)
 line_at s said at =
-    all_called (kind_said said.points) (number_given (kind_said said.points) said.key s) (calls_said 0 said) (registered said s)
+    all_called (kind_said said.points) (number_given (kind_said said.points) said.key s) (calls_said 0 said) (register (kind_said said.points) said.key s)
     (points_at (rate_said said.rate) said.points) (registered_at (kind_said said.points) said.key s at)
 
 reading_at : (s : PrometheusState) (reading : Option LineText) → StateAtStart s → StateAtStart (after_reading 0 s reading)

@@ -1,5 +1,5 @@
 -- The page of what was received.
-use Rattle.std.proofs.Common.{◌≡◌, ℕ, List, subst}
+use Rattle.std.proofs.Common.{◌≡◌, ℕ, inr, List, subst}
 use Rattle.std.specs.Prelude.{Option}
 use Rattle.metrics_core.specs.Outside.{GrewBy, GrewByPrefix}
 use Rattle.prom_format.specs.Pages.{page_text}
@@ -8,7 +8,9 @@ use Rattle.prom_exporter.specs.Families.{window_of}
 use Rattle.prom_exporter.specs.Exporter.{AreTimely, Exporter, default_settings, families_shown, page_body, written_page}
 use Rattle.prom_exporter.proofs.Printable.{page_reads}
 use Rattle.prom_exporter.proofs.TimelyPages.{timely_page}
-use Rattle.dsd_receiver.specs.Streams.{IsReceived, IsReceivedInPart, IsReceivedPage, IsTakenIn}
+use Rattle.dsd_receiver.specs.Streams.{IsReceived, IsReceivedInPart, IsReceivedPage, IsTakenIn, IsWritingFault, LeavesStream}
+use Rattle.dsd_receiver.specs.declared.streams.StreamFault.{StreamFault}
+use Rattle.dsd_receiver.specs.declared.streams.StreamFault.TheVariants as stream
 use Rattle.dsd_receiver.specs.declared.streams.Received.{Received}
 
 pub received_page : (bytes : List ℕ) (received : Received) (state : PrometheusState) → IsTakenIn bytes received state
@@ -38,3 +40,10 @@ module _ (moment : ℕ) (e : Exporter) (before after : Option (List ℕ)) (timel
 
   pub grew_page_prefix : GrewByPrefix before after (written_page moment e) → GrewByPrefix before after (page_body moment e)
   grew_page_prefix = subst (GrewByPrefix before after) (timely_page moment e timely)
+
+-- what a refused writing leaves
+pub writing_leaves : (bytes : List ℕ) (written written' : Option (List ℕ)) (S : Type 0) (fault : StreamFault) → IsWritingFault S fault
+    → IsReceivedInPart bytes written written' → LeavesStream bytes written written' fault
+writing_leaves bytes written written' S (stream.Cut count) cause in_part = absurd cause
+writing_leaves bytes written written' S stream.WriteFault cause in_part = in_part
+writing_leaves bytes written written' S stream.Memory cause in_part = inr in_part

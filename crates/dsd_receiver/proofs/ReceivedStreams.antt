@@ -1,5 +1,5 @@
 -- A stream that is received payload by payload.
-use Rattle.std.proofs.Common.{◌≡◌, ◌≢◌, ℕ, ◌+◌, ◌≤◌, ◌<◌, List, [], ◌∷◌, ◌++◌, length, append-nil, refl, sym, ap, subst, ◌∙◌, arith, length-append}
+use Rattle.std.proofs.Common.{◌≡◌, ◌≢◌, ℕ, suc, ◌+◌, ◌≤◌, ◌<◌, List, [], ◌∷◌, ◌++◌, length, append-nil, refl, sym, ap, subst, ◌∙◌, arith, length-append}
 use Rattle.std.specs.Prelude.{Option, Some, None, true, flat_map, filter, fold, is_none, is_some, Bool}
 use Rattle.std.specs.List.{AllZip}
 use Rattle.std.proofs.lemmas.List.Concat.{flat_map-append}
@@ -52,7 +52,7 @@ read_both (line ∷ lines) others (reading ∷ readings) more read also = (read.
 counted_both : (p : Option LineText → Bool) (readings more : List (Option LineText)) → length (filter p (readings ++ more)) ≡ length (filter p readings) + length (filter p more)
 counted_both p readings more = ap length (filter-append p readings more) ∙ length-append (filter p readings) (filter p more)
 
-framed_length : (payload : List ℕ) → length (framed true payload) ≡ 4 + length payload
+framed_length : (payload : List ℕ) → length (framed true payload) ≡ suc (suc (suc (suc (length payload))))
 framed_length payload = refl
 
 -- one payload more

@@ -19,10 +19,10 @@ use Rattle.prom_exporter.specs.declared.lanes.SeriesCell.TheVariants as cells
 use Rattle.prom_exporter.specs.declared.lanes.SeriesEntry.{SeriesEntry}
 use Rattle.prom_exporter.specs.declared.lanes.SeriesEntry.TheVariants as entries
 use Rattle.prom_exporter.specs.Exporter.{Exporter, AllHome, SharedCounter, SharedGauge}
-use Rattle.prom_exporter.specs.Sampled.{Sampled}
+use Rattle.prom_exporter.specs.Sampled.{Sampled, IsAtRest}
+use Rattle.prom_exporter.specs.Shared.{IsHome}
 use Rattle.prom_exporter.specs.LanePasses.{IsIndex, counter_thing, frame_of, gauge_thing, histogram_thing, ids_of, things_of, unheard_series, unseen}
-use Rattle.prom_exporter.specs.LaneIndices.{CounterHas, GaugeHas, HaveOneIndex, HistogramHas}
-use Rattle.prom_exporter.proofs.LaneIndices.{have_indices, of_one_kind, one_index}
+use Rattle.prom_exporter.specs.LaneIndices.{CounterHas, GaugeHas, HaveIndices, HaveOneIndex, HistogramHas, IsOfOneKind, gauge_index, histogram_index}
 use Rattle.series_cells.specs.declared.counter.PromCounter.{PromCounter}
 use Rattle.series_cells.specs.declared.gauge.PromGauge.{PromGauge}
 use Rattle.histogram_series.specs.Entries.{TimedQueue}
@@ -129,69 +129,70 @@ module _ {X : Type 0} where
   pub found_at : (id : SeriesId) (es : List (LiveSeries X)) (cell : X) → cell_of id es ≡ Some cell
       → (place : ℕ) × (s : LiveSeries X) × (get_elem? es place ≡ some s) × (s.id ≡ id) × (s.cell ≡ cell)
   found_at id [] cell e = absurd cc
-  found_at id (x ∷ es) cell e = by (has_id id x) refl e
+  found_at id (x ∷ es) cell e = by (has_id id x) refl e (λ later. found_at id es cell later)
     where
       by : (b : Bool) → has_id id x ≡ b → option_map (λ (s : LiveSeries X). s.cell) (cond b (Some x) (find (has_id id) es)) ≡ Some cell
+          → (cell_of id es ≡ Some cell → (place : ℕ) × (s : LiveSeries X) × (get_elem? es place ≡ some s) × (s.id ≡ id) × (s.cell ≡ cell))
           → (place : ℕ) × (s : LiveSeries X) × (get_elem? (x ∷ es) place ≡ some s) × (s.id ≡ id) × (s.cell ≡ cell)
-      by true has f = (0, x, refl, id_eq-same x.id id has, same_Some x.cell cell f)
-      by false has f = let later = found_at id es cell f in (suc later.0, later.1, later.2, later.3, later.4)
+      by true has f rest = (0, x, refl, id_eq-same x.id id has, same_Some x.cell cell f)
+      by false has f rest = let later = rest f in (suc later.0, later.1, later.2, later.3, later.4)
 
-  at_all : (P : X → Type 0) (es : List X) (place : ℕ) (x : X) → get_elem? es place ≡ some x → All P es → P x
+  pub at_all : (P : X → Type 0) (es : List X) (place : ℕ) (x : X) → get_elem? es place ≡ some x → All P es → P x
   at_all P [] place x at all = absurd (some-ne-none x (sym at))
   at_all P (y ∷ es) zero x at all = subst P (some-injective y x at) (All-head P y es all)
   at_all P (y ∷ es) (suc place) x at all = at_all P es place x at (All-tail P y es all)
 
-module _ (e : Exporter) where
+module _ (e : Exporter) (have : HaveIndices e) where
   -- what has an index is there, and no pass of it is out
   pub index_within : (id : SeriesId) (index : ℕ) → IsIndex id e (Some index) → index < length (things_of e)
-  index_within id index at = let below = some_below (ids_of e) index id at in let many = (have_indices e).as_many in omega (arith, below, many)
+  index_within id index at = let below = some_below (ids_of e) index id at in let many = have.as_many in omega (arith, below, many)
 
-  pub home_at : AllHome e → (index : ℕ) (thing : AnyThing) → get_elem? (things_of e) index ≡ some thing → (thing.root.number ≡ 0) × (thing.root.out ≡ 0)
-  home_at home index thing at =
+  pub home_at : IsOfOneKind e → AllHome e → (index : ℕ) (thing : AnyThing) → get_elem? (things_of e) index ≡ some thing → (thing.root.number ≡ 0) × (thing.root.out ≡ 0)
+  home_at kinds home index thing at =
       let P : AnyThing → Type 0 = λ t. (t.root.number ≡ 0) × (t.root.out ≡ 0) in
       ⊎_elim
-      (λ (c : CounterHas e index thing). subst P c.2 (at_all _ e.series.counters index c.0 c.1 home.0))
+      (λ (c : CounterHas e index thing). subst P c.2 (at_all (λ (s : LiveSeries SharedCounter). IsHome s.cell) e.series.counters index c.0 c.1 home.0))
       (λ (others : GaugeHas e index thing ⊎ HistogramHas e index thing). ⊎_elim
-      (λ (g : GaugeHas e index thing). subst P g.2.2 (at_all _ e.series.gauges g.0 g.2.0 g.2.1 home.1))
-      (λ (h : HistogramHas e index thing). subst P h.2.2 (at_all _ e.series.histograms h.0 h.2.0 h.2.1 home.2))
-      others) (of_one_kind e index thing at)
+      (λ (g : GaugeHas e index thing). subst P g.2.2 (at_all (λ (s : LiveSeries SharedGauge). IsHome s.cell) e.series.gauges g.0 g.2.0 g.2.1 home.1))
+      (λ (h : HistogramHas e index thing). subst P h.2.2 (at_all (λ (s : LiveSeries Sampled). IsAtRest s.cell) e.series.histograms h.0 h.2.0 h.2.1 home.2))
+      others) (kinds index thing at)
 
-  module _ (numbered : IsNumbered e.series) (id : SeriesId) where
+  module _ (once : HaveOneIndex e) (id : SeriesId) where
     -- no index: no series of any kind has the id
     pub none_settled : IsIndex id e None → IsSettled id e
     none_settled none = record {
       counter = λ s found.
           (let at = found_at id e.series.counters s found in
-          absurd (none at.0 (subst (λ i. get_elem? (ids_of e) at.0 ≡ some i) at.3 ((have_indices e).counters at.0 at.1 at.2).1)));
+          absurd (none at.0 (subst (λ i. get_elem? (ids_of e) at.0 ≡ some i) at.3 (have.counters at.0 at.1 at.2).1)));
       gauge = λ s found.
           (let at = found_at id e.series.gauges s found in
-          absurd (none _ (subst (λ i. get_elem? (ids_of e) _ ≡ some i) at.3 ((have_indices e).gauges at.0 at.1 at.2).1)));
+          absurd (none (gauge_index e at.0) (subst (λ i. get_elem? (ids_of e) (gauge_index e at.0) ≡ some i) at.3 (have.gauges at.0 at.1 at.2).1)));
       histogram = λ s found.
           (let at = found_at id e.series.histograms s found in
-          absurd (none _ (subst (λ i. get_elem? (ids_of e) _ ≡ some i) at.3 ((have_indices e).histograms at.0 at.1 at.2).1)));
+          absurd (none (histogram_index e at.0) (subst (λ i. get_elem? (ids_of e) (histogram_index e at.0) ≡ some i) at.3 (have.histograms at.0 at.1 at.2).1)));
     }
 
     pub index_settled : (index : ℕ) → IsIndex id e (Some index) → SettledAt root_of (things_of e) index → IsSettled id e
     index_settled index at_index settled = record {
       counter = λ s found.
           (let at = found_at id e.series.counters s found in
-          let has = (have_indices e).counters at.0 at.1 at.2 in
+          let has = have.counters at.0 at.1 at.2 in
           let here = one at.0 at.1.id at.3 has.1 in
           subst (λ (x : SharedCounter). Settled x.root) at.4
           (settled-back entries.Value value_once at.1.cell.root (settled (counter_thing at.1) (subst (λ i. get_elem? (things_of e) i ≡ some (counter_thing at.1)) here has.0))));
       gauge = λ s found.
           (let at = found_at id e.series.gauges s found in
-          let has = (have_indices e).gauges at.0 at.1 at.2 in
-          let here = one _ at.1.id at.3 has.1 in
+          let has = have.gauges at.0 at.1 at.2 in
+          let here = one (gauge_index e at.0) at.1.id at.3 has.1 in
           subst (λ (x : SharedGauge). Settled x.root) at.4
           (settled-back entries.Value value_once at.1.cell.root (settled (gauge_thing at.1) (subst (λ i. get_elem? (things_of e) i ≡ some (gauge_thing at.1)) here has.0))));
       histogram = λ s found.
           (let at = found_at id e.series.histograms s found in
-          let has = (have_indices e).histograms at.0 at.1 at.2 in
-          let here = one _ at.1.id at.3 has.1 in
+          let has = have.histograms at.0 at.1 at.2 in
+          let here = one (histogram_index e at.0) at.1.id at.3 has.1 in
           subst (λ (x : Sampled). Settled x.series.root) at.4
           (settled-back entries.Queue queue_once at.1.cell.series.root (settled (histogram_thing at.1) (subst (λ i. get_elem? (things_of e) i ≡ some (histogram_thing at.1)) here has.0))));
     }
       where
         one : (i : ℕ) (own : SeriesId) → own ≡ id → get_elem? (ids_of e) i ≡ some own → i ≡ index
-        one i own is at = one_index e numbered i index id (subst (λ k. get_elem? (ids_of e) i ≡ some k) is at) at_index
+        one i own is at = once i index id (subst (λ k. get_elem? (ids_of e) i ≡ some k) is at) at_index

@@ -1,4 +1,5 @@
 pub mod Received
 pub mod Receiving
 pub mod Passes
+pub mod Delivered
 pub mod Streams

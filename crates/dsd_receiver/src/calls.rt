@@ -11,7 +11,9 @@ ghost use Rattle.dsd_receiver.specs.Passes.{IsCounterHeld, IsGaugeHeld, IsHistog
 use cell_lanes::Lenders;
 use metrics_core::{BILLIONTHS, Fixed, Memory, SeriesId};
 use metrics_facade as facade;
-use prom_exporter::{Lent, PrometheusState};
+use prom_exporter::{
+    Lent, PrometheusState, an_id_has_one_index, an_index_is_of_one_kind, series_have_their_indices,
+};
 use sample_queue::{PromHistogram, SamplePass};
 use series_cells::{CellPass, PromCounter, PromGauge};
 use std::alloc::Global;
@@ -123,6 +125,9 @@ fn settle<R: Wait>(state: &mut PrometheusState, rt: &R, id: SeriesId)
     ensures settled { IsSettled id state.old }
     ensures numbered { IsNumbered state.old.series }
 {
+    series_have_their_indices();
+    an_index_is_of_one_kind();
+    an_id_has_one_index();
     if let Some(index) = state.index_of(id) {
         Lenders::settle(state, rt, index);
     }

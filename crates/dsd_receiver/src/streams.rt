@@ -92,8 +92,10 @@ fn receive_page<R: Wait, K: Sink>(
             let mut state = receiver.into_state();
             let written = write_page(rt, alloc, &mut state, out);
             state.end(rt);
-            written?;
-            Ok(received)
+            match written {
+                Ok(()) => Ok(received),
+                Err(fault) => Err(fault),
+            }
         }
         Err(fault) => {
             receiver.into_state().end(rt);

@@ -1,11 +1,14 @@
-use Rattle.std.proofs.Common.{◌≡◌, ℕ}
+use Rattle.std.proofs.Common.{◌≡◌}
 use Rattle.std.specs.Prelude.{length}
-use Rattle.dsd_receiver.proofs.ReceivedStreams.{IsTakenSoFar}
 use Rattle.prom_exporter.specs.Exporter.{state_of}
-use Rattle.dsd_receiver.proofs.streams.receive_stream.Goals as goal
+use Rattle.dsd_receiver.proofs.ReceivedStreams.{IsTakenSoFar}
+use Rattle.dsd_receiver.proofs.streams.receive_stream.Given as goal
 
-abbrev pub invariant-loop-frames : goal.invariant-loop-frames
-invariant-loop-frames l = IsTakenSoFar l.bytes.now l.frames l.received (state_of l.receiver.now)
+abbrev pub invariant-loop-payload : goal.invariant-loop-payload
+invariant-loop-payload g l = record {
+  so_far : IsTakenSoFar l.bytes l.frames l.received (state_of l.receiver);
+  settings : l.receiver.settings ≡ l.initial.receiver.settings;
+}
 
-abbrev pub decreases-loop-frames : goal.decreases-loop-frames
-decreases-loop-frames l = length l.frames
+abbrev pub decreases-loop-payload : goal.decreases-loop-payload
+decreases-loop-payload g l = length l.frames
