@@ -1,6 +1,6 @@
 -- What is left of an exporter where a series of it was lent, was called, and was given back.
-use Rattle.std.proofs.Common.{◌≡◌, ◌⊎◌, ℕ, Bool, true, false, cond, List, [], ◌∷◌, ◌++◌, map, Option, Some, None, refl, sym, ap, subst, ◌∙◌, inl, inr, ⊎_elim}
-use Rattle.std.specs.Prelude.{All, find, option_map}
+use Rattle.std.proofs.Common.{◌≡◌, ◌⊎◌, Bool, true, false, cond, List, [], ◌∷◌, ◌++◌, map, Option, Some, None, refl, sym, ap, subst, ◌∙◌, ⊎_elim}
+use Rattle.std.specs.Prelude.{find, option_map}
 use Rattle.std.proofs.lemmas.Option.{same_Some}
 use Rattle.legal_history.specs.declared.history.View.{View}
 use Rattle.legal_history.specs.History.{Settled}
@@ -12,20 +12,18 @@ use Rattle.metrics_registry.specs.Live.{LiveSeries, AreOf, IsNumbered, cell_of, 
 use Rattle.series_cells.specs.declared.counter.PromCounter.{PromCounter}
 use Rattle.series_cells.specs.declared.gauge.PromGauge.{PromGauge}
 use Rattle.series_cells.specs.declared.pass.CellPass.{CellPass}
-use Rattle.series_cells.specs.Pass.{IsCounterPass, IsGaugePass, view_of}
-use Rattle.series_cells.specs.Values.{calls_of}
+use Rattle.series_cells.specs.Pass.{view_of}
 use Rattle.sample_queue.specs.Passes as samples
 use Rattle.sample_queue.specs.declared.calls.QueueCall.TheVariants.{Push}
-use Rattle.histogram_series.specs.Entries.{TimedCall, TimedEntry, TimedQueue, records_of}
+use Rattle.histogram_series.specs.Entries.{TimedCall, TimedQueue}
 use Rattle.histogram_series.specs.Series.{with_one_back}
 use Rattle.prom_exporter.specs.declared.lent.Lent.{Lent}
 use Rattle.prom_exporter.specs.Shared.{IsHome, TakesBack, with_lent}
-use Rattle.prom_exporter.specs.Sampled.{Sampled, IsAtRest, calls_known, with_pass_out}
+use Rattle.prom_exporter.specs.Sampled.{Sampled, IsAtRest, calls_known}
 use Rattle.prom_exporter.specs.Values.{SeenCell, seen_cell, series_of}
 use Rattle.prom_exporter.specs.Exporter.{Exporter, AllHome, SharedCounter, SharedGauge, ChangesCounter, ChangesGauge, ChangesHistogram, state_of}
-use Rattle.prom_exporter.specs.Lending.{HasNoCounter, HasNoGauge, HasNoHistogram, IsLentCounter, IsLentGauge, IsLentHistogram, LendsCounter, LendsGauge, LendsHistogram, LentCounter, LentGauge, LentHistogram, TimedPass}
+use Rattle.prom_exporter.specs.Lending.{HasNoCounter, HasNoGauge, HasNoHistogram, LendsCounter, LendsGauge, LendsHistogram, LentCounter, LentGauge, LentHistogram, TimedPass}
 use Rattle.prom_exporter.proofs.States.{all-with_cell}
-use Rattle.prom_exporter.proofs.Seen.{of_counters, of_gauges, of_histograms}
 use Rattle.dsd_receiver.specs.Received.{after_calls}
 use Rattle.dsd_receiver.specs.Passes.{IsCounterHeld, IsGaugeHeld, IsHistogramHeld, IsSettled, MakesCalls, MakesRecords}
 use Rattle.dsd_receiver.proofs.Calling.{after_more, called, called_none, shown, with_more}

@@ -1,20 +1,19 @@
 -- What a series has grown by where one pass was lent, made calls, and was given back.
-use Rattle.std.proofs.Common.{◌≡◌, ◌⊎◌, ℕ, zero, suc, ◌+◌, Bool, true, false, List, [], ◌∷◌, ◌++◌, length, map, Option, refl, sym, ap, ◌∙◌, append_assoc, append-nil, eq-eqb, ne_eqb, arith}
+use Rattle.std.proofs.Common.{◌≡◌, ℕ, zero, suc, List, [], ◌∷◌, ◌++◌, length, map, Option, refl, sym, ap, ◌∙◌, append_assoc, append-nil, eq-eqb, ne_eqb, arith}
 use Rattle.std.specs.Prelude.{◌==◌, drop}
 use mathlib.Core.List.{IsPrefix}
 use Rattle.std.proofs.lemmas.List.{map-append}
 use Rattle.legal_history.specs.declared.history.Entry.{Entry}
 use Rattle.legal_history.specs.declared.history.Held.{Held}
 use Rattle.legal_history.specs.declared.history.View.{View}
-use Rattle.legal_history.specs.History.{calls, child, held, lender, longer, looked, taker, Sees, Settled}
-use Rattle.legal_history.specs.Order.{flag, times, first_of, rest_of, rest_if, taken, without_first, IsOrder, GrewInOrder}
+use Rattle.legal_history.specs.History.{calls, held, lender, longer, taker, Settled}
+use Rattle.legal_history.specs.Order.{flag, first_of, rest_of, rest_if, taken, without_first, IsOrder, GrewInOrder}
 use Rattle.legal_history.specs.News.{calls_if, lane_calls}
 use Rattle.legal_history.proofs.Rounds.{grew}
 use Rattle.legal_history.proofs.Steps.{empty_list}
 use Rattle.metrics_core.specs.Series.{call_of}
 use Rattle.metrics_core.specs.declared.calls.SeriesCall.{SeriesCall}
 use Rattle.series_cells.specs.Values.{calls_of}
-use Rattle.sample_queue.specs.declared.calls.QueueCall.{QueueCall}
 use Rattle.sample_queue.specs.declared.calls.QueueCall.TheVariants.{Push, Pop}
 use Rattle.sample_queue.specs.Queues.{Calls, Entries, popped}
 use Rattle.histogram_series.specs.Entries.{TimedCall, TimedEntry, entries_known, held_after, queued, records_of}

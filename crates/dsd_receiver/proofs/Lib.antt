@@ -6,8 +6,6 @@ pub mod Changing
 pub mod Loops
 pub mod Said
 pub mod SoFar
-pub mod Twice
-pub mod Runs
 pub mod ReceivedPages
 pub mod ReceivedMoments
 pub mod ReceivedStreams

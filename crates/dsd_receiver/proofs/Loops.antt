@@ -1,5 +1,5 @@
 -- Calls that a pass makes one after another.
-use Rattle.std.proofs.Common.{◌≡◌, ℕ, zero, suc, ◌+◌, ◌<◌, take, length, get_or, true, false, List, [], ◌∷◌, ◌++◌, map, Option, Some, refl, sym, ap, subst, ◌∙◌, append_assoc, append-nil, arith}
+use Rattle.std.proofs.Common.{◌≡◌, ℕ, zero, suc, ◌+◌, ◌<◌, take, length, get_or, true, false, List, [], ◌∷◌, ◌++◌, map, Option, refl, sym, ap, subst, ◌∙◌, append_assoc, append-nil, arith}
 use Rattle.std.specs.Prelude.{Result, Ok, Err, is_err}
 use Rattle.std.proofs.lemmas.Bool.{true≢false}
 use Rattle.std.proofs.lemmas.List.{map-append, map_more, take-map}
@@ -7,7 +7,6 @@ use Rattle.metrics_core.specs.Calls.{Call, Increment, Set, Record}
 use Rattle.dsd_lines.specs.Texts.{numbers_of}
 use Rattle.dsd_receiver.specs.Received.{increments, records, scaled, sets}
 use Rattle.metrics_core.specs.Series.{call_of}
-use Rattle.metrics_core.specs.declared.calls.SeriesCall.{SeriesCall}
 use Rattle.metrics_core.specs.declared.numbers.Fixed.{Fixed}
 use Rattle.metrics_facade.specs.Handles.{Recorded, Refused, Stands}
 use Rattle.metrics_facade.specs.declared.faults.RecordFault.{RecordFault}
@@ -16,13 +15,12 @@ use Rattle.series_cells.specs.declared.counter.PromCounter.{PromCounter}
 use Rattle.series_cells.specs.declared.gauge.PromGauge.{PromGauge}
 use Rattle.series_cells.specs.declared.pass.CellPass.{CellPass}
 use Rattle.series_cells.specs.Pass.{Follows, IsCounterPass, IsGaugePass, view_of}
-use Rattle.series_cells.specs.Values.{calls_of}
 use Rattle.sample_queue.specs.Passes as samples
 use Rattle.sample_queue.specs.Histograms as histograms
 use Rattle.sample_queue.specs.Histograms.{timed}
 use Rattle.sample_queue.specs.Queues.{entry_of}
 use Rattle.sample_queue.specs.declared.calls.QueueCall.TheVariants.{Push}
-use Rattle.histogram_series.specs.Entries.{TimedEntry, TimedQueue, record_of, records_of}
+use Rattle.histogram_series.specs.Entries.{TimedEntry, TimedQueue, record_of}
 use Rattle.prom_exporter.specs.Lending.{TimedPass}
 use Rattle.dsd_receiver.specs.Passes.{IsCounterHeld, IsGaugeHeld, IsHistogramHeld, MakesCalls, MakesRecords}
 
@@ -92,8 +90,7 @@ pub recorded_more : (before now after : TimedPass) (calls : List Call) (value : 
     → histograms.Records timed now (Record value.0 moment times) after → MakesRecords before (calls ++ Record value.0 moment times ∷ []) after
 recorded_more before now after calls value moment zero some makes records = absurd (omega (arith, some))
 recorded_more before now after calls value moment (suc more) some (entries, are, mine) (log, x, y, sees, runs, step, left) =
-    let new : TimedEntry = entry_of (timed value.0 moment) (suc more) in
-    (
+    let new : TimedEntry = entry_of (timed value.0 moment) (suc more) in (
       entries ++ new ∷ [],
       map-append record_of entries (new ∷ []) ∙ ap (λ cs. cs ++ Record value.0 moment (suc more) ∷ []) are,
       ap (λ v. v.mine) left ∙ ap (λ cs. cs ++ Push new ∷ []) mine ∙ append_assoc (samples.view_of before).mine (map Push entries) (Push new ∷ [])

@@ -1,5 +1,5 @@
 -- An exporter that received lines at moment 0 alone has its samples there, so its page shows them.
-use Rattle.std.proofs.Common.{◌≡◌, ℕ, ◌+◌, ◌≤◌, Bool, true, false, List, [], ◌∷◌, ◌++◌, map, fold, append-nil, refl, ap, sym, subst, arith, Option, Some, None}
+use Rattle.std.proofs.Common.{◌≡◌, ℕ, ◌+◌, ◌≤◌, Bool, true, false, List, [], ◌∷◌, ◌++◌, map, append-nil, refl, ap, sym, subst, arith, Option, Some, None}
 use Rattle.std.specs.Prelude.{All, ◌==◌, if◌then◌else◌, is_some}
 use Rattle.std.proofs.lemmas.List.Concat.{flat_map-append}
 use Rattle.std.proofs.lemmas.List.Elements.{All-append, All-cons, All-head, All-nil, All-replicate, All-tail, All-weaker}
@@ -17,7 +17,7 @@ use Rattle.prom_exporter.specs.Sampled.{IsTimely, Sampled, calls_known}
 use Rattle.prom_exporter.specs.Values.{sampled_series, series_of}
 use Rattle.prom_exporter.specs.State.{PrometheusState, Series, call_on, empty_state, live, live_series, no_series, number_given, register, with_call, with_live}
 use Rattle.dsd_lines.specs.Grammar.{Counter, Distribution, Gauge, Histogram, LineText, PointsText}
-use Rattle.dsd_receiver.specs.Received.{after_calls, after_line, after_reading, after_readings, calls_of_points, calls_said, kind_said, rate_said, scaled, times_at}
+use Rattle.dsd_receiver.specs.Received.{after_calls, after_line, after_reading, after_readings, calls_of_points, calls_said, kind_said, rate_said, times_at}
 
 -- ---- samples at the first moment
 

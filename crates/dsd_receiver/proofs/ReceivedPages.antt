@@ -1,5 +1,5 @@
 -- The page of what was received.
-use Rattle.std.proofs.Common.{◌≡◌, ℕ, inr, List, subst}
+use Rattle.std.proofs.Common.{ℕ, inr, List, subst}
 use Rattle.std.specs.Prelude.{Option}
 use Rattle.metrics_core.specs.Outside.{GrewBy, GrewByPrefix}
 use Rattle.prom_format.specs.Pages.{page_text}

@@ -1,20 +1,19 @@
 -- A stream that is received payload by payload.
-use Rattle.std.proofs.Common.{◌≡◌, ◌≢◌, ℕ, suc, ◌+◌, ◌≤◌, ◌<◌, List, [], ◌∷◌, ◌++◌, length, append-nil, refl, sym, ap, subst, ◌∙◌, arith, length-append}
-use Rattle.std.specs.Prelude.{Option, Some, None, true, flat_map, filter, fold, is_none, is_some, Bool}
-use Rattle.std.specs.List.{AllZip}
+use Rattle.std.proofs.Common.{◌≡◌, ◌≢◌, ℕ, suc, ◌+◌, ◌≤◌, List, [], ◌∷◌, ◌++◌, length, append-nil, refl, sym, ap, subst, ◌∙◌, arith, length-append}
+use Rattle.std.specs.Prelude.{Option, true, filter, is_none, is_some, Bool}
 use Rattle.std.proofs.lemmas.List.Concat.{flat_map-append}
 use Rattle.std.proofs.lemmas.List.Elements.{filter-append}
 use Rattle.std.proofs.lemmas.List.Sums.{fold-append}
 use Rattle.dsd_writer.specs.Lines.{framed}
 use Rattle.prom_exporter.specs.State.{PrometheusState, empty_state}
-use Rattle.dsd_lines.specs.Frames.{AreFrames, BeginsNoFrame, Splits, stream_of}
+use Rattle.dsd_lines.specs.Frames.{BeginsNoFrame, Splits, stream_of}
 use Rattle.dsd_lines.specs.Grammar.{LineText}
 use Rattle.dsd_lines.specs.Payloads.{payload_lines}
 use Rattle.dsd_lines.proofs.Streams.{all_taken, frames_told, too_short}
-use Rattle.dsd_receiver.specs.Received.{AreRead, IsRead, after_reading, after_readings, count_bad, count_lines}
+use Rattle.dsd_receiver.specs.Received.{AreRead, after_reading, after_readings, count_bad, count_lines}
 use Rattle.dsd_receiver.specs.Receiving.{IsApplied}
 use Rattle.dsd_receiver.specs.declared.receiver.Applied.{Applied}
-use Rattle.dsd_receiver.specs.Streams.{AreCounted, AreNoFrames, IsCutAfter, IsTakenIn, lines_of}
+use Rattle.dsd_receiver.specs.Streams.{IsCutAfter, IsTakenIn, lines_of}
 use Rattle.dsd_receiver.specs.declared.streams.Received.{Received}
 
 -- the payloads that stand before the rest of a stream were received

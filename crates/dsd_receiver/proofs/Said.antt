@@ -1,6 +1,5 @@
 -- What a line of the grammar asks for: one call at least, at a rate that is not 0.
-use Rattle.std.proofs.Common.{◌≡◌, ◌⊎◌, ℕ, ◌<◌, ◌≤◌, Bool, true, false, List, length, map, Option, Some, None, refl, sym, ap, ◌∙◌, inl, inr, arith}
-use Rattle.std.specs.Prelude.{ℤ}
+use Rattle.std.proofs.Common.{ℕ, ◌<◌, ◌≤◌, Bool, true, false, List, length, map, Option, Some, None, arith}
 use Rattle.std.specs.List.{AllZip}
 use Rattle.std.proofs.lemmas.List.{length-map}
 use Rattle.std.proofs.lemmas.Slice.Zip.{AllZip-long}
@@ -8,7 +7,7 @@ use Rattle.metrics_core.specs.Numbers.{one}
 use Rattle.dsd_lines.specs.Grammar.{AreRateParts, AreSpelled, Counter, Distribution, Gauge, Histogram, IsDecimal, IsLine, IsNumber, LineText, PointsText}
 use Rattle.prom_exporter.specs.State.{PrometheusState}
 use Rattle.dsd_receiver.specs.Received.{calls_of_points, calls_said, rate_said}
-use Rattle.dsd_receiver.specs.Receiving.{IsInPart, IsReceived, StopsIn}
+use Rattle.dsd_receiver.specs.Receiving.{IsInPart, StopsIn}
 
 as_many : {A B C : Type 0} (R : A → B → Type 0) (f : B → C) (xs : List A) (ys : List B) → AllZip R xs ys → 0 < length xs → 0 < length (map f ys)
 as_many R f xs ys all some = let long = AllZip-long R xs ys all in let same = length-map ys f in omega (arith, long, same, some)

@@ -1,5 +1,5 @@
 -- What a look at a series that is home leaves and tells: nothing changes, and the exporter knows whose each call is.
-use Rattle.std.proofs.Common.{◌≡◌, ◌⊎◌, ℕ, zero, suc, ◌<◌, Bool, true, false, cond, List, [], ◌∷◌, ◌++◌, length, map, Option, Some, None, refl, sym, ap, subst, ◌∙◌, inl, inr, ⊎_elim, arith}
+use Rattle.std.proofs.Common.{◌≡◌, ◌⊎◌, ℕ, zero, suc, ◌<◌, Bool, true, false, cond, List, [], ◌∷◌, ◌++◌, length, map, Option, Some, None, refl, sym, ap, subst, ◌∙◌, ⊎_elim, arith}
 use Rattle.std.specs.Prelude.{find, option_map, All}
 use Rattle.std.proofs.lemmas.Option.{same_Some}
 use Rattle.std.proofs.lemmas.List.{length-map}
@@ -7,12 +7,11 @@ use Rattle.std.proofs.lemmas.List.Elements.{All-head, All-tail}
 use mathlib.Core.Option.{some, some-ne-none, some-injective}
 use lib.ListN.{get_elem?}
 use Rattle.legal_history.specs.History.{Settled}
-use Rattle.legal_history.specs.Mapped.{mapped_view}
 use Rattle.legal_history.proofs.Steps.{some_below}
 use Rattle.cell_lanes.specs.Things.{Thing, root_of}
 use Rattle.cell_lanes.specs.Lanes.{SettledAt}
 use Rattle.metrics_core.specs.declared.kinds.SeriesId.{SeriesId}
-use Rattle.metrics_registry.specs.Live.{LiveSeries, IsNumbered, has_id, cell_of}
+use Rattle.metrics_registry.specs.Live.{LiveSeries, has_id, cell_of}
 use Rattle.metrics_registry.proofs.IdTests.{id_eq-same}
 use Rattle.prom_exporter.specs.declared.lanes.SeriesCell.{SeriesCell}
 use Rattle.prom_exporter.specs.declared.lanes.SeriesCell.TheVariants as cells

@@ -1,7 +1,6 @@
 -- A payload whose lines are applied one after another.
-use Rattle.std.proofs.Common.{◌≡◌, ◌⊎◌, ℕ, zero, suc, ◌+◌, ◌<◌, ◌≤◌, Bool, true, false, List, [], ◌∷◌, ◌++◌, length, map, Option, Some, None, refl, sym, ap, subst, ◌∙◌, append_assoc, append-nil, arith}
-use Rattle.std.specs.Prelude.{filter, fold, is_some, is_none}
-use Rattle.std.specs.List.{AllZip}
+use Rattle.std.proofs.Common.{◌≡◌, ℕ, ◌+◌, ◌<◌, ◌≤◌, Bool, true, false, List, [], ◌∷◌, ◌++◌, length, Option, Some, None, refl, sym, ap, subst, ◌∙◌, append_assoc, append-nil, arith}
+use Rattle.std.specs.Prelude.{filter, is_some, is_none}
 use Rattle.std.proofs.lemmas.List.{length-append}
 use Rattle.std.proofs.lemmas.List.Elements.{filter-append}
 use Rattle.std.proofs.lemmas.Slice.Zip.{AllZip-long, all_zipped_more}
@@ -9,10 +8,9 @@ use Rattle.dsd_lines.specs.Grammar.{LineText}
 use Rattle.dsd_lines.specs.Payloads.{payload_lines}
 use Rattle.prom_exporter.specs.State.{PrometheusState}
 use Rattle.dsd_receiver.specs.declared.receiver.Applied.{Applied}
-use Rattle.dsd_receiver.specs.declared.receiver.ReceiveFault.{ReceiveFault}
 use Rattle.dsd_receiver.specs.declared.receiver.ReceiveFault.TheVariants as faults
-use Rattle.dsd_receiver.specs.Received.{AreRead, IsRead, Receives, after_reading, after_readings, count_bad, count_lines}
-use Rattle.dsd_receiver.specs.Receiving.{IsApplied, IsReceived, IsStopped, StopsAfter, StopsIn}
+use Rattle.dsd_receiver.specs.Received.{AreRead, IsRead, after_reading, after_readings, count_bad, count_lines}
+use Rattle.dsd_receiver.specs.Receiving.{IsApplied, IsReceived, IsStopped, StopsIn}
 
 -- the first lines of a payload were applied, and these bytes are left of it
 pub record SoFar (moment : ℕ) (payload rest : List ℕ) (s : PrometheusState) (applied : Applied) (t : PrometheusState) : Type 0 where

@@ -5,7 +5,7 @@ use Rattle.prom_exporter.specs.Exporter.{AllHome, Exporter, state_of}
 use Rattle.prom_exporter.specs.Lending.{LendsCounter}
 use Rattle.dsd_receiver.specs.Received.{after_calls, increments}
 use Rattle.dsd_receiver.specs.Passes.{IsSettled}
-use Rattle.dsd_receiver.proofs.Changing.{counter_called, counter_held, counter_home, counter_lent, counter_none, counter_settings}
+use Rattle.dsd_receiver.proofs.Changing.{counter_called, counter_held, counter_home, counter_lent, counter_none}
 use Rattle.dsd_receiver.proofs.calls.call_counter.Goals as goal
 
 pub returns-in_default-clause-called : goal.returns-in_default-clause-called

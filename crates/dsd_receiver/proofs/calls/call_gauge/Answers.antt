@@ -6,7 +6,7 @@ use Rattle.prom_exporter.specs.Lending.{LendsGauge}
 use Rattle.dsd_receiver.specs.Received.{after_calls, sets}
 use Rattle.dsd_receiver.specs.Passes.{IsSettled}
 use Rattle.dsd_lines.specs.Texts.{numbers_of}
-use Rattle.dsd_receiver.proofs.Changing.{gauge_called, gauge_held, gauge_home, gauge_lent, gauge_none, gauge_settings}
+use Rattle.dsd_receiver.proofs.Changing.{gauge_called, gauge_held, gauge_home, gauge_lent, gauge_none}
 use Rattle.dsd_receiver.proofs.calls.call_gauge.Goals as goal
 
 pub returns-in_default-clause-called : goal.returns-in_default-clause-called

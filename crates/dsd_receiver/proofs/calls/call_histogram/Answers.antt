@@ -52,6 +52,6 @@ returns-clause-called g c =
     let id = histogram_id c.settle.new.state c.args.id numbered c.in-Ok-Some.lent c.lend_histogram.new.self lends in
     ap state_of c.settle-2.ensures.same
     ∙ histogram_called c.settle.new.state c.args.id numbered c.in-Ok-Some.lent c.lend_histogram.new.self lends c.record_each-done.new.pass c.give_back_histogram.new.self
-        c.give_back_histogram.ensures.taken c.requires.kind (subst AllHome (sym same) c.requires.home)
-        (subst (IsSettled c.args.id) (sym same) c.settle.ensures.settled) (subst (λ i. IsSettled i c.give_back_histogram.new.self) id c.settle-2.ensures.settled) calls c.record_each-done.ensures.calls
+    c.give_back_histogram.ensures.taken c.requires.kind (subst AllHome (sym same) c.requires.home)
+    (subst (IsSettled c.args.id) (sym same) c.settle.ensures.settled) (subst (λ i. IsSettled i c.give_back_histogram.new.self) id c.settle-2.ensures.settled) calls c.record_each-done.ensures.calls
     ∙ ap (λ e. after_calls kinds.Histogram c.args.id.number calls (state_of e)) same

@@ -5,7 +5,6 @@ use Rattle.prom_format.specs.Pages.{page_text}
 use Rattle.prom_exporter.specs.Exporter.{AreTimely, Exporter, default_settings, families_shown, state_of}
 use Rattle.prom_exporter.specs.Families.{ExporterSettings}
 use Rattle.dsd_receiver.specs.Streams.{IsTakenIn}
-use Rattle.dsd_receiver.specs.declared.streams.Received.{Received}
 use Rattle.dsd_receiver.proofs.ReceivedMoments.{received_timely}
 use Rattle.dsd_receiver.proofs.ReceivedPages.{received_prefix, received_whole, writing_leaves}
 use Rattle.dsd_receiver.proofs.streams.receive_page.Goals as goal

@@ -1,10 +1,9 @@
-use Rattle.std.proofs.Common.{◌≡◌, ◌≢◌, ℕ, ◌+◌, ◌≤◌, List, [], ◌∷◌, ◌++◌, length, refl, sym, ap, subst, ◌∙◌}
-use Rattle.std.specs.Prelude.{IfErr, IfOk, MatchOption, None, Option, Some, true}
+use Rattle.std.proofs.Common.{◌≡◌, ◌≢◌, ℕ, ◌+◌, ◌≤◌, List, [], ◌∷◌, ◌++◌, length, refl, sym, subst, ◌∙◌}
+use Rattle.std.specs.Prelude.{MatchOption, Option, true}
 use Rattle.std.specs.declared.alloc.Global.{Global}
 use Rattle.std.specs.declared.vec.Vec.{Vec}
 use Rattle.std.proofs.lemmas.Result.{IfErr-weaker, IfOk-weaker}
 use Rattle.dsd_writer.specs.Lines.{framed}
-use Rattle.prom_exporter.specs.State.{PrometheusState}
 use Rattle.prom_exporter.specs.Exporter.{state_of}
 use Rattle.dsd_lines.specs.Frames.{AreFrames, BeginsNoFrame, Splits}
 use Rattle.dsd_lines.specs.Payloads.{payload_lines}
@@ -49,7 +48,7 @@ returns-in-Ok-None-clause-received g c =
     let Front : Option (Vec ℕ Global) → Type 0 = λ next. MatchOption next (BeginsNoFrame old × (new ≡ old)) (λ frame. old ≡ framed true frame.items ++ new) in
     let none : BeginsNoFrame old × (new ≡ old) = subst Front c.in-Ok-None.field-0-is c.in-Ok-None.ensures.frame in
     IfOk-weaker c.whole.result (λ (all : Received). (all ≡ c.loop-payload.received) × (new ≡ [])) (λ (all : Received). IsTakenIn c.args.bytes.now all (state_of c.loop-payload.receiver)) (λ all is. subst (λ (r : Received). IsTakenIn c.args.bytes.now r (state_of c.loop-payload.receiver)) (sym is.0)
-      (all_received c.args.bytes.now old c.loop-payload.received (state_of c.loop-payload.receiver) c.loop-payload.invariant.so_far (sym none.1 ∙ is.1))) c.whole.ensures.whole
+    (all_received c.args.bytes.now old c.loop-payload.received (state_of c.loop-payload.receiver) c.loop-payload.invariant.so_far (sym none.1 ∙ is.1))) c.whole.ensures.whole
 
 pub returns-in-Ok-None-clause-refused : goal.returns-in-Ok-None-clause-refused
 returns-in-Ok-None-clause-refused g c =
@@ -58,4 +57,4 @@ returns-in-Ok-None-clause-refused g c =
     let Front : Option (Vec ℕ Global) → Type 0 = λ next. MatchOption next (BeginsNoFrame old × (new ≡ old)) (λ frame. old ≡ framed true frame.items ++ new) in
     let none : BeginsNoFrame old × (new ≡ old) = subst Front c.in-Ok-None.field-0-is c.in-Ok-None.ensures.frame in
     IfErr-weaker c.whole.result (λ (fault : StreamFault). (fault ≡ stream.Cut c.loop-payload.received.frames) × (new ≢ [])) (IsIntakeFault c.args.bytes.now) (λ fault is. subst (λ (f : StreamFault). IsIntakeFault c.args.bytes.now f) (sym is.0)
-      (cut_after c.args.bytes.now old c.loop-payload.received (state_of c.loop-payload.receiver) c.loop-payload.invariant.so_far (λ e. is.1 (none.1 ∙ e)) none.0)) c.whole.ensures.cut
+    (cut_after c.args.bytes.now old c.loop-payload.received (state_of c.loop-payload.receiver) c.loop-payload.invariant.so_far (λ e. is.1 (none.1 ∙ e)) none.0)) c.whole.ensures.cut
