@@ -1,11 +1,11 @@
 -- From the parts of receiving to what a run of it says as a whole.
-use Rattle.std.proofs.Common.{◌≡◌, ℕ, ◌⊎◌, inl, inr, List, refl, sym, subst, arith}
-use Rattle.std.specs.Prelude.{Option, Some, None, IfSome}
-use Rattle.metrics_core.specs.Characters.{line}
+use Rattle.std.proofs.Common.{◌≡◌, ℕ, ◌⊎◌, inl, inr, List, [], ◌∷◌, ◌++◌, refl, sym, ap, subst, ◌∙◌, append_assoc, arith}
+use Rattle.std.specs.Prelude.{Option, Some, None, IfSome, codes, decimal}
+use Rattle.metrics_core.specs.Characters.{line, newline}
 use Rattle.drive_script.specs.Faults.{fault_text}
 use Rattle.drive_script.specs.declared.faults.DriveFault.{DriveFault}
 use Rattle.drive_script.specs.declared.faults.DriveFault.TheVariants as faults
-use Rattle.program_words.specs.Answers.{IsTooLong, LeavesSource, Says, fault_status}
+use Rattle.program_words.specs.Answers.{IsSaidText, IsTooLong, LeavesSource, Says, fault_status}
 use Rattle.program_words.specs.Devices.{SourceRun, SinkRun, SourceFailed, SinkFailed}
 use Rattle.program_words.specs.Ends.{IsReceiveEnd}
 use Rattle.program_words.specs.Reading.{IsReadFault}
@@ -208,3 +208,16 @@ pub refused_line : (left : Option (List ℕ)) (items : List ℕ) (K : Type 0) (f
 refused_line left items K (stream.Cut count) whole within cause = cut count (of_told left items (λ bytes. IsCutStream bytes count) whole (within, cause))
 refused_line left items K stream.WriteFault whole within cause = write_failed
 refused_line left items K stream.Memory whole within cause = no_memory
+
+-- a text that is the line of a fault, said of that fault
+pub stream_said_of : (Failed : Type 0) (said said' : Option (List ℕ)) (fault is : StreamFault) (text : List ℕ) → fault ≡ is → text ≡ line (stream_fault_text is)
+    → IsSaidText Failed said said' text → IsSaidText Failed said said' (line (stream_fault_text fault))
+stream_said_of Failed said said' fault is text same spelled h =
+    let P : List ℕ → Type 0 = λ t. IsSaidText Failed said said' t in
+    subst P (spelled ∙ sym (ap (λ f. line (stream_fault_text f)) same)) h
+
+-- the line of a cut stream, from its pieces
+pub cut_line : (digits : List ℕ) (count : ℕ) → digits ≡ decimal count → codes "stream: cut after " ++ (digits ++ codes " frames\n") ≡ line (stream_fault_text (stream.Cut count))
+cut_line digits count e =
+    ap (λ d. codes "stream: cut after " ++ (d ++ codes " frames\n")) e
+    ∙ sym (append_assoc (codes "stream: cut after " ++ decimal count) (codes " frames") (newline ∷ []) ∙ append_assoc (codes "stream: cut after ") (decimal count) (codes " frames\n"))
