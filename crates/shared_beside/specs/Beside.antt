@@ -1,0 +1,29 @@
+-- What is said of registrations that are made beside each other.
+use Rattle.std.specs.Prelude.{◌≡◌, List, ◌||◌, true, is_err, Result, IfOk, OnErr}
+use Rattle.metrics_core.specs.declared.kinds.MetricKind.{MetricKind}
+use Rattle.metrics_core.specs.declared.kinds.SeriesId.{SeriesId}
+use Rattle.metrics_core.specs.declared.memory.Memory.{Memory}
+use Rattle.metrics_core.specs.Keys.{KeyText}
+use Rattle.legal_history.specs.declared.history.Entry.{Entry}
+use Rattle.legal_history.specs.declared.history.View.{View}
+use Rattle.legal_history.specs.History.{Sees, child, lender, looked, taker}
+use Rattle.shared_turns.specs.Passes.{Waits}
+use Rattle.shared_recorder.specs.declared.entries.RecorderEntry.{RecorderEntry}
+use Rattle.shared_recorder.specs.declared.entries.RecorderEntry.TheVariants.{Register}
+use Rattle.shared_recorder.specs.Stands.{Makes}
+
+-- a pass registered a series, whose id this is; or memory was refused, and it made no entry
+abbrev pub Registers : MetricKind → KeyText → Result SeriesId Memory → View RecorderEntry → View RecorderEntry → Type 0
+Registers kind key id v w = IfOk id (λ i. (i.kind ≡ kind) × Makes (Register kind key i.number) v w) × OnErr id (Waits v w)
+
+-- the root lent two passes, took them back, and has then seen the whole history
+abbrev pub Returns : View RecorderEntry → View RecorderEntry → View RecorderEntry → View RecorderEntry → Type 0
+Returns v p q w = (log : List (Entry RecorderEntry)) × Sees (taker (taker (lender (lender v)) p) q) log × (w ≡ looked (taker (taker (lender (lender v)) p) q) log)
+
+-- each of two passes that the root lent registered under its key, and both came back
+abbrev pub RegistersBoth : MetricKind → KeyText → KeyText → Result SeriesId Memory → Result SeriesId Memory → View RecorderEntry → View RecorderEntry → Type 0
+RegistersBoth kind one other i j v w = (p q : View RecorderEntry) × Registers kind one i (child v) p × Registers kind other j (child (lender v)) q × Returns v p q w
+
+-- the same, where memory was refused to one registration at least
+abbrev pub RegistersOneAtMost : MetricKind → KeyText → KeyText → View RecorderEntry → View RecorderEntry → Type 0
+RegistersOneAtMost kind one other v w = (i j : Result SeriesId Memory) × ((is_err i || is_err j) ≡ true) × RegistersBoth kind one other i j v w
