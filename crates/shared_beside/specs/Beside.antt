@@ -7,10 +7,18 @@ use Rattle.metrics_core.specs.Keys.{KeyText}
 use Rattle.legal_history.specs.declared.history.Entry.{Entry}
 use Rattle.legal_history.specs.declared.history.View.{View}
 use Rattle.legal_history.specs.History.{Sees, child, lender, looked, taker}
-use Rattle.shared_turns.specs.Passes.{Waits}
+use Rattle.shared_turns.specs.declared.pass.TurnPass.{TurnPass}
+use Rattle.shared_turns.specs.Passes.{view_of, Waits}
+use Rattle.prom_exporter.specs.Exporter.{Exporter}
+use Rattle.shared_recorder.specs.declared.recorder.SharedRecorder.{SharedRecorder}
 use Rattle.shared_recorder.specs.declared.entries.RecorderEntry.{RecorderEntry}
 use Rattle.shared_recorder.specs.declared.entries.RecorderEntry.TheVariants.{Register}
+use Rattle.shared_recorder.specs.Recorder.{IsPass}
 use Rattle.shared_recorder.specs.Stands.{Makes}
+
+-- the pass is one that this recorder's root lent
+abbrev pub IsLent : SharedRecorder → TurnPass Exporter RecorderEntry → Type 0
+IsLent r p = IsPass r p × ¬ ((view_of p).number ≡ 0)
 
 -- a pass registered a series, whose id this is; or memory was refused, and it made no entry
 abbrev pub Registers : MetricKind → KeyText → Result SeriesId Memory → View RecorderEntry → View RecorderEntry → Type 0

@@ -7,7 +7,7 @@ ghost use Rattle.shared_turns.specs.Passes.{view_of, Waits};
 ghost use Rattle.prom_exporter.specs.Exporter.{Exporter};
 ghost use Rattle.shared_recorder.specs.Recorder.{IsPass};
 ghost use Rattle.shared_recorder.specs.Stands.{KnowsBuilt};
-ghost use Rattle.shared_beside.specs.Beside.{RegistersBoth, RegistersOneAtMost};
+ghost use Rattle.shared_beside.specs.Beside.{IsLent, RegistersBoth, RegistersOneAtMost};
 
 use crate::registration::KeyRegistration;
 use metrics_core::{Key, Memory, MetricKind, SeriesId};
@@ -19,9 +19,9 @@ use thread_jobs::both_beside;
 
 /// Gives two passes back to the root, which has then seen the whole history.
 fn take_both(recorder: &SharedRecorder, root: &mut SharedPass, one: SharedPass, other: SharedPass)
-    requires pass { IsPass recorder.now root.old × IsPass recorder.now one × IsPass recorder.now other }
+    requires pass { IsPass recorder.now root.old }
     requires root { (view_of root.old).number ≡ 0 }
-    requires children { ¬ ((view_of one).number ≡ 0) × ¬ ((view_of other).number ≡ 0) }
+    requires lent { IsLent recorder.now one × IsLent recorder.now other }
     ensures pass { IsPass recorder.now root.new }
     ensures seen { Waits (taker (taker (view_of root.old) (view_of one)) (view_of other)) (view_of root.new) }
     ensures splits { root.new.splits ≡ root.old.splits }

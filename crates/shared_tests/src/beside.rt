@@ -1,8 +1,9 @@
 //! A shared recorder in eight threads beside each other.
 
-ghost use Rattle.std.specs.Prelude.{◌≡◌, ◌+◌, ◌<◌, ◌^◌, All, IfOk};
+ghost use Rattle.std.specs.Prelude.{◌≡◌, All, IfOk};
 ghost use Rattle.shared_turns.specs.Passes.{view_of};
 ghost use Rattle.shared_recorder.specs.Recorder.{IsPass, Stays};
+ghost use Rattle.shared_beside.specs.Beside.{IsLent};
 
 use metrics_core::{Key, KeyName, SharedString};
 use prom_exporter::PrometheusBuilder;
@@ -58,15 +59,15 @@ struct Worked {
 }
 
 impl Job for Work {
-    ghost use Rattle.shared_recorder.specs.Recorder.{IsPass, Stays};
+    ghost use Rattle.shared_beside.specs.Beside.{IsLent};
 
     type Shared = SharedRecorder;
 
     type Answer = Worked;
 
-    ghost ready = { λ recorder job. IsPass recorder job.pass };
+    ghost ready = { λ recorder job. IsLent recorder job.pass };
 
-    ghost gives = { λ recorder job answer. Stays recorder job.pass answer.pass };
+    ghost gives = { λ recorder _ answer. IsLent recorder answer.pass };
 
     fn run<R: Wait>(self, rt: &R, shared: &SharedRecorder) -> Worked {
         let Work {
@@ -90,12 +91,12 @@ fn lend_all(
     requires few { root.old.splits ≡ 0 }
     ensures pass { IsPass recorder.now root.new }
     ensures root { (view_of root.new).number ≡ 0 }
-    ensures lent { IfOk result (λ jobs. All (λ job. IsPass recorder.now job.pass × ¬ ((view_of job.pass).number ≡ 0)) jobs.items) }
+    ensures lent { IfOk result (λ jobs. All (λ job. IsLent recorder.now job.pass) jobs.items) }
 {
     let mut jobs = Vec::new(alloc);
-    for name in OWN {
+    for name in &OWN {
         let pass = recorder.split(root);
-        let own = Key::from_static_name(name);
+        let own = Key::from_static_name(*name);
         jobs.push(Work { alloc, pass, own })?;
     }
     Ok(jobs)
@@ -105,7 +106,7 @@ fn lend_all(
 fn take_all(recorder: &SharedRecorder, root: &mut SharedPass, mut answers: Vec<Worked>) -> bool
     requires pass { IsPass recorder.now root.old }
     requires root { (view_of root.old).number ≡ 0 }
-    requires lent { All (λ answer. IsPass recorder.now answer.pass × ¬ ((view_of answer.pass).number ≡ 0)) answers.items }
+    requires lent { All (λ answer. IsLent recorder.now answer.pass) answers.items }
     ensures pass { IsPass recorder.now root.new }
 {
     let mut agree = true;

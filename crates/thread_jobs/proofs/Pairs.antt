@@ -1,5 +1,5 @@
 -- From what holds of two lists at each place to what holds of their elements in pairs.
-use Rattle.std.proofs.Common.{◌≡◌, ℕ, suc, ◌<◌, length, List, [], ◌∷◌, slice_index_or, Result, Ok, Err, IfOk, arith}
+use Rattle.std.proofs.Common.{◌≡◌, ℕ, zero, suc, ◌<◌, length, List, [], ◌∷◌, slice_index_or, Result, Ok, Err, IfOk, All, arith}
 use Rattle.std.specs.List.{AllZip}
 
 pub in_pairs : {A B : Type 0} (R : A → B → Type 0) (xs : List A) (ys : List B) → length ys ≡ length xs
@@ -12,3 +12,11 @@ in_pairs R (x ∷ xs) (y ∷ ys) same each = (each 0 x y (omega arith), in_pairs
 pub if_ok_both : {X Y : Type 0} (P Q S : X → Type 0) (r : Result X Y) → IfOk r P → IfOk r Q → ((x : X) → P x → Q x → S x) → IfOk r S
 if_ok_both P Q S (Ok x) p q f = f x p q
 if_ok_both P Q S (Err e) p q f = tt
+
+-- what holds of the second of each pair, whatever the first is, holds of all that are second
+pub in_each : {A B : Type 0} (Q : B → Type 0) (xs : List A) (ys : List B) → AllZip (λ _ y. Q y) xs ys → All Q ys
+in_each Q [] [] pairs k d less = absurd (omega (arith, less))
+in_each Q [] (y ∷ ys) pairs k d less = absurd pairs
+in_each Q (x ∷ xs) [] pairs k d less = absurd pairs
+in_each Q (x ∷ xs) (y ∷ ys) pairs zero d less = pairs.0
+in_each Q (x ∷ xs) (y ∷ ys) pairs (suc k) d less = in_each Q xs ys pairs.1 k d (omega (arith, less))
