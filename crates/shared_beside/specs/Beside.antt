@@ -1,12 +1,11 @@
 -- What is said of registrations that are made beside each other.
-use Rattle.std.specs.Prelude.{◌≡◌, List, ◌||◌, true, is_err, Result, IfOk, OnErr}
+use Rattle.std.specs.Prelude.{◌≡◌, ◌||◌, true, is_err, Result, IfOk, OnErr}
 use Rattle.metrics_core.specs.declared.kinds.MetricKind.{MetricKind}
 use Rattle.metrics_core.specs.declared.kinds.SeriesId.{SeriesId}
 use Rattle.metrics_core.specs.declared.memory.Memory.{Memory}
 use Rattle.metrics_core.specs.Keys.{KeyText}
-use Rattle.legal_history.specs.declared.history.Entry.{Entry}
 use Rattle.legal_history.specs.declared.history.View.{View}
-use Rattle.legal_history.specs.History.{Sees, child, lender, looked, taker}
+use Rattle.legal_history.specs.History.{child, lender, taker}
 use Rattle.shared_turns.specs.declared.pass.TurnPass.{TurnPass}
 use Rattle.shared_turns.specs.Passes.{view_of, Waits}
 use Rattle.prom_exporter.specs.Exporter.{Exporter}
@@ -26,7 +25,7 @@ Registers kind key id v w = IfOk id (λ i. (i.kind ≡ kind) × Makes (Register 
 
 -- the root lent two passes, took them back, and has then seen the whole history
 abbrev pub Returns : View RecorderEntry → View RecorderEntry → View RecorderEntry → View RecorderEntry → Type 0
-Returns v p q w = (log : List (Entry RecorderEntry)) × Sees (taker (taker (lender (lender v)) p) q) log × (w ≡ looked (taker (taker (lender (lender v)) p) q) log)
+Returns v p q w = Waits (taker (taker (lender (lender v)) p) q) w
 
 -- each of two passes that the root lent registered under its key, and both came back
 abbrev pub RegistersBoth : MetricKind → KeyText → KeyText → Result SeriesId Memory → Result SeriesId Memory → View RecorderEntry → View RecorderEntry → Type 0
