@@ -1,5 +1,5 @@
 -- What follows from two registrations of passes that came back.
-use Rattle.std.proofs.Common.{◌≡◌, true, ◌||◌, refl, sym, ap, ◌∙◌, subst, None, Result, Ok, IfOk, OnErr}
+use Rattle.std.proofs.Common.{◌≡◌, true, ◌||◌, sym, ap, ◌∙◌, subst, None, Result, Ok, IfOk, OnErr}
 use Rattle.std.specs.Prelude.{is_err}
 use Rattle.std.proofs.lemmas.Result.{IfOk-weaker, on_err_weaker}
 use Rattle.metrics_core.specs.declared.kinds.MetricKind.{MetricKind}
@@ -31,15 +31,15 @@ module _ (kind : MetricKind) (a b : KeyText) (v w : View RecorderEntry) where
       let numbers = beside (lender (lender v)) both.0 both.1 (child v) (child (lender v)) e both.4.0 kind a b i.number j.number both.4.1 built built both.2.0.1 both.3.0.1 never same in
       λ k. record { kind = (both.2.0.0 ∙ sym both.3.0.0) k; number = numbers k }
 
-  module _ (i j : Result SeriesId Memory) (r : Result (SeriesId × SeriesId) Memory) (both : RegistersBoth kind a b i j v w) (ok : IfOk r (λ ids. (i ≡ Ok ids.0) × (j ≡ Ok ids.1))) where
+  module _ (i j : Result SeriesId Memory) (r : Result (SeriesId × SeriesId) Memory) (both : RegistersBoth kind a b i j v w) where
     both_ids : (ids : SeriesId × SeriesId) → (i ≡ Ok ids.0) × (j ≡ Ok ids.1) → RegistersBoth kind a b (Ok ids.0) (Ok ids.1) v w
     both_ids ids is = subst (λ m. RegistersBoth kind a b m (Ok ids.1) v w) is.0 (subst (λ n. RegistersBoth kind a b i n v w) is.1 both)
 
-    pub both_made : IfOk r (λ ids. RegistersBoth kind a b (Ok ids.0) (Ok ids.1) v w)
-    both_made = IfOk-weaker r _ _ both_ids ok
+    pub both_made : IfOk r (λ ids. (i ≡ Ok ids.0) × (j ≡ Ok ids.1)) → IfOk r (λ ids. RegistersBoth kind a b (Ok ids.0) (Ok ids.1) v w)
+    both_made ok = IfOk-weaker r _ _ both_ids ok
 
-    pub one_made : (e : Exporter) → KnowsBuilt e v → e.settings.idle ≡ None → key_eq a b ≡ true → IfOk r (λ ids. ids.0 ≡ ids.1)
-    one_made e built never same = IfOk-weaker r _ _ (λ ids is. one_number e ids.0 ids.1 built never same (both_ids ids is)) ok
+    pub one_made : IfOk r (λ ids. (i ≡ Ok ids.0) × (j ≡ Ok ids.1)) → (e : Exporter) → KnowsBuilt e v → e.settings.idle ≡ None → key_eq a b ≡ true → IfOk r (λ ids. ids.0 ≡ ids.1)
+    one_made ok e built never same = IfOk-weaker r _ _ (λ ids is. one_number e ids.0 ids.1 built never same (both_ids ids is)) ok
 
-    pub one_refused : OnErr r ((is_err i || is_err j) ≡ true) → RegistersBoth kind a b i j v w → OnErr r (RegistersOneAtMost kind a b v w)
-    one_refused refused both = on_err_weaker r (λ e. (i, j, e, both)) refused
+    pub one_refused : OnErr r ((is_err i || is_err j) ≡ true) → OnErr r (RegistersOneAtMost kind a b v w)
+    one_refused refused = on_err_weaker r (λ e. (i, j, e, both)) refused

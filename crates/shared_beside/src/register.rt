@@ -2,7 +2,7 @@
 
 ghost use Rattle.std.specs.Prelude.{◌≡◌, ◌+◌, ◌<◌, ◌^◌, ◌||◌, true, None, Ok, is_err, IfOk, OnErr};
 ghost use Rattle.metrics_core.specs.Keys.{key_eq};
-ghost use Rattle.legal_history.specs.History.{Sees, looked, taker};
+ghost use Rattle.legal_history.specs.History.{taker};
 ghost use Rattle.shared_turns.specs.Passes.{view_of, Waits};
 ghost use Rattle.prom_exporter.specs.Exporter.{Exporter};
 ghost use Rattle.shared_recorder.specs.Recorder.{IsPass};
@@ -42,11 +42,9 @@ fn both_ids(
     Ok((one?, other?))
 }
 
-/// Registers series of one kind under two keys, each in a thread of its own by a pass of its own, beside each other and beside all
-/// others that use the recorder. Afterwards the root has both passes back and has seen the whole history. Each id is the one that
-/// the recorder of one thread gives at the place of its registration. Where no idle timeout is set equal keys have one id,
-/// whichever came first. Where memory is refused to one registration the other may stand.
-pub fn register_beside<R: Threads + Wait + Sync>(
+/// Registers series of one kind under two keys, each in a thread of its own by a pass that the root lends and takes back, and answers
+/// what came of each.
+fn register_both<R: Threads + Wait + Sync>(
     rt: &R,
     alloc: Global,
     recorder: &SharedRecorder,
@@ -54,15 +52,13 @@ pub fn register_beside<R: Threads + Wait + Sync>(
     kind: MetricKind,
     one: Key,
     other: Key,
-) -> Result<(SeriesId, SeriesId), Memory>
+) -> (Result<SeriesId, Memory>, Result<SeriesId, Memory>)
     requires pass { IsPass recorder.now root.old }
     requires root { (view_of root.old).number ≡ 0 }
     requires few { root.old.splits + 3 < 2 ^ 64 }
-    ensures pass { IsPass recorder.now root.new × (root.new.splits ≡ root.old.splits + 2) }
-    ensures both { IfOk result (λ ids. RegistersBoth kind one other (Ok ids.0) (Ok ids.1) (view_of root.old) (view_of root.new)) }
-    ensures one_id { (e : Exporter) → KnowsBuilt e (view_of root.old) → e.settings.idle ≡ None → key_eq one other ≡ true
-        → IfOk result (λ ids. ids.0 ≡ ids.1) }
-    ensures refused { OnErr result (RegistersOneAtMost kind one other (view_of root.old) (view_of root.new)) }
+    ensures pass { IsPass recorder.now root.new }
+    ensures splits { root.new.splits ≡ root.old.splits + 2 }
+    ensures both { RegistersBoth kind one other result.0 result.1 (view_of root.old) (view_of root.new) }
 {
     let pass = recorder.split(root);
     let one = KeyRegistration {
@@ -80,5 +76,32 @@ pub fn register_beside<R: Threads + Wait + Sync>(
     };
     let (one, other) = both_beside(rt, recorder, one, other);
     take_both(recorder, root, one.pass, other.pass);
-    both_ids(one.id, other.id)
+    (one.id, other.id)
+}
+
+/// Registers series of one kind under two keys, each in a thread of its own by a pass of its own, beside each other and beside all
+/// others that use the recorder. Afterwards the root has both passes back and has seen the whole history. Each id is the one that
+/// the recorder of one thread gives at the place of its registration. Where no idle timeout is set equal keys have one id,
+/// whichever came first. Where memory is refused to one registration the other may stand.
+pub fn register_beside<R: Threads + Wait + Sync>(
+    rt: &R,
+    alloc: Global,
+    recorder: &SharedRecorder,
+    root: &mut SharedPass,
+    kind: MetricKind,
+    one: Key,
+    other: Key,
+) -> Result<(SeriesId, SeriesId), Memory>
+    requires pass { IsPass recorder.now root.old }
+    requires root { (view_of root.old).number ≡ 0 }
+    requires few { root.old.splits + 3 < 2 ^ 64 }
+    ensures pass { IsPass recorder.now root.new }
+    ensures splits { root.new.splits ≡ root.old.splits + 2 }
+    ensures both { IfOk result (λ ids. RegistersBoth kind one other (Ok ids.0) (Ok ids.1) (view_of root.old) (view_of root.new)) }
+    ensures one_id { (e : Exporter) → KnowsBuilt e (view_of root.old) → e.settings.idle ≡ None → key_eq one other ≡ true
+        → IfOk result (λ ids. ids.0 ≡ ids.1) }
+    ensures refused { OnErr result (RegistersOneAtMost kind one other (view_of root.old) (view_of root.new)) }
+{
+    let (one, other) = register_both(rt, alloc, recorder, root, kind, one, other);
+    both_ids(one, other)
 }
