@@ -21,7 +21,7 @@ const OWN: [&'static str; 8] = ["a", "b", "c", "d", "e", "f", "g", "h"];
 const LINES: [&'static str; 8] = ["a 0", "b 0", "c 0", "d 0", "e 0", "f 0", "g 0", "h 0"];
 
 /// Registers the counter `all` and one of the thread's own, describes the former, and makes a page. Answers the number of `all`.
-fn work<R: Wait>(
+fn make_entries<R: Wait>(
     rt: &R,
     alloc: Global,
     recorder: &SharedRecorder,
@@ -75,7 +75,7 @@ impl Job for Work {
             mut pass,
             own,
         } = self;
-        let number = work(rt, alloc, shared, &mut pass, &own);
+        let number = make_entries(rt, alloc, shared, &mut pass, &own);
         Worked { pass, number }
     }
 }
