@@ -1,0 +1,4 @@
+pub mod Twice
+pub mod Runs
+pub mod Applying
+pub mod Sent
