@@ -96,21 +96,23 @@ const MOST_SHORT: usize = 19;
 /// How many samples one line may record.
 const MOST_SAMPLES: u32 = 1_000_000;
 
-/// The bytes of a line that are still to be read. A method that answers `None` ends the reading of the line.
+/// What reads a line from its front, by the grammar of scripts. A method that answers `None` ends the reading of the line.
 #[derive(Drop)]
-pub(crate) struct Cursor<'a> {
-    rest: &'a [u8],
+pub struct Cursor<'a> {
+    /// The bytes that are still to be read.
+    pub rest: &'a [u8],
 }
 
 impl<'a> Cursor<'a> {
-    pub(crate) fn new(line: &'a [u8]) -> Cursor<'a>
+    /// A line of which nothing was read.
+    pub fn new(line: &'a [u8]) -> Cursor<'a>
         ensures { result.rest.now ≡ line.now }
     {
         Cursor { rest: line }
     }
 
     /// Takes a literal.
-    pub(crate) fn literal(&mut self, literal: &[u8]) -> Option<()>
+    pub fn literal(&mut self, literal: &[u8]) -> Option<()>
         ensures taken { MatchOption result (behind literal.now self.old.rest.now ≡ None)
             (λ _. behind literal.now self.old.rest.now ≡ Some self.new.rest.now) }
         ensures stays { IfNone result (self.new ≡ self.old) }
@@ -120,7 +122,7 @@ impl<'a> Cursor<'a> {
     }
 
     /// Takes a number of at most `most`, which has no zero at its front and which no digit follows.
-    pub(crate) fn number(&mut self, most: u64) -> Option<u64>
+    pub fn number(&mut self, most: u64) -> Option<u64>
         ensures value { MatchOption result (number_at most self.old.rest.now ≡ None)
             (λ n. number_at most self.old.rest.now ≡ Some (n, self.new.rest.now)) }
         ensures most { IfSome result (λ n. n ≤ most) }
@@ -152,7 +154,7 @@ impl<'a> Cursor<'a> {
 
     /// Takes a number from 1 to `most`.
     #[tactic(auto, unfolding(crate::specs::Reading::positive_at))]
-    pub(crate) fn positive(&mut self, most: u32) -> Option<NonZeroU32>
+    pub fn positive(&mut self, most: u32) -> Option<NonZeroU32>
         ensures { MatchOption result (positive_at most self.old.rest.now ≡ None)
             (λ n. positive_at most self.old.rest.now ≡ Some (non_zero_u32_get n, self.new.rest.now)) }
     {
@@ -162,7 +164,7 @@ impl<'a> Cursor<'a> {
 
     /// Takes a value: a sign or none, a whole part, and a point with one to nine digits or none.
     #[tactic(auto, unfolding(crate::specs::Reading::fixed_at))]
-    pub(crate) fn fixed(&mut self) -> Option<Fixed>
+    pub fn fixed(&mut self) -> Option<Fixed>
         ensures { MatchOption result (fixed_at self.old.rest.now ≡ None)
             (λ value. fixed_at self.old.rest.now ≡ Some (value.0, self.new.rest.now)) }
     {
@@ -214,7 +216,7 @@ impl<'a> Cursor<'a> {
 
     /// Takes a text in quotes: as it stands in the line, or as a text of its own where something in it is escaped.
     #[tactic(auto, unfolding(crate::specs::Reading::text_at))]
-    pub(crate) fn text(&mut self, alloc: Global) -> Result<Option<CowStr<'a>>, Memory>
+    pub fn text(&mut self, alloc: Global) -> Result<Option<CowStr<'a>>, Memory>
         ensures { IfOk result (λ text. MatchOption text (text_at self.old.rest.now ≡ None)
             (λ text. text_at self.old.rest.now ≡ Some (cow_str_bytes text, self.new.rest.now))) }
     {
@@ -232,7 +234,7 @@ impl<'a> Cursor<'a> {
     }
 
     /// Takes a space and a text.
-    pub(crate) fn spaced_text(&mut self, alloc: Global) -> Result<Option<CowStr<'a>>, Memory>
+    pub fn spaced_text(&mut self, alloc: Global) -> Result<Option<CowStr<'a>>, Memory>
         ensures { IfOk result (λ text. MatchOption text (after (codes " ") text_at self.old.rest.now ≡ None)
             (λ text. after (codes " ") text_at self.old.rest.now ≡ Some (cow_str_bytes text, self.new.rest.now))) }
     {
@@ -534,7 +536,7 @@ impl<'a> Cursor<'a> {
     }
 
     /// Takes the end of the line.
-    pub(crate) fn end(&self) -> Option<()>
+    pub fn end(&self) -> Option<()>
         ensures { result ≡ end_at self.now.rest.now }
     {
         if self.rest.is_empty() { Some(()) } else { None }

@@ -19,6 +19,7 @@ mod recent;
 mod script;
 mod settings;
 
+pub use cursor::Cursor;
 pub use examples::{basic_example, empty_example, sampled_example, settings_example};
 pub use facts::{beginnings, lines_say_one_thing, one_first_bad_line, one_reading};
 pub use faults::{DriveFault, SettingFault};

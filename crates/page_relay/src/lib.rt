@@ -25,4 +25,4 @@ pub use merging::merge;
 pub use pages::{Family, Page, PageRow};
 pub use prom_format::FamilyType as Shape;
 pub use reader::read_pages;
-pub use writer::write_page;
+pub use writer::{push_escaped, push_label, write_page};

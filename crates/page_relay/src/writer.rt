@@ -115,8 +115,8 @@ fn push_label_set(text: &mut Vec<u8>, labels: &[(String, String)]) -> Result<(),
     Ok(())
 }
 
-/// Appends a label.
-fn push_label(text: &mut Vec<u8>, label: &(String, String)) -> Result<(), Memory>
+/// Appends a label: its key as it stands, and its value in quotes with its escapes.
+pub fn push_label(text: &mut Vec<u8>, label: &(String, String)) -> Result<(), Memory>
     ensures { OnOk result (text.new.items ≡ text.old.items ++ label_text (label_of label.now)) }
 {
     text.extend_from_slice(label.0.as_bytes())?;
@@ -126,8 +126,8 @@ fn push_label(text: &mut Vec<u8>, label: &(String, String)) -> Result<(), Memory
     Ok(())
 }
 
-/// Appends a text with its escapes.
-fn push_escaped(text: &mut Vec<u8>, plain: &str, in_label: bool) -> Result<(), Memory>
+/// Appends a text with the escapes of a label's value, or with those of a help text.
+pub fn push_escaped(text: &mut Vec<u8>, plain: &str, in_label: bool) -> Result<(), Memory>
     ensures { OnOk result (text.new.items ≡ text.old.items ++ escaped in_label plain.now) }
 {
     for byte in plain.as_bytes() {
