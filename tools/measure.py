@@ -5,8 +5,11 @@
     measure.py instructions PROGRAM [CASE ..]   instructions, by valgrind's callgrind, of the same scripts made smaller
     measure.py series PROGRAM                   bytes of memory that one more series takes
     measure.py costly PROGRAM                   the inputs that cost most
+    measure.py receive PROGRAM                  the page of streams of DogStatsD lines
+    measure.py rules PROGRAM                    rules over streams of pages
+    measure.py threads PROGRAM                  threads that register beside pages; PROGRAM is crates/turns_bench/out/turns_bench
 
-PROGRAM is crates/metrics_drive/out/metrics_drive, as `rt run` or `rt ci` builds it. Payloads go over UDP to a socket of this script.
+PROGRAM is else crates/metrics_drive/out/metrics_drive, as `rt run` or `rt ci` builds it. Payloads go over UDP to a socket of this script.
 """
 import os, random, re, socket, subprocess, sys, tempfile, time
 
@@ -126,6 +129,31 @@ def written(lines):
     return file
 
 
+def payloads(lines, series):
+    """A stream of payloads of so many lines in all, of counters, gauges and samples on so many series, each led by its length."""
+    file = tempfile.NamedTemporaryFile(suffix=".payloads")
+    kinds = ("hits_%d:1|c|#path:/", "load_%d:0.5|g|#host:a1", "took_%d:0.012|d|#path:/")
+    text = [kinds[i % series % 3] % (i % series) for i in range(lines)]
+    for begin in range(0, lines, 20):
+        payload = "".join(line + "\n" for line in text[begin : begin + 20]).encode()
+        file.write(len(payload).to_bytes(4, "little") + payload)
+    file.flush()
+    return file
+
+
+def ruled_pages(pages, rows, rules):
+    """So many rules, each over one of ten families, and so many pages of so many rows in ten families."""
+    for i in range(rules):
+        yield 'rule "r%d" sum f%d by "zone" over %d for 3' % (i, i % 10, i * 10)
+    yield "pages"
+    for page in range(pages):
+        for family in range(10):
+            yield "# TYPE f%d gauge" % family
+            yield from ('f%d{id="%d",zone="%d"} %d' % (family, row, row % 5, page % 50 + row) for row in range(rows // 10))
+            yield ""
+        yield "# EOF"
+
+
 def run(words, script):
     """Runs words over a script, and returns the seconds, the bytes of memory at the peak, and what came on standard error."""
     with open(script.name, "rb") as source, tempfile.NamedTemporaryFile("r") as note:
@@ -191,7 +219,35 @@ def costly(program, _names):
         print("| %s | %.2f | %.0f |" % (title, seconds, size / 1e6), flush=True)
 
 
+def receive(program, _names):
+    print("| Lines | Series | MB of payloads | Seconds | MB |\n|---|---|---|---|---|")
+    for lines, count in ((250_000, 1_000), (500_000, 1_000), (1_000_000, 1_000), (1_000_000, 100_000)):
+        with payloads(lines, count) as file:
+            seconds, size = least([program, "receive"], file)
+            print("| %d | %d | %.1f | %.2f | %.0f |" % (lines, count, os.path.getsize(file.name) / 1e6, seconds, size / 1e6), flush=True)
+
+
+def rules(program, _names):
+    print("| Pages | Rows of each | Rules | MB of input | Seconds | MB |\n|---|---|---|---|---|---|")
+    for pages_, rows, count in ((250, 1_000, 100), (500, 1_000, 100), (1_000, 1_000, 100), (1_000, 1_000, 10)):
+        with written(ruled_pages(pages_, rows, count)) as file:
+            seconds, size = least([program, "rules"], file)
+            print("| %d | %d | %d | %.1f | %.2f | %.0f |" % (pages_, rows, count, os.path.getsize(file.name) / 1e6, seconds, size / 1e6), flush=True)
+
+
+def threads(program, _names):
+    print("| Counters before | In each of 8 threads | Pages beside | By passes of their own | Through the lock |\n|---|---|---|---|---|")
+    for before, each, pages_ in ((0, 25_000, 0), (100_000, 25_000, 0), (100_000, 25_000, 20)):
+        told = []
+        for way in ("turns", "lock"):
+            with written(()) as file:
+                told.append(least([program, way, *map(str, (before, each, pages_))], file)[0])
+        print("| %d | %d | %d | %.2f | %.2f |" % (before, each, pages_, *told), flush=True)
+
+
+MODES = {it.__name__: it for it in (times, instructions, series, costly, receive, rules, threads)}
+
 if __name__ == "__main__":
-    if len(sys.argv) < 3 or sys.argv[1] not in ("times", "instructions", "series", "costly"):
+    if len(sys.argv) < 3 or sys.argv[1] not in MODES:
         sys.exit(__doc__)
-    {"times": times, "instructions": instructions, "series": series, "costly": costly}[sys.argv[1]](sys.argv[2], sys.argv[3:])
+    MODES[sys.argv[1]](sys.argv[2], sys.argv[3:])
