@@ -1,0 +1,16 @@
+pub mod WordBytes
+pub mod LinesTold
+pub mod NameReader
+pub mod KeyReader
+pub mod RuleForm
+pub mod RulesSoFar
+pub mod OneReading
+pub mod Pairs
+pub mod Growing
+pub mod Room
+pub mod Grouped
+pub mod Sums
+pub mod Runs
+pub mod Held
+pub mod Rows
+pub mod Kept
