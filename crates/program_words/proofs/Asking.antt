@@ -45,7 +45,8 @@ no_form words text (word, is, asks) (inl (to, (behind, drives, at))) = other_wor
 no_form words text (word, is, asks) (inr (inl (count, networks, (number, rest, serves, at, are)))) = other_word words word text (codes "serve") (number ∷ rest) refl refl refl is asks serves
 no_form words text (word, is, asks) (inr (inr (inl (count, (number, benches, at))))) = other_word words word text (codes "bench") (number ∷ []) refl refl refl is asks benches
 no_form words text (word, is, asks) (inr (inr (inr (inl merges)))) = other_word words word text (codes "merge") [] refl refl refl is asks merges
-no_form words text (word, is, asks) (inr (inr (inr (inr receives)))) = other_word words word text (codes "receive") [] refl refl refl is asks receives
+no_form words text (word, is, asks) (inr (inr (inr (inr (inl receives))))) = other_word words word text (codes "receive") [] refl refl refl is asks receives
+no_form words text (word, is, asks) (inr (inr (inr (inr (inr rules))))) = other_word words word text (codes "rules") [] refl refl refl is asks rules
 
 -- what one word asks for is what the words ask for
 one_word_asks : (word : List ℕ) (answer : Option (Bor (List ℕ))) → MatchOption answer ((text : List ℕ) → ¬ AsksForWord word text) (λ text. AsksForWord word text.now)

@@ -7,9 +7,9 @@ use Rattle.std.proofs.lemmas.Slice.Eq.{bytes_eq-Decides}
 use Rattle.net_addresses.specs.Addresses.{NetworkText}
 use Rattle.net_addresses.specs.Readings.{Reads}
 use Rattle.dsd_addresses.specs.Remotes.{RemoteText}
-use Rattle.program_words.specs.Answers.{HasAddress, IsDriveWords, IsMergeWords, IsReceiveWords, texts_of}
+use Rattle.program_words.specs.Answers.{HasAddress, IsDriveWords, IsMergeWords, IsReceiveWords, IsRulesWords, texts_of}
 use Rattle.program_words.specs.BenchWords.{HasBenchWords, IsRounds}
-use Rattle.program_words.specs.Commands.{AreOfBench, AreOfDrive, AreOfMerge, AreOfReceive, AreOfServe, IsBenchWords, IsForm, IsServeWords, IsStreamWords}
+use Rattle.program_words.specs.Commands.{AreOfBench, AreOfDrive, AreOfServe, AreOfWord, IsBenchWords, IsForm, IsServeWords, IsStreamWords}
 use Rattle.program_words.specs.Serving.{HasServeWords, IsCount}
 
 pub apart : (one other : List ℕ) → bytes_eq one other ≡ false → one ≢ other
@@ -28,15 +28,25 @@ pub drive_or_serve : (words : List (List ℕ)) → IsDriveWords words → ¬ IsS
 drive_or_serve words (to, (behind, drives, is)) (count, networks, (number, rest, serves, is_count, are)) =
     begin_once words (codes "drive") (codes "serve") behind (number ∷ rest) refl drives serves
 
+-- a word alone is none of the commands with other words behind
+pub drive_or_word : (words : List (List ℕ)) (word : List ℕ) → bytes_eq (codes "drive") word ≡ false → words ≡ word ∷ [] → ¬ IsDriveWords words
+drive_or_word words word differs is (to, (behind, drives, at)) = begin_once words (codes "drive") word behind [] differs drives is
+
+pub serve_or_word : (words : List (List ℕ)) (word : List ℕ) → bytes_eq (codes "serve") word ≡ false → words ≡ word ∷ [] → ¬ IsServeWords words
+serve_or_word words word differs is (count, networks, (number, rest, serves, at, are)) = begin_once words (codes "serve") word (number ∷ rest) [] differs serves is
+
+pub bench_or_word : (words : List (List ℕ)) (word : List ℕ) → bytes_eq (codes "bench") word ≡ false → words ≡ word ∷ [] → ¬ IsBenchWords words
+bench_or_word words word differs is (count, (number, benches, at)) = begin_once words (codes "bench") word (number ∷ []) [] differs benches is
+
 pub drive_or_stream : (words : List (List ℕ)) → IsDriveWords words → ¬ IsStreamWords words
-drive_or_stream words (to, (behind, drives, is)) (inl merges) = begin_once words (codes "drive") (codes "merge") behind [] refl drives merges
-drive_or_stream words (to, (behind, drives, is)) (inr receives) = begin_once words (codes "drive") (codes "receive") behind [] refl drives receives
+drive_or_stream words drives (inl merges) = drive_or_word words (codes "merge") refl merges drives
+drive_or_stream words drives (inr (inl receives)) = drive_or_word words (codes "receive") refl receives drives
+drive_or_stream words drives (inr (inr rules)) = drive_or_word words (codes "rules") refl rules drives
 
 pub serve_or_stream : (words : List (List ℕ)) → IsServeWords words → ¬ IsStreamWords words
-serve_or_stream words (count, networks, (number, rest, serves, is, are)) (inl merges) =
-    begin_once words (codes "serve") (codes "merge") (number ∷ rest) [] refl serves merges
-serve_or_stream words (count, networks, (number, rest, serves, is, are)) (inr receives) =
-    begin_once words (codes "serve") (codes "receive") (number ∷ rest) [] refl serves receives
+serve_or_stream words serves (inl merges) = serve_or_word words (codes "merge") refl merges serves
+serve_or_stream words serves (inr (inl receives)) = serve_or_word words (codes "receive") refl receives serves
+serve_or_stream words serves (inr (inr rules)) = serve_or_word words (codes "rules") refl rules serves
 
 pub drive_or_bench : (words : List (List ℕ)) → IsDriveWords words → ¬ IsBenchWords words
 drive_or_bench words (to, (behind, drives, is)) (count, (number, benches, also)) =
@@ -47,13 +57,13 @@ serve_or_bench words (count, networks, (number, rest, serves, is, are)) (rounds,
     begin_once words (codes "serve") (codes "bench") (number ∷ rest) (other ∷ []) refl serves benches
 
 pub bench_or_stream : (words : List (List ℕ)) → IsBenchWords words → ¬ IsStreamWords words
-bench_or_stream words (count, (number, benches, is)) (inl merges) =
-    begin_once words (codes "bench") (codes "merge") (number ∷ []) [] refl benches merges
-bench_or_stream words (count, (number, benches, is)) (inr receives) =
-    begin_once words (codes "bench") (codes "receive") (number ∷ []) [] refl benches receives
+bench_or_stream words benches (inl merges) = bench_or_word words (codes "merge") refl merges benches
+bench_or_stream words benches (inr (inl receives)) = bench_or_word words (codes "receive") refl receives benches
+bench_or_stream words benches (inr (inr rules)) = bench_or_word words (codes "rules") refl rules benches
 
-pub merge_or_receive : (words : List (List ℕ)) → IsMergeWords words → ¬ IsReceiveWords words
-merge_or_receive words merges receives = begin_once words (codes "merge") (codes "receive") [] [] refl merges receives
+-- the words are not two words that differ
+pub one_word : (words : List (List ℕ)) (one other : List ℕ) → bytes_eq one other ≡ false → words ≡ one ∷ [] → words ≡ other ∷ [] → ⊥
+one_word words one other differs is also = begin_once words one other [] [] differs is also
 
 -- ---- which command words write
 
@@ -75,22 +85,13 @@ are_of_serve words count networks has = record {
   no_stream = serve_or_stream words (count, networks, has.0);
 }
 
-pub are_of_merge : (words : List (List ℕ)) → IsMergeWords words → AreOfMerge words
-are_of_merge words merges = record {
-  merges = merges;
-  no_drive = λ drives. drive_or_stream words drives (inl merges);
-  no_serve = λ serves. serve_or_stream words serves (inl merges);
-  no_bench = λ benches. bench_or_stream words benches (inl merges);
-  no_receive = merge_or_receive words merges;
-}
-
-pub are_of_receive : (words : List (List ℕ)) → IsReceiveWords words → AreOfReceive words
-are_of_receive words receives = record {
-  receives = receives;
-  no_drive = λ drives. drive_or_stream words drives (inr receives);
-  no_serve = λ serves. serve_or_stream words serves (inr receives);
-  no_bench = λ benches. bench_or_stream words benches (inr receives);
-  no_merge = λ merges. merge_or_receive words merges receives;
+pub are_of_word : (words : List (List ℕ)) (word : List ℕ) → bytes_eq (codes "drive") word ≡ false → bytes_eq (codes "serve") word ≡ false → bytes_eq (codes "bench") word ≡ false → words ≡ word ∷ []
+    → AreOfWord words word
+are_of_word words word drive serve bench is = record {
+  are = is;
+  no_drive = drive_or_word words word drive is;
+  no_serve = serve_or_word words word serve is;
+  no_bench = bench_or_word words word bench is;
 }
 
 pub are_of_bench : (words : List (List ℕ)) (count : ℕ) → HasBenchWords words (Some count) → AreOfBench words count
@@ -102,12 +103,13 @@ are_of_bench words count has = record {
   no_stream = bench_or_stream words (count, has.0);
 }
 
-pub are_none : (words : List (List ℕ)) → ¬ IsMergeWords words → ¬ IsReceiveWords words → HasAddress words None → HasServeWords words None → HasBenchWords words None → ¬ IsForm words
-are_none words no_merge no_receive no_drive no_serve no_bench (inl (to, drives)) = no_drive to drives
-are_none words no_merge no_receive no_drive no_serve no_bench (inr (inl (count, networks, serves))) = no_serve count networks serves
-are_none words no_merge no_receive no_drive no_serve no_bench (inr (inr (inl (count, benches)))) = no_bench count benches
-are_none words no_merge no_receive no_drive no_serve no_bench (inr (inr (inr (inl merges)))) = no_merge merges
-are_none words no_merge no_receive no_drive no_serve no_bench (inr (inr (inr (inr receives)))) = no_receive receives
+pub are_none : (words : List (List ℕ)) → ¬ IsMergeWords words → ¬ IsReceiveWords words → ¬ IsRulesWords words → HasAddress words None → HasServeWords words None → HasBenchWords words None → ¬ IsForm words
+are_none words no_merge no_receive no_rules no_drive no_serve no_bench (inl (to, drives)) = no_drive to drives
+are_none words no_merge no_receive no_rules no_drive no_serve no_bench (inr (inl (count, networks, serves))) = no_serve count networks serves
+are_none words no_merge no_receive no_rules no_drive no_serve no_bench (inr (inr (inl (count, benches)))) = no_bench count benches
+are_none words no_merge no_receive no_rules no_drive no_serve no_bench (inr (inr (inr (inl merges)))) = no_merge merges
+are_none words no_merge no_receive no_rules no_drive no_serve no_bench (inr (inr (inr (inr (inl receives))))) = no_receive receives
+are_none words no_merge no_receive no_rules no_drive no_serve no_bench (inr (inr (inr (inr (inr rules))))) = no_rules rules
 
 -- ---- the words of the command `bench`
 

@@ -5,9 +5,11 @@ pub mod WordSteps
 pub mod RecordedRounds
 pub mod RelaySteps
 pub mod ReceiveSteps
+pub mod RulesSteps
 pub mod ServingSteps
 pub mod ServingWords
 pub mod CommandSteps
+pub mod StreamEnds
 pub mod DriveEnds
 pub mod ServeEnds
 pub mod BenchEnds

@@ -58,7 +58,7 @@ unread_complete bytes S K failed = record {
 -- ---- how a run ends
 
 -- what holds of the bytes that were read whole holds of those that the source tells
-of_told : (left : Option (List ℕ)) (items : List ℕ) (P : List ℕ → Type 0) → IfSome left (λ bytes. items ≡ bytes) → P items → IfSome left P
+pub of_told : (left : Option (List ℕ)) (items : List ℕ) (P : List ℕ → Type 0) → IfSome left (λ bytes. items ≡ bytes) → P items → IfSome left P
 of_told None items P whole h = tt
 of_told (Some bytes) items P whole h = subst P whole h
 
@@ -73,7 +73,7 @@ done_ends source out err items whole within received left said = record {
   prefix = λ e. absurd (omega (arith, e));
   no_memory = λ e. absurd (omega (arith, e));
   cut = λ e. absurd (omega (arith, e));
-  others = (λ e. omega (arith, e), λ e. omega (arith, e), λ e. omega (arith, e), λ e. omega (arith, e), λ e. omega (arith, e), λ e. omega (arith, e));
+  others = (λ e. omega (arith, e), λ e. omega (arith, e), λ e. omega (arith, e), λ e. omega (arith, e), λ e. omega (arith, e), λ e. omega (arith, e), λ e. omega (arith, e));
   unplayed = λ e. absurd (omega (arith, e));
   left = left;
   complete = of_told source.left items (λ bytes. IsReceiveComplete bytes (SourceFailed source) (SinkFailed out) 0) whole
@@ -93,7 +93,7 @@ refused_ends source out err items (stream.Cut count) whole within cause leaves l
   prefix = λ e. absurd (omega (arith, e));
   no_memory = λ e. absurd (omega (arith, e));
   cut = λ e. of_told source.left items (λ bytes. (k : ℕ) × IsCutStream bytes k) whole (count, (within, cause));
-  others = (λ e. omega (arith, e), λ e. omega (arith, e), λ e. omega (arith, e), λ e. omega (arith, e), λ e. omega (arith, e), λ e. omega (arith, e));
+  others = (λ e. omega (arith, e), λ e. omega (arith, e), λ e. omega (arith, e), λ e. omega (arith, e), λ e. omega (arith, e), λ e. omega (arith, e), λ e. omega (arith, e));
   unplayed = λ e. leaves;
   left = left;
   complete = of_told source.left items (λ bytes. IsReceiveComplete bytes (SourceFailed source) (SinkFailed out) 12) whole
@@ -108,7 +108,7 @@ refused_ends source out err items stream.WriteFault whole within cause leaves le
   prefix = λ e. of_told source.left items (λ bytes. IsReceivedInPart bytes out.written out.written') whole leaves;
   no_memory = λ e. absurd (omega (arith, e));
   cut = λ e. absurd (omega (arith, e));
-  others = (λ e. omega (arith, e), λ e. omega (arith, e), λ e. omega (arith, e), λ e. omega (arith, e), λ e. omega (arith, e), λ e. omega (arith, e));
+  others = (λ e. omega (arith, e), λ e. omega (arith, e), λ e. omega (arith, e), λ e. omega (arith, e), λ e. omega (arith, e), λ e. omega (arith, e), λ e. omega (arith, e));
   unplayed = λ e. absurd (omega (arith, e));
   left = left;
   complete = of_told source.left items (λ bytes. IsReceiveComplete bytes (SourceFailed source) (SinkFailed out) 7) whole
@@ -123,7 +123,7 @@ refused_ends source out err items stream.Memory whole within cause leaves left s
   prefix = λ e. absurd (omega (arith, e));
   no_memory = λ e. of_told source.left items (λ bytes. (out.written' ≡ out.written) ⊎ IsReceivedInPart bytes out.written out.written') whole leaves;
   cut = λ e. absurd (omega (arith, e));
-  others = (λ e. omega (arith, e), λ e. omega (arith, e), λ e. omega (arith, e), λ e. omega (arith, e), λ e. omega (arith, e), λ e. omega (arith, e));
+  others = (λ e. omega (arith, e), λ e. omega (arith, e), λ e. omega (arith, e), λ e. omega (arith, e), λ e. omega (arith, e), λ e. omega (arith, e), λ e. omega (arith, e));
   unplayed = λ e. absurd (omega (arith, e));
   left = left;
   complete = of_any source.left (λ bytes. IsReceiveComplete bytes (SourceFailed source) (SinkFailed out) 8) (λ bytes. memory_complete bytes (SourceFailed source) (SinkFailed out));
@@ -143,7 +143,7 @@ unread_ends source out err faults.TooLong cause unwritten left said = record {
   prefix = λ e. absurd (omega (arith, e));
   no_memory = λ e. absurd (omega (arith, e));
   cut = λ e. absurd (omega (arith, e));
-  others = (λ e. omega (arith, e), λ e. omega (arith, e), λ e. omega (arith, e), λ e. omega (arith, e), λ e. omega (arith, e), λ e. omega (arith, e));
+  others = (λ e. omega (arith, e), λ e. omega (arith, e), λ e. omega (arith, e), λ e. omega (arith, e), λ e. omega (arith, e), λ e. omega (arith, e), λ e. omega (arith, e));
   unplayed = λ e. unwritten;
   left = left;
   complete = some_of source.left IsTooLong (λ bytes. IsReceiveComplete bytes (SourceFailed source) (SinkFailed out) 5) (λ bytes long. long_complete bytes (SourceFailed source) (SinkFailed out) long) cause;
@@ -157,7 +157,7 @@ unread_ends source out err faults.ReadFault cause unwritten left said = record {
   prefix = λ e. absurd (omega (arith, e));
   no_memory = λ e. absurd (omega (arith, e));
   cut = λ e. absurd (omega (arith, e));
-  others = (λ e. omega (arith, e), λ e. omega (arith, e), λ e. omega (arith, e), λ e. omega (arith, e), λ e. omega (arith, e), λ e. omega (arith, e));
+  others = (λ e. omega (arith, e), λ e. omega (arith, e), λ e. omega (arith, e), λ e. omega (arith, e), λ e. omega (arith, e), λ e. omega (arith, e), λ e. omega (arith, e));
   unplayed = λ e. unwritten;
   left = left;
   complete = of_any source.left (λ bytes. IsReceiveComplete bytes (SourceFailed source) (SinkFailed out) 6) (λ bytes. unread_complete bytes (SourceFailed source) (SinkFailed out) cause);
@@ -172,7 +172,7 @@ unread_ends source out err faults.Memory cause unwritten left said = record {
   prefix = λ e. absurd (omega (arith, e));
   no_memory = λ e. of_any source.left (λ bytes. (out.written' ≡ out.written) ⊎ IsReceivedInPart bytes out.written out.written') (λ bytes. inl unwritten);
   cut = λ e. absurd (omega (arith, e));
-  others = (λ e. omega (arith, e), λ e. omega (arith, e), λ e. omega (arith, e), λ e. omega (arith, e), λ e. omega (arith, e), λ e. omega (arith, e));
+  others = (λ e. omega (arith, e), λ e. omega (arith, e), λ e. omega (arith, e), λ e. omega (arith, e), λ e. omega (arith, e), λ e. omega (arith, e), λ e. omega (arith, e));
   unplayed = λ e. absurd (omega (arith, e));
   left = left;
   complete = of_any source.left (λ bytes. IsReceiveComplete bytes (SourceFailed source) (SinkFailed out) 8) (λ bytes. memory_complete bytes (SourceFailed source) (SinkFailed out));

@@ -5,9 +5,9 @@ use Rattle.net_addresses.specs.Addresses.{NetworkText}
 use Rattle.dsd_addresses.specs.Remotes.{RemoteText}
 use Rattle.drive_script.specs.Faults.{fault_text}
 use Rattle.drive_script.specs.declared.faults.DriveFault.TheVariants as faults
-use Rattle.program_words.specs.Answers.{IsDriveTo, IsMergeWords, IsNoDriveStatus, IsReceiveWords, IsSaidText, IsUnplayed, usage_text}
+use Rattle.program_words.specs.Answers.{IsDriveTo, IsMergeWords, IsNoDriveStatus, IsReceiveWords, IsRulesWords, IsSaidText, IsUnplayed, usage_text}
 use Rattle.program_words.specs.BenchWords.{AreBenchWords}
-use Rattle.program_words.specs.Commands.{AreOfBench, AreOfDrive, AreOfMerge, AreOfReceive, AreOfServe, IsForm}
+use Rattle.program_words.specs.Commands.{AreOfBench, AreOfDrive, AreOfServe, AreOfWord, IsForm, IsStreamWords}
 use Rattle.program_words.specs.Devices.{SinkRun, SinkFailed}
 use Rattle.program_words.specs.Ends as ends
 use Rattle.program_words.specs.Ends.{ComesOf, IsUsageEnd, LeavesOthers}
@@ -41,11 +41,12 @@ drive_comes words to err status number drives is others = subst (λ n. ComesOf w
   listener_failed = λ e. absurd (others (inr (inl e)));
   bad_stream = λ e. absurd (others (inr (inr (inl e))));
   conflict = λ e. absurd (others (inr (inr (inr (inl e)))));
-  cut_stream = λ e. absurd (others (inr (inr (inr (inr e)))));
+  cut_stream = λ e. absurd (others (inr (inr (inr (inr (inl e))))));
+  bad_rules = λ e. absurd (others (inr (inr (inr (inr (inr e))))));
 })
 
 pub serve_comes : (words : List (List ℕ)) (count : ℕ) (networks : List NetworkText) (err : SinkRun) (status number : ℕ) → AreServeWords words count networks → number ≡ status
-    → (status ≢ 2) × (status ≢ 7) × (status ≢ 10) × (status ≢ 11) × (status ≢ 12) → ComesOf words err number
+    → (status ≢ 2) × (status ≢ 7) × (status ≢ 10) × (status ≢ 11) × (status ≢ 12) × (status ≢ 13) → ComesOf words err number
 serve_comes words count networks err status number serves is others = subst (λ n. ComesOf words err n) (sym is) (record {
   no_form = λ none. absurd (none (inr (inl (count, networks, serves))));
   usage = λ e. absurd (others.0 e);
@@ -58,6 +59,7 @@ serve_comes words count networks err status number serves is others = subst (λ 
   bad_stream = λ e. absurd (others.2 e);
   conflict = λ e. absurd (others.3 e);
   cut_stream = λ e. absurd (others.4 e);
+  bad_rules = λ e. absurd (others.5 e);
 })
 
 pub bench_comes : (words : List (List ℕ)) (count : ℕ) (err : SinkRun) (status number : ℕ) → AreBenchWords words count → number ≡ status → (status ≡ 0) ⊎ ((status ≡ 7) ⊎ (status ≡ 8)) → ComesOf words err number
@@ -73,9 +75,10 @@ bench_comes words count err status number benches is only = subst (λ n. ComesOf
   bad_stream = λ e. absurd (grind (arith, e, only));
   conflict = λ e. absurd (grind (arith, e, only));
   cut_stream = λ e. absurd (grind (arith, e, only));
+  bad_rules = λ e. absurd (grind (arith, e, only));
 })
 
-pub merge_comes : (words : List (List ℕ)) (err : SinkRun) (status number : ℕ) → IsMergeWords words → number ≡ status → (status ≢ 2) × (status ≢ 3) × (status ≢ 4) × (status ≢ 9) × (status ≢ 12) → ComesOf words err number
+pub merge_comes : (words : List (List ℕ)) (err : SinkRun) (status number : ℕ) → IsMergeWords words → number ≡ status → (status ≢ 2) × (status ≢ 3) × (status ≢ 4) × (status ≢ 9) × (status ≢ 12) × (status ≢ 13) → ComesOf words err number
 merge_comes words err status number merges is others = subst (λ n. ComesOf words err n) (sym is) (record {
   no_form = λ none. absurd (none (inr (inr (inr (inl merges)))));
   usage = λ e. absurd (others.0 e);
@@ -85,25 +88,44 @@ merge_comes words err status number merges is others = subst (λ n. ComesOf word
   read_failed = λ e. inr (inl merges);
   write_failed = λ e. inr (inr (inl merges));
   listener_failed = λ e. absurd (others.3 e);
-  bad_stream = λ e. merges;
+  bad_stream = λ e. inl merges;
   conflict = λ e. merges;
   cut_stream = λ e. absurd (others.4 e);
+  bad_rules = λ e. absurd (others.5 e);
 })
 
 pub receive_comes : (words : List (List ℕ)) (err : SinkRun) (status number : ℕ) → IsReceiveWords words → number ≡ status
-    → (status ≢ 2) × (status ≢ 3) × (status ≢ 4) × (status ≢ 9) × (status ≢ 10) × (status ≢ 11) → ComesOf words err number
+    → (status ≢ 2) × (status ≢ 3) × (status ≢ 4) × (status ≢ 9) × (status ≢ 10) × (status ≢ 11) × (status ≢ 13) → ComesOf words err number
 receive_comes words err status number receives is others = subst (λ n. ComesOf words err n) (sym is) (record {
-  no_form = λ none. absurd (none (inr (inr (inr (inr receives)))));
+  no_form = λ none. absurd (none (inr (inr (inr (inr (inl receives))))));
   usage = λ e. absurd (others.0 e);
   bad_script = λ e. absurd (others.1 e);
   refused_setting = λ e. absurd (others.2 e);
-  too_long = λ e. inr (inr receives);
-  read_failed = λ e. inr (inr receives);
-  write_failed = λ e. inr (inr (inr receives));
+  too_long = λ e. inr (inr (inl receives));
+  read_failed = λ e. inr (inr (inl receives));
+  write_failed = λ e. inr (inr (inr (inl receives)));
   listener_failed = λ e. absurd (others.3 e);
   bad_stream = λ e. absurd (others.4 e);
   conflict = λ e. absurd (others.5 e);
   cut_stream = λ e. receives;
+  bad_rules = λ e. absurd (others.6 e);
+})
+
+pub rules_comes : (words : List (List ℕ)) (err : SinkRun) (status number : ℕ) → IsRulesWords words → number ≡ status
+    → (status ≢ 2) × (status ≢ 3) × (status ≢ 4) × (status ≢ 9) × (status ≢ 11) × (status ≢ 12) → ComesOf words err number
+rules_comes words err status number rules is others = subst (λ n. ComesOf words err n) (sym is) (record {
+  no_form = λ none. absurd (none (inr (inr (inr (inr (inr rules))))));
+  usage = λ e. absurd (others.0 e);
+  bad_script = λ e. absurd (others.1 e);
+  refused_setting = λ e. absurd (others.2 e);
+  too_long = λ e. inr (inr (inr rules));
+  read_failed = λ e. inr (inr (inr rules));
+  write_failed = λ e. inr (inr (inr (inr rules)));
+  listener_failed = λ e. absurd (others.3 e);
+  bad_stream = λ e. inr rules;
+  conflict = λ e. absurd (others.4 e);
+  cut_stream = λ e. absurd (others.5 e);
+  bad_rules = λ e. rules;
 })
 
 pub none_comes : (words : List (List ℕ)) (err : SinkRun) (number : ℕ) → ¬ IsForm words → number ≡ 2
@@ -120,6 +142,7 @@ none_comes words err number none is said = subst (λ n. ComesOf words err n) (sy
   bad_stream = λ e. absurd (omega (arith, e));
   conflict = λ e. absurd (omega (arith, e));
   cut_stream = λ e. absurd (omega (arith, e));
+  bad_rules = λ e. absurd (omega (arith, e));
 })
 
 pub memory_comes : (words : List (List ℕ)) (err : SinkRun) (number : ℕ) → number ≡ 8
@@ -136,6 +159,7 @@ memory_comes words err number is said = subst (λ n. ComesOf words err n) (sym i
   bad_stream = λ e. absurd (omega (arith, e));
   conflict = λ e. absurd (omega (arith, e));
   cut_stream = λ e. absurd (omega (arith, e));
+  bad_rules = λ e. absurd (omega (arith, e));
 })
 
 -- ---- what they leave alone; each last fact says that a device is as it was
@@ -174,26 +198,15 @@ bench_leaves words count S K L N number are unread unsent unserved = record {
   no_form_leaves = λ none. absurd (none (inr (inr (inl (count, are.benches)))));
 }
 
-pub merge_leaves : (words : List (List ℕ)) (S K L N : Type 0) (number : ℕ) → AreOfMerge words → L → N → LeavesOthers words S K L N number
-merge_leaves words S K L N number are unsent unserved = record {
+pub stream_leaves : (words : List (List ℕ)) (word : List ℕ) (S K L N : Type 0) (number : ℕ) → AreOfWord words word → IsStreamWords words → L → N → LeavesOthers words S K L N number
+stream_leaves words word S K L N number are streams unsent unserved = record {
   only_drive_sends = λ no. unsent;
   unsent = λ e. unsent;
   only_serve_listens = λ no. unserved;
   unserved = λ e. unserved;
   serve_writes_none = λ serves. absurd (are.no_serve serves);
   bench_reads_none = λ benches. absurd (are.no_bench benches);
-  no_form_leaves = λ none. absurd (none (inr (inr (inr (inl are.merges)))));
-}
-
-pub receive_leaves : (words : List (List ℕ)) (S K L N : Type 0) (number : ℕ) → AreOfReceive words → L → N → LeavesOthers words S K L N number
-receive_leaves words S K L N number are unsent unserved = record {
-  only_drive_sends = λ no. unsent;
-  unsent = λ e. unsent;
-  only_serve_listens = λ no. unserved;
-  unserved = λ e. unserved;
-  serve_writes_none = λ serves. absurd (are.no_serve serves);
-  bench_reads_none = λ benches. absurd (are.no_bench benches);
-  no_form_leaves = λ none. absurd (none (inr (inr (inr (inr are.receives)))));
+  no_form_leaves = λ none. absurd (none (inr (inr (inr streams))));
 }
 
 pub none_leaves : (words : List (List ℕ)) (S K L N : Type 0) (number : ℕ) → S → K → L → N → LeavesOthers words S K L N number

@@ -37,7 +37,7 @@ IsAddress [] to = to ≡ default_agent
 IsAddress (text ∷ []) to = IsRemote text to × IsServed to
 IsAddress (_ ∷ (_ ∷ _)) to = ⊥
 
--- the words of the command `drive`, alone or with the text of an address, and of the commands `merge` and `receive`
+-- the words of the command `drive`, alone or with the text of an address, and of the commands `merge`, `receive` and `rules`
 abbrev pub IsDriveTo : List (List ℕ) → RemoteText → Type 0
 IsDriveTo words to = (behind : List (List ℕ)) × (words ≡ codes "drive" ∷ behind) × IsAddress behind to
 
@@ -49,6 +49,9 @@ IsMergeWords words = words ≡ codes "merge" ∷ []
 
 abbrev pub IsReceiveWords : List (List ℕ) → Type 0
 IsReceiveWords words = words ≡ codes "receive" ∷ []
+
+abbrev pub IsRulesWords : List (List ℕ) → Type 0
+IsRulesWords words = words ≡ codes "rules" ∷ []
 
 -- the words of the command `drive` have this address and no other, or none
 abbrev pub HasAddress : List (List ℕ) → Option RemoteText → Type 0
@@ -151,11 +154,11 @@ pub record IsComplete (to : RemoteText) (bytes : List ℕ) (SourceFailed SinkFai
 -- the statuses after which no page was begun: the words are no form, or the input was refused or not read
 abbrev pub IsUnplayed : ℕ → Type 0
 IsUnplayed status =
-    (status ≡ 2) ⊎ ((status ≡ 3) ⊎ ((status ≡ 4) ⊎ ((status ≡ 5) ⊎ ((status ≡ 6) ⊎ ((status ≡ 10) ⊎ ((status ≡ 11) ⊎ (status ≡ 12)))))))
+    (status ≡ 2) ⊎ ((status ≡ 3) ⊎ ((status ≡ 4) ⊎ ((status ≡ 5) ⊎ ((status ≡ 6) ⊎ ((status ≡ 10) ⊎ ((status ≡ 11) ⊎ ((status ≡ 12) ⊎ (status ≡ 13))))))))
 
 -- the statuses that are none of the command `drive`
 abbrev pub IsNoDriveStatus : ℕ → Type 0
-IsNoDriveStatus status = (status ≡ 2) ⊎ ((status ≡ 9) ⊎ ((status ≡ 10) ⊎ ((status ≡ 11) ⊎ (status ≡ 12))))
+IsNoDriveStatus status = (status ≡ 2) ⊎ ((status ≡ 9) ⊎ ((status ≡ 10) ⊎ ((status ≡ 11) ⊎ ((status ≡ 12) ⊎ (status ≡ 13)))))
 
 -- What a status says of where the link is aimed: it is as before or at this address, and at this address where a page was written whole or a write failed.
 pub record IsAimed (to : RemoteText) (before after : Option RemoteText) (status : ℕ) : Type 0 where
@@ -172,7 +175,7 @@ pub record LeavesSource (bytes : List ℕ) (left : Option (List ℕ)) (status : 
 -- ---- lines on `err`
 
 abbrev pub usage_text : List ℕ
-usage_text = codes "usage: drive [ADDRESS] | serve COUNT [NETWORK ..] | bench N | merge | receive"
+usage_text = codes "usage: drive [ADDRESS] | serve COUNT [NETWORK ..] | bench N | merge | receive | rules"
 
 -- the report of a run: its pages, payloads sent and not sent, values left out
 abbrev pub report_text : Report → List ℕ

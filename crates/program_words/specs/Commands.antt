@@ -1,9 +1,9 @@
 -- The forms of words that a run may be called with (this project's rule).
-use Rattle.std.specs.Prelude.{◌≡◌, ℕ, ◌⊎◌, List, Option, Some, None}
+use Rattle.std.specs.Prelude.{◌≡◌, ℕ, ◌⊎◌, List, [], ◌∷◌, Option, Some, None, codes}
 use Rattle.net_addresses.specs.Addresses.{NetworkText}
 use Rattle.dsd_addresses.specs.Remotes.{RemoteText, remote_text}
 use Rattle.script_player.specs.Agent.{default_agent}
-use Rattle.program_words.specs.Answers.{IsDriveTo, IsDriveWords, IsMergeWords, IsReceiveWords}
+use Rattle.program_words.specs.Answers.{IsDriveTo, IsDriveWords, IsMergeWords, IsReceiveWords, IsRulesWords}
 use Rattle.program_words.specs.BenchWords.{AreBenchWords}
 use Rattle.program_words.specs.Serving.{AreServeWords}
 use Rattle.program_words.specs.declared.command.Command.{Command}
@@ -17,12 +17,12 @@ IsServeWords words = (count : ℕ) × (networks : List NetworkText) × AreServeW
 abbrev pub IsBenchWords : List (List ℕ) → Type 0
 IsBenchWords words = (count : ℕ) × AreBenchWords words count
 
--- the words of a command that reads a stream: of pages, or of payloads
+-- the words of a command that reads a stream: of pages, of payloads, or of rules and pages
 abbrev pub IsStreamWords : List (List ℕ) → Type 0
-IsStreamWords words = IsMergeWords words ⊎ IsReceiveWords words
+IsStreamWords words = IsMergeWords words ⊎ (IsReceiveWords words ⊎ IsRulesWords words)
 
--- the words of the five forms: the command `drive`, alone or with the text of an address; the commands `serve`, `bench`, `merge` and
--- `receive`
+-- the words of the six forms: the command `drive`, alone or with the text of an address; the commands `serve`, `bench`, `merge`,
+-- `receive` and `rules`
 abbrev pub IsForm : List (List ℕ) → Type 0
 IsForm words = IsDriveWords words ⊎ (IsServeWords words ⊎ (IsBenchWords words ⊎ IsStreamWords words))
 
@@ -58,21 +58,12 @@ pub record AreOfBench (words : List (List ℕ)) (count : ℕ) : Type 0 where
   pub no_serve : ¬ IsServeWords words
   pub no_stream : ¬ IsStreamWords words
 
--- of the command `merge`
-pub record AreOfMerge (words : List (List ℕ)) : Type 0 where
-  pub merges : IsMergeWords words
+-- of a command that is this word alone
+pub record AreOfWord (words : List (List ℕ)) (word : List ℕ) : Type 0 where
+  pub are : words ≡ word ∷ []
   pub no_drive : ¬ IsDriveWords words
   pub no_serve : ¬ IsServeWords words
   pub no_bench : ¬ IsBenchWords words
-  pub no_receive : ¬ IsReceiveWords words
-
--- of the command `receive`
-pub record AreOfReceive (words : List (List ℕ)) : Type 0 where
-  pub receives : IsReceiveWords words
-  pub no_drive : ¬ IsDriveWords words
-  pub no_serve : ¬ IsServeWords words
-  pub no_bench : ¬ IsBenchWords words
-  pub no_merge : ¬ IsMergeWords words
 
 -- the words write this command and no other, or none
 abbrev pub HasCommand : List (List ℕ) → Option Command → Type 0
@@ -80,5 +71,6 @@ HasCommand words None = ¬ IsForm words
 HasCommand words (Some (command.Drive to)) = AreOfDrive words (remote_text to)
 HasCommand words (Some (command.Serve count networks)) = AreOfServe words count networks.items
 HasCommand words (Some (command.Bench count)) = AreOfBench words count
-HasCommand words (Some command.Merge) = AreOfMerge words
-HasCommand words (Some command.Receive) = AreOfReceive words
+HasCommand words (Some command.Merge) = AreOfWord words (codes "merge")
+HasCommand words (Some command.Receive) = AreOfWord words (codes "receive")
+HasCommand words (Some command.Rules) = AreOfWord words (codes "rules")

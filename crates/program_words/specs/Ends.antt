@@ -9,12 +9,14 @@ use Rattle.drive_script.specs.Faults.{fault_text}
 use Rattle.drive_script.specs.declared.faults.DriveFault.TheVariants as faults
 use Rattle.drive_script.specs.declared.faults.SettingFault.{SettingFault}
 use Rattle.script_player.specs.Agent.{default_agent}
-use Rattle.program_words.specs.Answers.{IsAimed, IsBadScript, IsComplete, IsDriveWords, IsLineOf, IsMergeWords, IsReceiveWords, IsNoDriveStatus, IsRefusedSetting, IsReported, IsReportedInPart, IsTooLong, IsUnbegun, IsUnplayed, LeavesSource, Says, usage_text}
+use Rattle.program_words.specs.Answers.{IsAimed, IsBadScript, IsComplete, IsDriveWords, IsLineOf, IsMergeWords, IsReceiveWords, IsRulesWords, IsNoDriveStatus, IsRefusedSetting, IsReported, IsReportedInPart, IsTooLong, IsUnbegun, IsUnplayed, LeavesSource, Says, usage_text}
 use Rattle.script_player.specs.Benched.{IsBenched, IsBenchedInPart}
 use Rattle.program_words.specs.BenchSaid.{IsBenchLineOf}
 use Rattle.program_words.specs.Commands.{IsBenchWords, IsForm, IsScriptWords, IsServeWords, IsStreamWords}
 use Rattle.program_words.specs.Devices.{SourceRun, SinkRun, LinkRun, ListenerRun, SourceFailed, SinkFailed, ListenerFailed}
 use Rattle.script_player.specs.Headline.{IsPlayed, IsPlayedInPart}
+use Rattle.rule_eval.specs.Streams.{IsEvaluated, IsEvaluatedInPart}
+use Rattle.program_words.specs.Evaluate.{AreBadPages, AreBadRules, IsEvaluationComplete, IsEvaluationLineOf}
 use Rattle.program_words.specs.Receive.{IsCutStream, IsReceiveComplete, IsReceiveLineOf}
 use Rattle.program_words.specs.Relay.{IsBadStream, IsRelayComplete, IsRelayLineOf, IsRelayed, IsRelayedInPart, IsUnmergeable, IsWithinLimit}
 use Rattle.program_words.specs.Serving.{IsScriptServed, IsScriptServedInPart, IsServeComplete, IsServeLineOf}
@@ -91,7 +93,7 @@ pub record IsServeEnd (count : ℕ) (networks : List NetworkText) (source : Sour
   pub in_part : status ≡ 9
       → IfSome source.left (λ bytes. IsScriptServedInPart bytes networks count 0 listener.told listener.told')
   -- no other status comes
-  pub others : (status ≢ 2) × (status ≢ 7) × (status ≢ 10) × (status ≢ 11) × (status ≢ 12)
+  pub others : (status ≢ 2) × (status ≢ 7) × (status ≢ 10) × (status ≢ 11) × (status ≢ 12) × (status ≢ 13)
   -- how much of the source was read
   pub left : IfSome source.left (λ bytes. LeavesSource bytes source.left' status)
   -- each cause brings its status, or 8, where no device failed
@@ -139,7 +141,7 @@ pub record IsMergeEnd (source : SourceRun) (out err : SinkRun) (status : ℕ) : 
   pub conflict : status ≡ 11
       → IfSome source.left (λ bytes. (page : ℕ) × (name : List ℕ) × IsUnmergeable bytes page name)
   -- no other status comes
-  pub others : (status ≢ 2) × (status ≢ 3) × (status ≢ 4) × (status ≢ 9) × (status ≢ 12)
+  pub others : (status ≢ 2) × (status ≢ 3) × (status ≢ 4) × (status ≢ 9) × (status ≢ 12) × (status ≢ 13)
   -- after 5, 6, 10 and 11 nothing was written
   pub unplayed : IsUnplayed status → out.written' ≡ out.written
   -- how much of the source was read
@@ -168,7 +170,7 @@ pub record IsReceiveEnd (source : SourceRun) (out err : SinkRun) (status : ℕ) 
   -- 12: the bytes end within a frame
   pub cut : status ≡ 12 → IfSome source.left (λ bytes. (count : ℕ) × IsCutStream bytes count)
   -- no other status comes
-  pub others : (status ≢ 2) × (status ≢ 3) × (status ≢ 4) × (status ≢ 9) × (status ≢ 10) × (status ≢ 11)
+  pub others : (status ≢ 2) × (status ≢ 3) × (status ≢ 4) × (status ≢ 9) × (status ≢ 10) × (status ≢ 11) × (status ≢ 13)
   -- after 5, 6 and 12 nothing was written
   pub unplayed : IsUnplayed status → out.written' ≡ out.written
   -- how much of the source was read
@@ -177,6 +179,40 @@ pub record IsReceiveEnd (source : SourceRun) (out err : SinkRun) (status : ℕ) 
   pub complete : IfSome source.left (λ bytes. IsReceiveComplete bytes (SourceFailed source) (SinkFailed out) status)
   -- `err` has the line of the status
   pub said : Says err (IsReceiveLineOf source.left status)
+
+-- the word `rules`
+pub record IsRulesEnd (source : SourceRun) (out err : SinkRun) (status : ℕ) : Type 0 where
+  -- 0: the bytes are rules and a stream of pages, and a line for each group that fires on a page was written
+  pub evaluated : status ≡ 0
+      → IfSome source.left (λ bytes. IsWithinLimit bytes × IsEvaluated bytes out.written out.written')
+  -- 5: the bytes are longer than the limit
+  pub too_long : status ≡ 5 → IfSome source.left IsTooLong
+  -- 6: the source failed
+  pub read_failed : status ≡ 6 → SourceFailed source
+  -- 7: the sink failed
+  pub write_failed : status ≡ 7 → SinkFailed out
+  -- then a prefix of the lines was written
+  pub prefix : status ≡ 7 → IfSome source.left (λ bytes. IsEvaluatedInPart bytes out.written out.written')
+  -- 10: behind the rules stands no stream, with its first bad line
+  pub bad_pages : status ≡ 10 → IfSome source.left (λ bytes. (l : ℕ) × AreBadPages bytes l)
+  -- 13: the bytes are no rules, with the first line that is none
+  pub bad_rules : status ≡ 13 → IfSome source.left (λ bytes. (l : ℕ) × AreBadRules bytes l)
+  -- no other status comes, but for 8
+  pub others : (status ≢ 2) × (status ≢ 3) × (status ≢ 4) × (status ≢ 9) × (status ≢ 11) × (status ≢ 12)
+  -- after 5, 6, 8, 10 and 13 nothing was written
+  pub unwritten : (status ≡ 8) ⊎ IsUnplayed status → out.written' ≡ out.written
+  -- how much of the source was read
+  pub left : IfSome source.left (λ bytes. LeavesSource bytes source.left' status)
+  -- each cause brings its status, or 8, where no device failed
+  pub complete : IfSome source.left (λ bytes. IsEvaluationComplete bytes (SourceFailed source) (SinkFailed out) status)
+  -- `err` has the line of the status
+  pub said : Says err (IsEvaluationLineOf source.left status)
+
+-- the words that read a stream
+pub record IsStreamEnd (words : List (List ℕ)) (source : SourceRun) (out err : SinkRun) (status : ℕ) : Type 0 where
+  pub merge : IsMergeWords words → IsMergeEnd source out err status
+  pub receive : IsReceiveWords words → IsReceiveEnd source out err status
+  pub rules : IsRulesWords words → IsRulesEnd source out err status
 
 -- the line that a status has where the words are no form
 pub data IsUsageLineOf : ℕ → List ℕ → Type 0 where
@@ -200,9 +236,10 @@ pub record ComesOf (words : List (List ℕ)) (err : SinkRun) (status : ℕ) : Ty
   pub read_failed : status ≡ 6 → IsScriptWords words ⊎ IsStreamWords words
   pub write_failed : status ≡ 7 → IsDriveWords words ⊎ (IsBenchWords words ⊎ IsStreamWords words)
   pub listener_failed : status ≡ 9 → IsServeWords words
-  pub bad_stream : status ≡ 10 → IsMergeWords words
+  pub bad_stream : status ≡ 10 → IsMergeWords words ⊎ IsRulesWords words
   pub conflict : status ≡ 11 → IsMergeWords words
   pub cut_stream : status ≡ 12 → IsReceiveWords words
+  pub bad_rules : status ≡ 13 → IsRulesWords words
 
 -- What stays as it was, which is told by a fact for each device: what a word has no use for, and, where no script is
 -- played, the link and the listener.
@@ -210,7 +247,7 @@ pub record LeavesOthers (words : List (List ℕ)) (SameSource SameOut SameLink S
     (status : ℕ) : Type 0 where
   -- only `drive` touches the link
   pub only_drive_sends : ¬ IsDriveWords words → SameLink
-  -- and nothing is sent after 2 to 6 and 10 to 12
+  -- and nothing is sent after 2 to 6 and 10 to 13
   pub unsent : IsUnplayed status → SameLink
   -- only `serve` touches the listener
   pub only_serve_listens : ¬ IsServeWords words → SameListener

@@ -6,6 +6,7 @@ pub mod Commands
 pub mod BenchSaid
 pub mod Receive
 pub mod Relay
+pub mod Evaluate
 pub mod Devices
 pub mod Statuses
 pub mod Ends

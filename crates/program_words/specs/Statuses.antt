@@ -16,3 +16,4 @@ status_number statuses.ListenerFailed = 9
 status_number statuses.BadStream = 10
 status_number statuses.Conflict = 11
 status_number statuses.CutStream = 12
+status_number statuses.BadRules = 13

@@ -3,10 +3,10 @@
 ghost use Rattle.std.specs.Prelude.{◌≡◌, ℕ, List, IfSome};
 ghost use Rattle.net_addresses.specs.Addresses.{NetworkText};
 ghost use Rattle.dsd_addresses.specs.Remotes.{RemoteText};
-ghost use Rattle.program_words.specs.Answers.{texts_of, IsDriveTo, IsDriveWords, IsMergeWords, IsReceiveWords};
+ghost use Rattle.program_words.specs.Answers.{texts_of, IsDriveTo, IsDriveWords};
 ghost use Rattle.program_words.specs.BenchWords.{AreBenchWords};
 ghost use Rattle.program_words.specs.Devices.{link_run, listener_run, sink_run, source_run};
-ghost use Rattle.program_words.specs.Ends.{ComesOf, IsBenchEnd, IsDriveEnd, IsMergeEnd, IsReceiveEnd, IsServeEnd, LeavesOthers};
+ghost use Rattle.program_words.specs.Ends.{ComesOf, IsBenchEnd, IsDriveEnd, IsServeEnd, IsStreamEnd, LeavesOthers};
 ghost use Rattle.script_player.specs.Headline.{IsPlayed};
 ghost use Rattle.program_words.specs.Serving.{AreServeWords};
 ghost use Rattle.program_words.specs.Statuses.{status_number};
@@ -66,10 +66,7 @@ pub fn answer<
         (listener_run N.given N.finished N.lost N.faults listener.old listener.new) result }
     ensures bench { (count : ℕ) → AreBenchWords (texts_of words.now) count → IsBenchEnd count
         (sink_run K.written K.faults out.old out.new) (sink_run E.written E.faults err.old err.new) result }
-    ensures merge { IsMergeWords (texts_of words.now) → IsMergeEnd (source_run S.left S.faults source.old source.new)
-        (sink_run K.written K.faults out.old out.new) (sink_run E.written E.faults err.old err.new) result }
-    ensures receive { IsReceiveWords (texts_of words.now)
-        → IsReceiveEnd (source_run S.left S.faults source.old source.new)
+    ensures streams { IsStreamEnd (texts_of words.now) (source_run S.left S.faults source.old source.new)
         (sink_run K.written K.faults out.old out.new) (sink_run E.written E.faults err.old err.new) result }
     ensures statuses { AsksForNone (texts_of words.now)
         → ComesOf (texts_of words.now) (sink_run E.written E.faults err.old err.new) result }

@@ -25,6 +25,8 @@ pub enum Command {
     Merge,
     /// Payloads become a page.
     Receive,
+    /// Rules are held to pages.
+    Rules,
 }
 
 /// The command that the words write, or none where they write none.
@@ -36,6 +38,9 @@ pub(crate) fn read_command(alloc: Global, words: &[&str]) -> Result<Option<Comma
     }
     if is_word(words, "receive") {
         return Ok(Some(Command::Receive));
+    }
+    if is_word(words, "rules") {
+        return Ok(Some(Command::Rules));
     }
     if let Some(to) = drive_address(alloc, words)? {
         return Ok(Some(Command::Drive(to)));

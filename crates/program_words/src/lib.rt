@@ -1,7 +1,8 @@
 //! What the program does with the words behind its name. It answers those that ask for its help text or its version. All others are those
 //! of a run: a script is read from a source and played, a page for each round written and a flush sent; or the page of a script is served;
 //! or a generated script is played; or pages are read from a source, and the one page that they become is written; or payloads are read, and
-//! the page that they make is written. A run ends with a status and a line that says why.
+//! the page that they make is written; or rules and pages are read, and what fires is written. A run ends with a status and a line that says
+//! why.
 //!
 //! An answer over devices in memory:
 //!

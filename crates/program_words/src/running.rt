@@ -3,11 +3,12 @@
 ghost use Rattle.std.specs.Prelude.{◌≡◌, ◌≤◌, ℕ, List, IfSome};
 ghost use Rattle.net_addresses.specs.Addresses.{NetworkText};
 ghost use Rattle.dsd_addresses.specs.Remotes.{RemoteText, remote_text};
-ghost use Rattle.program_words.specs.Answers.{fault_status, texts_of, IsDriveTo, IsDriveWords, IsMergeWords, IsReceiveWords, IsUnplayed};
+ghost use Rattle.program_words.specs.Answers.{fault_status, texts_of, IsDriveTo, IsDriveWords, IsUnplayed};
 ghost use Rattle.program_words.specs.BenchWords.{AreBenchWords};
 ghost use Rattle.program_words.specs.Devices.{link_run, listener_run, sink_run, source_run};
-ghost use Rattle.program_words.specs.Ends.{ComesOf, IsBenchEnd, IsDriveEnd, IsMergeEnd, IsReceiveEnd, IsServeEnd, LeavesOthers};
+ghost use Rattle.program_words.specs.Ends.{ComesOf, IsBenchEnd, IsDriveEnd, IsMergeEnd, IsReceiveEnd, IsRulesEnd, IsServeEnd, IsStreamEnd, LeavesOthers};
 ghost use Rattle.script_player.specs.Headline.{IsPlayed};
+ghost use Rattle.program_words.specs.Evaluate.{evaluation_status};
 ghost use Rattle.program_words.specs.Receive.{stream_status};
 ghost use Rattle.program_words.specs.Relay.{relay_status};
 ghost use Rattle.program_words.specs.Serving.{serve_status, AreServeWords};
@@ -19,7 +20,8 @@ use crate::driving::drive;
 use crate::reading::read_all;
 use crate::relaying::relay;
 use crate::say::{
-    say_fault, say_merged, say_received, say_relay_fault, say_report, say_stream_fault, say_usage,
+    say_evaluated, say_evaluation_fault, say_fault, say_merged, say_received, say_relay_fault,
+    say_report, say_stream_fault, say_usage,
 };
 use crate::serving::serve_script;
 use crate::serving_lines::{say_serve_fault, say_served};
@@ -33,6 +35,7 @@ use metrics_core::{Sink, Source};
 use net_addresses::Network;
 use page_relay::RelayFault;
 use prom_serve::Listener;
+use rule_eval::{EvaluationFault, evaluate};
 use script_player::{Gate, bench};
 use std::alloc::Global;
 use std::net::{Net, TcpListener, TcpStream};
@@ -51,6 +54,7 @@ use std::thread::Threads;
 /// script are played, its payloads go nowhere, and the page of the last round is written to `out`. For the word `merge` the whole
 /// source is read as pages that stand one after the other, and the one page that they become is written to `out`. For the word `receive`
 /// it is read as DogStatsD payloads, each led by its length, and the page, at moment 0, of an exporter that received their lines is written to `out`.
+/// For the word `rules` it is read as rules and the pages that they are held to, and a line for each group that fires on a page is written to `out`.
 pub fn run<
     R: Net<Listener = TcpListener, Stream = TcpStream> + RandomSource + Threads + Wait + Sync,
     S: Source,
@@ -86,10 +90,7 @@ pub fn run<
         (listener_run N.given N.finished N.lost N.faults listener.old listener.new) result }
     ensures bench { (count : ℕ) → AreBenchWords (texts_of words.now) count → IsBenchEnd count
         (sink_run K.written K.faults out.old out.new) (sink_run E.written E.faults err.old err.new) result }
-    ensures merge { IsMergeWords (texts_of words.now) → IsMergeEnd (source_run S.left S.faults source.old source.new)
-        (sink_run K.written K.faults out.old out.new) (sink_run E.written E.faults err.old err.new) result }
-    ensures receive { IsReceiveWords (texts_of words.now)
-        → IsReceiveEnd (source_run S.left S.faults source.old source.new)
+    ensures streams { IsStreamEnd (texts_of words.now) (source_run S.left S.faults source.old source.new)
         (sink_run K.written K.faults out.old out.new) (sink_run E.written E.faults err.old err.new) result }
 
     // All words: which of them a status comes of, what comes of those that are no form, and what they leave alone.
@@ -110,6 +111,9 @@ pub fn run<
         }
         Ok(Some(Command::Receive)) => {
             run_receive(rt, alloc, HashStart::drawn(rt), source, out, err).number()
+        }
+        Ok(Some(Command::Rules)) => {
+            run_rules(alloc, HashStart::drawn(rt), source, out, err).number()
         }
         Ok(None) => {
             say_usage(err);
@@ -280,6 +284,37 @@ fn run_receive<R: Wait, S: Source, K: Sink, E: Sink>(
     }
 }
 
+/// Does what the word `rules` asks for.
+fn run_rules<S: Source, K: Sink, E: Sink>(
+    alloc: Global,
+    start: HashStart,
+    source: &mut S,
+    out: &mut K,
+    err: &mut E,
+) -> Status
+    ensures ends { IsRulesEnd (source_run S.left S.faults source.old source.new)
+        (sink_run K.written K.faults out.old out.new) (sink_run E.written E.faults err.old err.new)
+        (status_number result) }
+{
+    let bytes = match read_all(alloc, source) {
+        Ok(bytes) => bytes,
+        Err(fault) => {
+            say_fault(err, fault);
+            return status_of(fault);
+        }
+    };
+    match evaluate(alloc, start, &bytes, out) {
+        Ok(evaluated) => {
+            say_evaluated(err, &evaluated);
+            Status::Done
+        }
+        Err(fault) => {
+            say_evaluation_fault(err, fault);
+            evaluation_status_of(fault)
+        }
+    }
+}
+
 /// The status that a fault ends the program with.
 fn status_of(fault: DriveFault) -> Status
     ensures { status_number result ≡ fault_status fault }
@@ -324,5 +359,17 @@ fn stream_status_of(fault: StreamFault) -> Status
         StreamFault::Cut { frames: _ } => Status::CutStream,
         StreamFault::WriteFault => Status::WriteFailed,
         StreamFault::Memory => Status::NoMemory,
+    }
+}
+
+/// The status that a fault of rules ends the program with.
+fn evaluation_status_of(fault: EvaluationFault) -> Status
+    ensures { status_number result ≡ evaluation_status fault }
+{
+    match fault {
+        EvaluationFault::Rules { line: _ } => Status::BadRules,
+        EvaluationFault::Pages { line: _ } => Status::BadStream,
+        EvaluationFault::WriteFault => Status::WriteFailed,
+        EvaluationFault::Memory => Status::NoMemory,
     }
 }

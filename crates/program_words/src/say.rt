@@ -7,6 +7,7 @@ ghost use Rattle.metrics_core.specs.Outside.{Rose};
 ghost use Rattle.dsd_addresses.specs.Faults.{limit_fault_text, limit_text};
 ghost use Rattle.drive_script.specs.Faults.{fault_text, setting_text};
 ghost use Rattle.program_words.specs.Answers.{IsSaidText, report_text, usage_text};
+ghost use Rattle.program_words.specs.Evaluate.{evaluated_line, evaluation_fault_text};
 ghost use Rattle.program_words.specs.Receive.{received_text, stream_fault_text};
 ghost use Rattle.program_words.specs.Relay.{merged_text, relay_fault_text};
 
@@ -16,6 +17,7 @@ use dsd_receiver::{Received, StreamFault};
 use itoa::Buffer;
 use metrics_core::{Sink, write_whole};
 use page_relay::RelayFault;
+use rule_eval::{Evaluated, EvaluationFault};
 use script_player::Report;
 
 /// Says how the program is called.
@@ -24,7 +26,9 @@ pub(crate) fn say_usage<E: Sink>(err: &mut E)
 {
     say(
         err,
-        &[b"usage: drive [ADDRESS] | serve COUNT [NETWORK ..] | bench N | merge | receive\n"],
+        &[
+            b"usage: drive [ADDRESS] | serve COUNT [NETWORK ..] | bench N | merge | receive | rules\n",
+        ],
     );
 }
 
@@ -204,6 +208,49 @@ pub(crate) fn say_stream_fault<E: Sink>(err: &mut E, fault: StreamFault)
         }
         StreamFault::WriteFault => say(err, &[b"write failed\n"]),
         StreamFault::Memory => say(err, &[b"out of memory\n"]),
+    }
+}
+
+/// Says what was evaluated.
+pub(crate) fn say_evaluated<E: Sink>(err: &mut E, evaluated: &Evaluated)
+    ensures said { IsSaidText (Rose (E.faults err.old) (E.faults err.new))
+        (E.written err.old) (E.written err.new) (line (evaluated_line evaluated.now)) }
+{
+    let (mut pages, mut fired) = (Buffer::new(), Buffer::new());
+    say(
+        err,
+        &[
+            b"evaluated ",
+            pages.format(evaluated.pages).as_bytes(),
+            b" pages ",
+            fired.format(evaluated.fired).as_bytes(),
+            b" fired\n",
+        ],
+    );
+}
+
+/// Says why rules weren't evaluated.
+pub(crate) fn say_evaluation_fault<E: Sink>(err: &mut E, fault: EvaluationFault)
+    ensures said { IsSaidText (Rose (E.faults err.old) (E.faults err.new))
+        (E.written err.old) (E.written err.new) (line (evaluation_fault_text fault)) }
+{
+    match fault {
+        EvaluationFault::Rules { line } => {
+            let mut number = Buffer::new();
+            say(
+                err,
+                &[b"rules: line ", number.format(line).as_bytes(), b"\n"],
+            );
+        }
+        EvaluationFault::Pages { line } => {
+            let mut number = Buffer::new();
+            say(
+                err,
+                &[b"page: line ", number.format(line).as_bytes(), b"\n"],
+            );
+        }
+        EvaluationFault::WriteFault => say(err, &[b"write failed\n"]),
+        EvaluationFault::Memory => say(err, &[b"out of memory\n"]),
     }
 }
 

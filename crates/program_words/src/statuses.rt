@@ -30,6 +30,8 @@ pub enum Status {
     Conflict,
     /// The input ends within a payload.
     CutStream,
+    /// The input doesn't begin with rules.
+    BadRules,
 }
 
 impl Status {
@@ -50,6 +52,7 @@ impl Status {
             Status::BadStream => 10,
             Status::Conflict => 11,
             Status::CutStream => 12,
+            Status::BadRules => 13,
         }
     }
 }

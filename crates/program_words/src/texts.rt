@@ -12,17 +12,18 @@ const VERSION_TEXT: &str = "metrics_drive 0.3.0\n";
 const HELP_TEXT: &str = "\
 metrics_drive plays scripts of counters, gauges and histograms: it writes their Prometheus pages and sends their DogStatsD payloads.
 
-usage: drive [ADDRESS] | serve COUNT [NETWORK ..] | bench N | merge | receive
+usage: drive [ADDRESS] | serve COUNT [NETWORK ..] | bench N | merge | receive | rules
 
   drive [ADDRESS]           play a script: a page for each round, and payloads to IP:PORT, udp://IP:PORT or unix://PATH (127.0.0.1:8125 over UDP)
   serve COUNT [NETWORK ..]  play a script, and serve its last page at http://127.0.0.1:9000/ to COUNT connections, in the networks alone where some are given
   bench N                   play N rounds of a generated script, from 1 to 10000, and write the last page
   merge                     make one page of pages that stand one after the other
   receive                   make one page of DogStatsD payloads, each led by its length in four bytes, as on a Unix stream
+  rules                     read rules and pages, and write which sums are over or under their bounds, and on which page
   --help, -h                this text
   --version                 the version
 
-A script, the pages to merge or the payloads come on standard input: metrics_drive drive < FILE
+A script, pages, payloads or rules come on standard input: metrics_drive drive < FILE
 Pages go to standard output, and a line that says how it ended to standard error.
 
 status
@@ -35,9 +36,10 @@ status
    7  standard output failed
    8  memory was refused
    9  the page could not be served: no listening at its address, or no connection
-  10  what is to be merged is no pages
+  10  what should be pages is none
   11  the pages don't merge
   12  the payloads end within one
+  13  the rules are none
 
 docs/SCRIPT.md says how a script is written.
 ";

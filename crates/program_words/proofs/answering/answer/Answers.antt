@@ -3,6 +3,7 @@ use Rattle.program_words.specs.Devices.{SinkRun, sink_run}
 use Rattle.program_words.specs.Statuses.{status_number}
 use Rattle.program_words.specs.Words.{IsTold}
 use Rattle.program_words.proofs.Asking.{asked_once, no_form}
+use Rattle.program_words.proofs.StreamEnds.{no_stream}
 use Rattle.program_words.proofs.answering.answer.Goals as goal
 
 -- ---- a text was asked for
@@ -25,11 +26,8 @@ returns-in-Some-clause-serve g c = λ count networks serves. absurd (no_form _ _
 pub returns-in-Some-clause-bench : goal.returns-in-Some-clause-bench
 returns-in-Some-clause-bench g c = λ count benches. absurd (no_form _ _ c.in-Some.ensures (inr (inr (inl (count, benches)))))
 
-pub returns-in-Some-clause-merge : goal.returns-in-Some-clause-merge
-returns-in-Some-clause-merge g c = λ merges. absurd (no_form _ _ c.in-Some.ensures (inr (inr (inr (inl merges)))))
-
-pub returns-in-Some-clause-receive : goal.returns-in-Some-clause-receive
-returns-in-Some-clause-receive g c = λ receives. absurd (no_form _ _ c.in-Some.ensures (inr (inr (inr (inr receives)))))
+pub returns-in-Some-clause-streams : goal.returns-in-Some-clause-streams
+returns-in-Some-clause-streams g c = no_stream _ _ _ _ _ (λ streams. no_form _ _ c.in-Some.ensures (inr (inr (inr streams))))
 
 pub returns-in-Some-clause-statuses : goal.returns-in-Some-clause-statuses
 returns-in-Some-clause-statuses g c = λ none. absurd (none _ c.in-Some.ensures)
@@ -57,11 +55,8 @@ returns-in-None-clause-serve g c = c.run.ensures.serve
 pub returns-in-None-clause-bench : goal.returns-in-None-clause-bench
 returns-in-None-clause-bench g c = c.run.ensures.bench
 
-pub returns-in-None-clause-merge : goal.returns-in-None-clause-merge
-returns-in-None-clause-merge g c = c.run.ensures.merge
-
-pub returns-in-None-clause-receive : goal.returns-in-None-clause-receive
-returns-in-None-clause-receive g c = c.run.ensures.receive
+pub returns-in-None-clause-streams : goal.returns-in-None-clause-streams
+returns-in-None-clause-streams g c = c.run.ensures.streams
 
 pub returns-in-None-clause-statuses : goal.returns-in-None-clause-statuses
 returns-in-None-clause-statuses g c = λ none. c.run.ensures.statuses
