@@ -74,9 +74,8 @@ pub fn run<R: Threads + Wait + Sync>(
         let task = task_of(thread, before, each, pages);
         jobs.push(Locked { alloc, task })?;
     }
-    let mut done = all_beside(rt, &recorder, jobs)?;
-    while let Some(one) = done.pop() {
-        if !one {
+    for done in &all_beside(rt, &recorder, jobs)? {
+        if !*done {
             bail!("no memory");
         }
     }

@@ -24,13 +24,16 @@ fn number(argument: Option<String>) -> Result<u64> {
 fn main(rt: HostRuntime) -> Result<()> {
     let alloc = rt.alloc();
     let mut words = env::args(&rt)?;
-    let way = words.nth(1);
+    let Some(way) = words.nth(1) else {
+        bail!("a way is missing");
+    };
     let before = number(words.next())?;
     let each = number(words.next())?;
     let pages = number(words.next())?;
-    let counters = match way {
-        Some(way) if way.as_str() == "turns" => turns::run(&rt, alloc, before, each, pages)?,
-        _ => lock::run(&rt, alloc, before, each, pages)?,
+    let counters = if way.as_str() == "turns" {
+        turns::run(&rt, alloc, before, each, pages)?
+    } else {
+        lock::run(&rt, alloc, before, each, pages)?
     };
     print!(rt; "{counters} counters\n")?;
     Ok(())
