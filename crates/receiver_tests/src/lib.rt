@@ -1,7 +1,5 @@
-//! Tests of the receiver: payloads, how many of their lines are good and bad, and the page that shows what they left.
+//! Tests of deliveries: what one exporter flushes, another that receives it shows.
 #![tactic(auto)]
 
 #[cfg(test)]
 mod deliveries;
-#[cfg(test)]
-mod rows;
