@@ -19,8 +19,10 @@ const CALLS_OF_LANE: u8 = 16;
 
 /// The calls of the next round, from words that come behind those of the rounds before it.
 pub(crate) fn next_calls(alloc: Global, words: &mut Lcg) -> Result<Vec<CallLine>, Memory>
-    ensures calls { (round : ℕ) → HasDrawn (64 * round) words.old → IfOk result (λ calls. map call_line_of calls.items ≡ calls_of_round round) }
-    ensures words { (round : ℕ) → HasDrawn (64 * round) words.old → OnOk result (HasDrawn (64 * (round + 1)) words.new) }
+    ensures calls { (round : ℕ) → HasDrawn (64 * round) words.old
+        → IfOk result (λ calls. map call_line_of calls.items ≡ calls_of_round round) }
+    ensures words { (round : ℕ) → HasDrawn (64 * round) words.old
+        → OnOk result (HasDrawn (64 * (round + 1)) words.new) }
 {
     let mut calls = Vec::with_capacity(alloc, usize::from(CALLS))?;
     for place in 0..CALLS {

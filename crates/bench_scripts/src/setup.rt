@@ -39,7 +39,8 @@ fn register_four(
     name: &'static str,
     label: &'static str,
 ) -> Result<(), Memory>
-    ensures { OnOk result (map setup_of setup.new.items ≡ map setup_of setup.old.items ++ four_series kind name.now label.now) }
+    ensures { OnOk result (map setup_of setup.new.items
+        ≡ map setup_of setup.old.items ++ four_series kind name.now label.now) }
 {
     for number in NUMBERS {
         let mut labels = Vec::with_capacity(alloc, 1)?;

@@ -70,7 +70,8 @@ pub trait SharedCell: Send + Sync + Drop {
         requires pass { is_pass self.now pass.old }
         requires root { (view pass.old).number ≡ 0 }
         ensures pass { is_pass self.now pass.new }
-        ensures lent { IfOk result (λ new. is_pass self.now new × (view new ≡ child (view pass.old))) }
+        ensures lent { IfOk result (λ new. is_pass self.now new
+            × (view new ≡ child (view pass.old))) }
         ensures root { OnOk result (view pass.new ≡ lender (view pass.old)) }
         ensures refused { OnErr result (view pass.new ≡ view pass.old) };
 
@@ -101,7 +102,8 @@ pub trait StillCell: SharedCell {
     fn read_still<R: Wait>(&self, rt: &R, pass: &mut Self::Pass) -> Option<Self::Reading>
         requires { Self.is_pass self.now pass.old }
         ensures pass { Self.is_pass self.now pass.new }
-        ensures read { IfSome result (λ reading. Self.reads (Self.view pass.old) reading (Self.view pass.new)) }
+        ensures read { IfSome result (λ reading.
+            Self.reads (Self.view pass.old) reading (Self.view pass.new)) }
         ensures still { IfSome result is_still }
         ensures unread { IfNone result (Self.view pass.new ≡ Self.view pass.old) };
 }

@@ -11,7 +11,8 @@ use crate::lane::{Lane, Line};
 /// Whether the indices ascend, and are below `count`.
 fn ascend_below(cells: &[usize], count: usize) -> bool
     ensures ascend { IsTrue result ↔ Ascend 0 count cells.now }
-    ensures once { result ≡ true → Distinct cells.now × ((s j : ℕ) → get_elem? cells.now s ≡ some j → j < count) }
+    ensures once { result ≡ true → Distinct cells.now
+        × ((s j : ℕ) → get_elem? cells.now s ≡ some j → j < count) }
 {
     let mut next = 0;
     for cell in cells {

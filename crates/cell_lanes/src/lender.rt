@@ -59,10 +59,12 @@ pub trait Lender: Send {
     /// Lends a new pass, which has seen what the root pass has seen and has made no call.
     fn lend(&mut self, alloc: Global) -> Result<Self::Lent, Memory>
         requires { (root self.old).number ≡ 0 }
-        ensures lent { IfOk result (λ new. owns (fixed self.new) new × (knows new ≡ child (root self.old))) }
+        ensures lent { IfOk result (λ new. owns (fixed self.new) new
+            × (knows new ≡ child (root self.old))) }
         ensures root { OnOk result (root self.new ≡ lender (root self.old)) }
         ensures lasts { OnOk result (lasts (fixed self.old) (fixed self.new)) }
-        ensures refused { OnErr result ((root self.new ≡ root self.old) × (fixed self.new ≡ fixed self.old)) };
+        ensures refused { OnErr result ((root self.new ≡ root self.old)
+            × (fixed self.new ≡ fixed self.old)) };
 
     /// Makes a call with a pass. A refused call changes nothing.
     fn make<R: Wait>(

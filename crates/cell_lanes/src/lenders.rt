@@ -67,8 +67,10 @@ pub trait Lenders: Send {
     /// Lends a new pass of the thing with this index, which has seen what the root pass has seen and has made no call.
     fn lend(&mut self, alloc: Global, index: usize) -> Result<Self::Lent, Memory>
         requires here { index < length (things self.old) }
-        requires root { (t : Thing Self.Entry Self.Lasting) → get_elem? (things self.old) index ≡ some t → t.root.number ≡ 0 }
-        ensures lent { IfOk result (λ new. (t : Thing Self.Entry Self.Lasting) → get_elem? (things self.old) index ≡ some t
+        requires root { (t : Thing Self.Entry Self.Lasting)
+            → get_elem? (things self.old) index ≡ some t → t.root.number ≡ 0 }
+        ensures lent { IfOk result (λ new. (t : Thing Self.Entry Self.Lasting)
+            → get_elem? (things self.old) index ≡ some t
             → (u : Thing Self.Entry Self.Lasting) × (u.root ≡ lender t.root) × lasts t.fixed u.fixed × owns u.fixed new × (knows new ≡ child t.root)
             × (things self.new ≡ set (things self.old) index u)) }
         ensures refused { OnErr result (things self.new ≡ things self.old) }
@@ -89,16 +91,20 @@ pub trait Lenders: Send {
     /// Takes a pass of the thing with this index back. The root has then seen what either had seen, and holds the calls of both.
     fn take_back(&mut self, index: usize, lent: Self::Lent)
         requires here { index < length (things self.old) }
-        requires root { (t : Thing Self.Entry Self.Lasting) → get_elem? (things self.old) index ≡ some t → t.root.number ≡ 0 }
-        requires lent { (t : Thing Self.Entry Self.Lasting) → get_elem? (things self.old) index ≡ some t → owns t.fixed lent }
-        ensures taken { (t : Thing Self.Entry Self.Lasting) → get_elem? (things self.old) index ≡ some t
+        requires root { (t : Thing Self.Entry Self.Lasting)
+            → get_elem? (things self.old) index ≡ some t → t.root.number ≡ 0 }
+        requires lent { (t : Thing Self.Entry Self.Lasting)
+            → get_elem? (things self.old) index ≡ some t → owns t.fixed lent }
+        ensures taken { (t : Thing Self.Entry Self.Lasting)
+            → get_elem? (things self.old) index ≡ some t
             → (u : Thing Self.Entry Self.Lasting) × TookBack t.root (knows lent) u.root × (u.fixed ≡ t.fixed) × (things self.new ≡ set (things self.old) index u) }
         ensures frame { frame self.new ≡ frame self.old };
 
     /// With no pass of the thing with this index out, makes sure that its root knows whose each call is.
     fn settle<R: Wait>(&mut self, rt: &R, index: usize)
         requires here { index < length (things self.old) }
-        requires home { (t : Thing Self.Entry Self.Lasting) → get_elem? (things self.old) index ≡ some t → (t.root.number ≡ 0) × (t.root.out ≡ 0) }
+        requires home { (t : Thing Self.Entry Self.Lasting)
+            → get_elem? (things self.old) index ≡ some t → (t.root.number ≡ 0) × (t.root.out ≡ 0) }
         ensures same { things self.new ≡ things self.old }
         ensures settled { SettledAt root_of (things self.old) index }
         ensures frame { frame self.new ≡ frame self.old };

@@ -90,7 +90,8 @@ impl<C: SharedCell> OwnedCell<C> {
 
     /// Lends the cell itself and a new pass of it, which has seen what the root pass has seen and has made no call.
     pub fn lend_pass(&mut self, alloc: Global) -> Result<(Arc<C>, C::Pass), Memory>
-        ensures lent { IfOk result (λ lent. (arc_value lent.0 ≡ self.old.fixed) × C.is_pass self.old.fixed lent.1 × (C.view lent.1 ≡ child self.old.root)) }
+        ensures lent { IfOk result (λ lent. (arc_value lent.0 ≡ self.old.fixed)
+            × C.is_pass self.old.fixed lent.1 × (C.view lent.1 ≡ child self.old.root)) }
         ensures root { OnOk result (self.new.root ≡ lender self.old.root) }
         ensures refused { OnErr result (self.new ≡ self.old) }
         ensures cell { self.new.fixed ≡ self.old.fixed }
@@ -138,7 +139,8 @@ impl<C: StillCell> OwnedCell<C> {
     pub fn read_still<R: Wait>(&mut self, rt: &R) -> Option<C::Reading>
         ensures read { IfSome result (λ reading. C.reads self.old.root reading self.new.root) }
         ensures still { IfSome result C.is_still }
-        ensures stands { IfSome result (λ reading. Found (C.read_as reading) self.old.root self.new.root) }
+        ensures stands { IfSome result (λ reading.
+            Found (C.read_as reading) self.old.root self.new.root) }
         ensures unread { IfNone result (self.new ≡ self.old) }
         ensures cell { self.new.fixed ≡ self.old.fixed }
     {

@@ -30,9 +30,14 @@ pub fn run_and_read<R: Threads + Wait + Sync, H: LaneHook + Sync, C: SharedCell>
     requires fit { AllFit (length cells.old.items) lanes.now }
     requires index { index < length cells.old.items }
     ensures roots { Roots root_of cells.new.items × AtRest root_of cells.new.items }
-    ensures finished { IfOk result (λ reading. Finished root_of C.stands_as lanes.now (later_on index (C.read_as reading)) cells.old.items cells.new.items) }
-    ensures stopped { OnErr result (Stopped root_of C.stands_as lanes.now cells.old.items cells.new.items) }
-    ensures read { IfOk result (λ reading. (c : Thing C.Entry C) → get_elem? cells.old.items index ≡ some c → ReadAfter C.reads C.stands_as (all_calls_on index lanes.now) c.root reading) }
+    ensures finished { IfOk result (λ reading.
+        Finished root_of C.stands_as lanes.now
+        (later_on index (C.read_as reading)) cells.old.items cells.new.items) }
+    ensures stopped { OnErr result (Stopped root_of C.stands_as lanes.now cells.old.items
+        cells.new.items) }
+    ensures read { IfOk result (λ reading. (c : Thing C.Entry C)
+        → get_elem? cells.old.items index ≡ some c
+        → ReadAfter C.reads C.stands_as (all_calls_on index lanes.now) c.root reading) }
 {
     match run_lanes(rt, alloc, hook, cells, lanes) {
         Ok(()) => Ok(cells[index].read(rt)),

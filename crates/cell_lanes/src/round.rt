@@ -27,12 +27,15 @@ fn lend_lane<S: Lenders>(
 ) -> Result<(), Memory>
     requires roots { Roots root_of (S.things shared.old) }
     requires named { (s j : ℕ) → get_elem? named.now s ≡ some j → j < length (S.things shared.old) }
-    requires room { (slots.old.items ≡ []) × (vec_len slots.old ≡ 0) × (length named.now ≤ vec_capacity slots.old) }
+    requires room { (slots.old.items ≡ []) × (vec_len slots.old ≡ 0)
+        × (length named.now ≤ vec_capacity slots.old) }
     ensures many { length (S.things shared.new) ≡ length (S.things shared.old) }
     ensures frame { S.frame shared.new ≡ S.frame shared.old }
-    ensures lends { Each (λ j. Lends root_of (Stays S.lasts fixed_of) (times j (cells_of slots.new.items))) (S.things shared.old) (S.things shared.new) }
+    ensures lends { Each (λ j. Lends root_of (Stays S.lasts fixed_of)
+        (times j (cells_of slots.new.items))) (S.things shared.old) (S.things shared.new) }
     ensures some_cells { cells_of slots.new.items ≡ take (length slots.new.items) named.now }
-    ensures slots { SlotsFit (Owns fixed_of S.owns) (S.things shared.new) slots.new.items × Fresh S.knows slots.new.items }
+    ensures slots { SlotsFit (Owns fixed_of S.owns) (S.things shared.new) slots.new.items
+        × Fresh S.knows slots.new.items }
     ensures ok { OnOk result (cells_of slots.new.items ≡ named.now) }
 {
     for cell in named {
@@ -53,13 +56,18 @@ fn lend_all<S: Lenders>(
 ) -> Result<(), Memory>
     requires roots { Roots root_of (S.things shared.old) }
     requires fit { AllFit (length (S.things shared.old)) lanes.now }
-    requires room { (jobs.old.items ≡ []) × (vec_len jobs.old ≡ 0) × (length lanes.now ≤ vec_capacity jobs.old) }
+    requires room { (jobs.old.items ≡ []) × (vec_len jobs.old ≡ 0)
+        × (length lanes.now ≤ vec_capacity jobs.old) }
     ensures many { length (S.things shared.new) ≡ length (S.things shared.old) }
     ensures frame { S.frame shared.new ≡ S.frame shared.old }
-    ensures lends { Each (λ j. Lends root_of (Stays S.lasts fixed_of) (lent_on j jobs.new.items)) (S.things shared.old) (S.things shared.new) }
+    ensures lends { Each (λ j. Lends root_of (Stays S.lasts fixed_of) (lent_on j jobs.new.items))
+        (S.things shared.old) (S.things shared.new) }
     ensures fit { JobsFit (Owns fixed_of S.owns) (S.things shared.new) jobs.new.items }
-    ensures fresh { JobsFresh S.knows lanes.now jobs.new.items × (length jobs.new.items ≤ length lanes.now) }
-    ensures ok { OnOk result ((length jobs.new.items ≡ length lanes.now) × ((l : ℕ) (a : Lane S.Call) (x : Job S.Lent) → get_elem? lanes.now l ≡ some a → get_elem? jobs.new.items l ≡ some x → cells_of x.slots.items ≡ a.cells.items)) }
+    ensures fresh { JobsFresh S.knows lanes.now jobs.new.items
+        × (length jobs.new.items ≤ length lanes.now) }
+    ensures ok { OnOk result ((length jobs.new.items ≡ length lanes.now)
+        × ((l : ℕ) (a : Lane S.Call) (x : Job S.Lent) → get_elem? lanes.now l ≡ some a
+        → get_elem? jobs.new.items l ≡ some x → cells_of x.slots.items ≡ a.cells.items)) }
 {
     for lane in lanes {
         let mut slots = Vec::with_capacity(alloc, lane.cells.len())?;
@@ -150,15 +158,21 @@ fn run_all<R: Threads + Wait + Sync, H: LaneHook + Sync, S: Lenders>(
     lanes: &[Lane<S::Call>],
 )
     requires len { length jobs.old ≡ length lanes.now }
-    requires ready { (l : ℕ) (a : Lane S.Call) (x : Job S.Lent) → get_elem? lanes.now l ≡ some a → get_elem? jobs.old l ≡ some x → LaneReady S.knows S.owns S.takes a x }
-    ensures ran { (l : ℕ) (a : Lane S.Call) (x y : Job S.Lent) → get_elem? lanes.now l ≡ some a → get_elem? jobs.old l ≡ some x → get_elem? jobs.new l ≡ some y → LaneRan S.knows S.stands_as S.owns a x y }
+    requires ready { (l : ℕ) (a : Lane S.Call) (x : Job S.Lent) → get_elem? lanes.now l ≡ some a
+        → get_elem? jobs.old l ≡ some x → LaneReady S.knows S.owns S.takes a x }
+    ensures ran { (l : ℕ) (a : Lane S.Call) (x y : Job S.Lent) → get_elem? lanes.now l ≡ some a
+        → get_elem? jobs.old l ≡ some x → get_elem? jobs.new l ≡ some y
+        → LaneRan S.knows S.stands_as S.owns a x y }
 {
     for_each_beside(
         rt,
         jobs,
         &|l: usize, job: &mut Job<S::Lent>|
-            requires { (l < length lanes.now) × ((a : Lane S.Call) → get_elem? lanes.now l ≡ some a → LaneReady S.knows S.owns S.takes a job.now) }
-            ensures { (a : Lane S.Call) → get_elem? lanes.entry.now l ≡ some a → LaneRan S.knows S.stands_as S.owns a job.entry.now job.exit.now }
+            requires { (l < length lanes.now)
+                × ((a : Lane S.Call) → get_elem? lanes.now l ≡ some a
+                → LaneReady S.knows S.owns S.takes a job.now) }
+            ensures { (a : Lane S.Call) → get_elem? lanes.entry.now l ≡ some a
+                → LaneRan S.knows S.stands_as S.owns a job.entry.now job.exit.now }
         {
             let lane = &lanes[l];
             run_job::<R, H, S>(rt, alloc, hook, lane.number, job, lane.lines.as_slice())
@@ -169,7 +183,8 @@ fn run_all<R: Threads + Wait + Sync, H: LaneHook + Sync, S: Lenders>(
 /// Whether each lane has made all its calls. The refusal that one of them had was want of memory.
 fn all_done<K, L>(lanes: &[Lane<K>], jobs: &[Job<L>]) -> Result<(), Memory>
     requires each { length jobs.now ≡ length lanes.now }
-    requires done { (l : ℕ) (a : Lane K) (x : Job L) → get_elem? lanes.now l ≡ some a → get_elem? jobs.now l ≡ some x → x.done ≤ length a.lines.items }
+    requires done { (l : ℕ) (a : Lane K) (x : Job L) → get_elem? lanes.now l ≡ some a
+        → get_elem? jobs.now l ≡ some x → x.done ≤ length a.lines.items }
     ensures ok { OnOk result (AllDone lanes.now (done_of jobs.now)) }
     ensures refused { OnErr result (SomeLeft lanes.now (done_of jobs.now)) }
 {
@@ -193,10 +208,12 @@ fn lend_and_run<R: Threads + Wait + Sync, H: LaneHook + Sync, S: Lenders>(
     requires roots { Roots root_of (S.things shared.old) }
     requires fit { AllFit (length (S.things shared.old)) lanes.now }
     requires taken { AllTaken fixed_of S.takes (S.things shared.old) lanes.now }
-    requires room { (jobs.old.items ≡ []) × (vec_len jobs.old ≡ 0) × (length lanes.now ≤ vec_capacity jobs.old) }
+    requires room { (jobs.old.items ≡ []) × (vec_len jobs.old ≡ 0)
+        × (length lanes.now ≤ vec_capacity jobs.old) }
     ensures many { length (S.things shared.new) ≡ length (S.things shared.old) }
     ensures frame { S.frame shared.new ≡ S.frame shared.old }
-    ensures lends { Each (λ j. Lends root_of (Stays S.lasts fixed_of) (lent_on j jobs.new.items)) (S.things shared.old) (S.things shared.new) }
+    ensures lends { Each (λ j. Lends root_of (Stays S.lasts fixed_of) (lent_on j jobs.new.items))
+        (S.things shared.old) (S.things shared.new) }
     ensures fit { JobsFit (Owns fixed_of S.owns) (S.things shared.new) jobs.new.items }
     ensures few { length jobs.new.items ≤ length lanes.now }
     ensures ran { JobsRan S.knows S.stands_as lanes.now jobs.new.items }
@@ -217,7 +234,8 @@ fn take_lane<S: Lenders>(shared: &mut S, lane: usize, mut slots: Vec<Slot<S::Len
     requires slots { SlotsFit (Owns fixed_of S.owns) (S.things shared.old) slots.items }
     ensures many { length (S.things shared.new) ≡ length (S.things shared.old) }
     ensures frame { S.frame shared.new ≡ S.frame shared.old }
-    ensures takes { Each (λ j. Takes root_of (Stays S.lasts fixed_of) (given S.knows j lane slots.items)) (S.things shared.old) (S.things shared.new) }
+    ensures takes { Each (λ j. Takes root_of (Stays S.lasts fixed_of)
+        (given S.knows j lane slots.items)) (S.things shared.old) (S.things shared.new) }
 {
     while let Some(slot) = slots.pop() {
         let Slot { cell, lent } = slot;
@@ -231,7 +249,8 @@ fn take_all<S: Lenders>(shared: &mut S, mut jobs: Vec<Job<S::Lent>>)
     requires fit { JobsFit (Owns fixed_of S.owns) (S.things shared.old) jobs.items }
     ensures many { length (S.things shared.new) ≡ length (S.things shared.old) }
     ensures frame { S.frame shared.new ≡ S.frame shared.old }
-    ensures takes { Each (λ j. Takes root_of (Stays S.lasts fixed_of) (all_given S.knows j 0 jobs.items)) (S.things shared.old) (S.things shared.new) }
+    ensures takes { Each (λ j. Takes root_of (Stays S.lasts fixed_of)
+        (all_given S.knows j 0 jobs.items)) (S.things shared.old) (S.things shared.new) }
 {
     while let Some(job) = jobs.pop() {
         let Job { slots, done: _ } = job;
@@ -245,7 +264,8 @@ fn settle_lane<R: Wait, S: Lenders>(rt: &R, shared: &mut S, named: &[usize])
     requires named { (s j : ℕ) → get_elem? named.now s ≡ some j → j < length (S.things shared.old) }
     ensures same { S.things shared.new ≡ S.things shared.old }
     ensures frame { S.frame shared.new ≡ S.frame shared.old }
-    ensures settled { (s j : ℕ) → get_elem? named.now s ≡ some j → SettledAt root_of (S.things shared.old) j }
+    ensures settled { (s j : ℕ) → get_elem? named.now s ≡ some j
+        → SettledAt root_of (S.things shared.old) j }
 {
     for cell in named {
         shared.settle(rt, *cell);
@@ -285,7 +305,9 @@ pub fn run_lanes<R: Threads + Wait + Sync, H: LaneHook + Sync, S: Lenders>(
     ensures frame { S.frame shared.new ≡ S.frame shared.old }
     ensures roots { Roots root_of (S.things shared.new) × AtRest root_of (S.things shared.new) }
     ensures stays { Each (λ j. Stays S.lasts fixed_of) (S.things shared.old) (S.things shared.new) }
-    ensures grew { (done : ℕ → ℕ) × OnOk result (AllDone lanes.now done) × Each (Grew root_of S.stands_as lanes.now done) (S.things shared.old) (S.things shared.new) × OnErr result (Unfinished lanes.now done) }
+    ensures grew { (done : ℕ → ℕ) × OnOk result (AllDone lanes.now done)
+        × Each (Grew root_of S.stands_as lanes.now done) (S.things shared.old) (S.things shared.new)
+        × OnErr result (Unfinished lanes.now done) }
 {
     let mut jobs = match Vec::with_capacity(alloc, lanes.len()) {
         Ok(jobs) => jobs,

@@ -44,7 +44,8 @@ fn push_bucket(
     bucket: (Fixed, u64),
 ) -> Result<(), Memory>
     requires { IsPrintedSet labels.now }
-    ensures { OnOk result (string_bytes buffer.new ≡ string_bytes buffer.old ++ bucket_line name.now labels.now (bucket_of bucket)) }
+    ensures { OnOk result (string_bytes buffer.new
+        ≡ string_bytes buffer.old ++ bucket_line name.now labels.now (bucket_of bucket)) }
 {
     let (bound, count) = bucket;
     text.clear();
@@ -135,7 +136,8 @@ pub(crate) fn push_sum_and_count(
     count: u64,
 ) -> Result<(), Memory>
     requires { IsPrintedSet labels.now }
-    ensures { OnOk result (string_bytes buffer.new ≡ string_bytes buffer.old ++ sum_and_count_lines name.now labels.now sum count) }
+    ensures { OnOk result (string_bytes buffer.new
+        ≡ string_bytes buffer.old ++ sum_and_count_lines name.now labels.now sum count) }
 {
     write_row(buffer, name, None, Some("sum"), labels, None, sum)?;
     write_row(

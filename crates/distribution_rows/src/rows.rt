@@ -41,7 +41,8 @@ fn push_lines(
     moment: u64,
 ) -> Result<(), Memory>
     requires { IsPrintedSet labels.now }
-    ensures { OnOk result (string_bytes buffer.new ≡ string_bytes buffer.old ++ shown_lines name.now labels.now moment distribution.now) }
+    ensures { OnOk result (string_bytes buffer.new
+        ≡ string_bytes buffer.old ++ shown_lines name.now labels.now moment distribution.now) }
 {
     match distribution {
         Distribution::Histogram(histogram) => { push_histogram(buffer, name, labels, histogram) }
@@ -66,7 +67,8 @@ fn push_histogram(
     histogram: &CumulativeHistogram,
 ) -> Result<(), Memory>
     requires { IsPrintedSet labels.now }
-    ensures { OnOk result (string_bytes buffer.new ≡ string_bytes buffer.old ++ histogram_lines name.now labels.now histogram.now) }
+    ensures { OnOk result (string_bytes buffer.new
+        ≡ string_bytes buffer.old ++ histogram_lines name.now labels.now histogram.now) }
 {
     push_buckets(buffer, name, labels, histogram.buckets())?;
     push_last_bucket(buffer, name, labels, histogram.count())?;
@@ -76,7 +78,8 @@ fn push_histogram(
 /// Appends the row of all samples.
 fn push_last_bucket(buffer: &mut String, name: &str, labels: &str, count: u64) -> Result<(), Memory>
     requires { IsPrintedSet labels.now }
-    ensures { OnOk result (string_bytes buffer.new ≡ string_bytes buffer.old ++ last_bucket_line name.now labels.now count) }
+    ensures { OnOk result (string_bytes buffer.new
+        ≡ string_bytes buffer.old ++ last_bucket_line name.now labels.now count) }
 {
     let label = Some(("le", "+Inf"));
     write_row(

@@ -52,7 +52,8 @@ impl Distribution {
     /// A cumulative histogram of no samples, with these bounds.
     pub fn new_histogram(alloc: Global, buckets: &[Fixed]) -> Result<Distribution, Memory>
         requires { 0 < length buckets.now }
-        ensures { IfOk result (StandsFor (kinds.Histogram (map (λ bound. bound.0) buckets.now)) []) }
+        ensures { IfOk result (StandsFor (kinds.Histogram (map (λ bound. bound.0) buckets.now)) [])
+            }
     {
         Ok(Distribution::Histogram(CumulativeHistogram::new(alloc, buckets)?))
     }
@@ -90,14 +91,17 @@ impl Distribution {
         alloc: Global,
         samples: &[(Fixed, u64)],
     ) -> Result<(), RecordSamplesFault>
-        ensures recorded { OnOk result (FoldsTo Records self.old (samples_of samples.now) self.new) }
+        ensures recorded { OnOk result (FoldsTo Records self.old (samples_of samples.now) self.new)
+            }
         ensures stands { OnOk result (StandsForMore self.old (samples_of samples.now) self.new) }
 
         // After a refusal the first `done` samples are recorded and no more.
         ensures within { IfErr result (λ fault. done_of fault < length samples.now) }
-        ensures stopped { IfErr result (λ fault. let first = samples_of (take (done_of fault) samples.now) in
+        ensures stopped { IfErr result (λ fault.
+            let first = samples_of (take (done_of fault) samples.now) in
             FoldsTo Records self.old first self.new) }
-        ensures stands_so_far { IfErr result (λ fault. let first = samples_of (take (done_of fault) samples.now) in
+        ensures stands_so_far { IfErr result (λ fault.
+            let first = samples_of (take (done_of fault) samples.now) in
             StandsForMore self.old first self.new) }
     {
         for (done, (value, moment)) in samples.iter().enumerate() {
@@ -117,8 +121,10 @@ impl Distribution {
         moment: u64,
         count: u32,
     ) -> Result<(), Memory>
-        ensures recorded { OnOk result (RecordsTimes self.old (sample_of (value, moment)) count self.new) }
-        ensures stands { OnOk result (StandsForMore self.old (replicate count (sample_of (value, moment))) self.new) }
+        ensures recorded { OnOk result (RecordsTimes self.old
+            (sample_of (value, moment)) count self.new) }
+        ensures stands { OnOk result (StandsForMore self.old
+            (replicate count (sample_of (value, moment))) self.new) }
         ensures refused { OnErr result (self.new ≡ self.old) }
         ensures none { count ≡ 0 → self.new ≡ self.old }
     {

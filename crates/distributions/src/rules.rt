@@ -102,7 +102,8 @@ impl<T> Rules<T> {
 
     /// The rule for a name: that of the first matcher that fits it. It costs a look-up for each length of a text.
     pub(crate) fn get(&self, name: &str) -> Option<&T>
-        ensures rule { option_copied result ≡ option_map (λ rule. rule.1) (rule_for self.now name.now) }
+        ensures rule { option_copied result ≡ option_map (λ rule. rule.1)
+            (rule_for self.now name.now) }
     {
         let name = name.as_bytes();
         if let Some(rule) = self.wholes.get(name) {
@@ -123,7 +124,8 @@ fn least<'a, T>(
     side: Side,
 ) -> Option<&'a T>
     requires measured { IsMeasured lengths.now texts.now }
-    ensures { option_copied result ≡ option_map (λ rule. rule.1) (rule_for (under (form side) texts.now.entries) name.now) }
+    ensures { option_copied result ≡ option_map (λ rule. rule.1)
+        (rule_for (under (form side) texts.now.entries) name.now) }
 {
     // The law that the lengths rise, which tells that no later one is shorter, is a clause of `len`.
     let _len = lengths.len();
@@ -148,7 +150,8 @@ fn lesser<'a, 'b, T>(
     side: Side,
     count: usize,
 ) -> Option<(&'b [u8], &'a T)>
-    ensures { option_map (λ b. (b.0.now, b.1.now)) result ≡ tried side name.now texts.now.entries (option_map (λ b. (b.0.now, b.1.now)) best.entry) count }
+    ensures { option_map (λ b. (b.0.now, b.1.now)) result ≡ tried side name.now texts.now.entries
+        (option_map (λ b. (b.0.now, b.1.now)) best.entry) count }
 {
     let Some(part) = part_of(name, side, count) else {
         return best;
@@ -166,7 +169,8 @@ fn lesser<'a, 'b, T>(
 
 /// The part of a name on a side that is so long, where the name is.
 fn part_of(name: &[u8], side: Side, count: usize) -> Option<&[u8]>
-    ensures { MatchOption result (length name.now < count) (λ part. (count ≤ length name.now) × (part.now ≡ part_at side name.now count)) }
+    ensures { MatchOption result (length name.now < count)
+        (λ part. (count ≤ length name.now) × (part.now ≡ part_at side name.now count)) }
 {
     let rest = name.len().checked_sub(count)?;
     Some(match side {

@@ -94,7 +94,8 @@ pub(crate) fn read_pieces<R: Threads + Sync>(
     start: HashStart,
     bytes: &[u8],
 ) -> Result<Option<Script>, Memory>
-    ensures { IfOk result (λ read. IfSome read (λ script. IsScriptOf bytes.now (script_of script))) }
+    ensures { IfOk result (λ read. IfSome read (λ script. IsScriptOf bytes.now (script_of script)))
+        }
 {
     let mut progress = ScriptSoFar::new(alloc, start);
     let least = piece_bytes(bytes.len());
@@ -124,7 +125,8 @@ fn first_pieces<'a>(
     least: usize,
 ) -> Result<(Vec<Piece<'a>>, &'a [u8]), Memory>
     requires { 0 < length bytes.now }
-    ensures lines { IfOk result (λ cut. lines_of bytes.now ≡ flat_map (λ lines. lines) cut.0.items ++ lines_of cut.1.now) }
+    ensures lines { IfOk result (λ cut.
+        lines_of bytes.now ≡ flat_map (λ lines. lines) cut.0.items ++ lines_of cut.1.now) }
     ensures shorter { IfOk result (λ cut. length cut.1.now < length bytes.now) }
 {
     let (first, behind) = first_piece(bytes, least);
@@ -203,7 +205,8 @@ fn push_line(
     calls: &mut Vec<CallLine>,
     says: Statement,
 ) -> Result<(), Memory>
-    ensures { OnOk result (said_so_far said.new.items calls.new.items ≡ said_so_far said.old.items calls.old.items ++ line_of says ∷ []) }
+    ensures { OnOk result (said_so_far said.new.items calls.new.items
+        ≡ said_so_far said.old.items calls.old.items ++ line_of says ∷ []) }
 {
     match says {
         Statement::Call(call) => {
@@ -220,7 +223,8 @@ fn push_line(
 
 /// Puts the call lines that stand apart behind the others, as a run.
 fn end_calls(alloc: Global, said: &mut Vec<Run>, calls: &mut Vec<CallLine>) -> Result<(), Memory>
-    ensures said { OnOk result (flat_map lines_said said.new.items ≡ said_so_far said.old.items calls.old.items) }
+    ensures said { OnOk result (flat_map lines_said said.new.items
+        ≡ said_so_far said.old.items calls.old.items) }
     ensures calls { OnOk result (calls.new.items ≡ []) }
 {
     if !calls.is_empty() {
@@ -250,7 +254,8 @@ fn take_pieces(
 
 /// Takes what lines say behind the lines so far, in order. Answers whether all of them are a valid script.
 fn take_runs(alloc: Global, progress: &mut ScriptSoFar, said: Vec<Run>) -> Result<bool, Memory>
-    ensures { (done lines : List (List ℕ)) → StandsBehind done progress.old → AreSaid lines said.items
+    ensures { (done lines : List (List ℕ)) → StandsBehind done progress.old
+        → AreSaid lines said.items
         → IfOk result (λ taken. IsTrue taken → StandsBehind (done ++ lines) progress.new) }
 {
     for part in said {
@@ -263,7 +268,8 @@ fn take_runs(alloc: Global, progress: &mut ScriptSoFar, said: Vec<Run>) -> Resul
 
 /// Takes what a run of lines says behind the lines so far. Answers whether all of them are a valid script.
 fn take_run(alloc: Global, progress: &mut ScriptSoFar, run: Run) -> Result<bool, Memory>
-    ensures { (done lines : List (List ℕ)) → StandsBehind done progress.old → AllZip IsLine lines (lines_said run)
+    ensures { (done lines : List (List ℕ)) → StandsBehind done progress.old
+        → AllZip IsLine lines (lines_said run)
         → IfOk result (λ taken. IsTrue taken → StandsBehind (done ++ lines) progress.new) }
 {
     match run {

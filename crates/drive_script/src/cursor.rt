@@ -235,7 +235,8 @@ impl<'a> Cursor<'a> {
 
     /// Takes a space and a text.
     pub fn spaced_text(&mut self, alloc: Global) -> Result<Option<CowStr<'a>>, Memory>
-        ensures { IfOk result (λ text. MatchOption text (after (codes " ") text_at self.old.rest.now ≡ None)
+        ensures { IfOk result (λ text.
+            MatchOption text (after (codes " ") text_at self.old.rest.now ≡ None)
             (λ text. after (codes " ") text_at self.old.rest.now ≡ Some (cow_str_bytes text, self.new.rest.now))) }
     {
         match self.literal(b" ") {
@@ -271,7 +272,8 @@ impl<'a> Cursor<'a> {
 
     /// Takes the characters before the next quote, and the quote. Answers them behind the run that was taken before.
     fn characters(&mut self, alloc: Global, run: &[u8]) -> Result<Option<Vec<u8>>, Memory>
-        ensures { IfOk result (λ text. MatchOption text (and_then run.now (characters_at self.old.rest.now) ≡ None)
+        ensures { IfOk result (λ text.
+            MatchOption text (and_then run.now (characters_at self.old.rest.now) ≡ None)
             (λ text. and_then run.now (characters_at self.old.rest.now) ≡ Some (text.items, self.new.rest.now))) }
     {
         let mut text = Vec::from_slice(alloc, run)?;
@@ -330,7 +332,8 @@ impl<'a> Cursor<'a> {
     /// Takes a space and a label. Answers its key and its value.
     #[tactic(auto, unfolding(crate::specs::Reading::label_at))]
     fn spaced_label(&mut self, alloc: Global) -> Result<Option<(CowStr<'a>, String)>, Memory>
-        ensures { IfOk result (λ label. MatchOption label (after (codes " ") label_at self.old.rest.now ≡ None)
+        ensures { IfOk result (λ label.
+            MatchOption label (after (codes " ") label_at self.old.rest.now ≡ None)
             (λ label. after (codes " ") label_at self.old.rest.now
             ≡ Some (record { key = cow_str_bytes label.0; value = string_bytes label.1 }, self.new.rest.now))) }
     {
@@ -485,7 +488,8 @@ impl<'a> Cursor<'a> {
 
     /// Takes the first words of a describe line.
     pub(crate) fn described_kind(&mut self) -> Option<MetricKind>
-        ensures { MatchOption result (after (codes "describe ") kind_word_at self.old.rest.now ≡ None)
+        ensures { MatchOption result
+            (after (codes "describe ") kind_word_at self.old.rest.now ≡ None)
             (λ kind. after (codes "describe ") kind_word_at self.old.rest.now ≡ Some (kind, self.new.rest.now)) }
     {
         self.literal(b"describe ")?;
@@ -597,7 +601,8 @@ fn digit_count(bytes: &[u8]) -> usize
 /// The number in the digits at the front and the bytes behind it, in one pass, where no zero stands in front of others and it
 /// has at most nineteen digits. Elsewhere it tells nothing.
 fn short_number(bytes: &[u8]) -> Option<(u64, &[u8])>
-    ensures number { IfSome result (λ found. take (digit_count bytes.now) bytes.now ≡ decimal found.0) }
+    ensures number { IfSome result (λ found.
+        take (digit_count bytes.now) bytes.now ≡ decimal found.0) }
     ensures fits { IfSome result (λ found. found.0 < 2 ^ 64) }
     ensures rest { IfSome result (λ found. found.1.now ≡ drop (digit_count bytes.now) bytes.now) }
 {
@@ -614,7 +619,8 @@ fn short_number(bytes: &[u8]) -> Option<(u64, &[u8])>
 
 /// The number 0 and the bytes behind it, where they don't begin with a digit.
 fn zero_before(bytes: &[u8]) -> Option<(u64, &[u8])>
-    ensures { IfSome result (λ found. (digit_count bytes.now ≡ 0) × (found.0 ≡ 0) × (found.1.now ≡ bytes.now)) }
+    ensures { IfSome result (λ found. (digit_count bytes.now ≡ 0) × (found.0 ≡ 0)
+        × (found.1.now ≡ bytes.now)) }
 {
     if let Some(next) = bytes.first()
         && next.is_ascii_digit()
@@ -626,7 +632,8 @@ fn zero_before(bytes: &[u8]) -> Option<(u64, &[u8])>
 
 /// A value that goes on with the digits at the front, and the bytes behind them, where it has room.
 fn digits_behind(begun: u64, bytes: &[u8]) -> Option<(u64, &[u8])>
-    ensures value { IfSome result (λ found. found.0 ≡ digits_value_after 10 begun (take (digit_count bytes.now) bytes.now)) }
+    ensures value { IfSome result (λ found.
+        found.0 ≡ digits_value_after 10 begun (take (digit_count bytes.now) bytes.now)) }
     ensures fits { IfSome result (λ found. found.0 < 2 ^ 64) }
     ensures rest { IfSome result (λ found. found.1.now ≡ drop (digit_count bytes.now) bytes.now) }
 {
@@ -648,7 +655,8 @@ fn digits_behind(begun: u64, bytes: &[u8]) -> Option<(u64, &[u8])>
 /// The bytes behind a literal that stands at the front. Literals are short: they are held to the bytes one by one, up to the first
 /// that differs.
 fn behind<'a>(literal: &[u8], bytes: &'a [u8]) -> Option<&'a [u8]>
-    ensures { MatchOption result (behind literal.now bytes.now ≡ None) (λ rest. behind literal.now bytes.now ≡ Some rest.now) }
+    ensures { MatchOption result (behind literal.now bytes.now ≡ None)
+        (λ rest. behind literal.now bytes.now ≡ Some rest.now) }
 {
     let mut wanted = literal;
     let mut rest = bytes;

@@ -22,7 +22,8 @@ pub fn beginnings()
 
 /// Bytes have at most one first bad line, and those that have one are no valid script.
 pub fn one_first_bad_line()
-    ensures same { (bytes : List ℕ) (k l : ℕ) → IsFirstBadLine bytes k → IsFirstBadLine bytes l → k ≡ l }
+    ensures same { (bytes : List ℕ) (k l : ℕ) → IsFirstBadLine bytes k → IsFirstBadLine bytes l
+        → k ≡ l }
     ensures no_script { (bytes : List ℕ) (l : ℕ) (script : ScriptText)
         → IsFirstBadLine bytes l → ¬ IsScriptOf bytes script }
 {}

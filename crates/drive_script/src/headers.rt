@@ -143,7 +143,8 @@ fn payload_line(alloc: Global, line: &[u8]) -> Result<Option<HeaderLine>, Memory
 /// The values of a quantiles line.
 #[tactic(auto, unfolding(crate::specs::Reading::quantiles_at))]
 fn quantiles_line(alloc: Global, line: &[u8]) -> Result<Option<Vec<Fixed>>, Memory>
-    ensures { IfOk result (λ read. option_map (λ values. values_of values.items) read ≡ quantiles_at line.now) }
+    ensures { IfOk result (λ read.
+        option_map (λ values. values_of values.items) read ≡ quantiles_at line.now) }
 {
     let mut cursor = Cursor::new(line);
     match cursor.literal(b"quantiles") {
@@ -155,7 +156,8 @@ fn quantiles_line(alloc: Global, line: &[u8]) -> Result<Option<Vec<Fixed>>, Memo
 /// The values of a buckets line.
 #[tactic(auto, unfolding(crate::specs::Reading::buckets_at))]
 fn buckets_line(alloc: Global, line: &[u8]) -> Result<Option<Vec<Fixed>>, Memory>
-    ensures { IfOk result (λ read. option_map (λ values. values_of values.items) read ≡ buckets_at line.now) }
+    ensures { IfOk result (λ read.
+        option_map (λ values. values_of values.items) read ≡ buckets_at line.now) }
 {
     let mut cursor = Cursor::new(line);
     match cursor.literal(b"buckets") {
@@ -186,7 +188,8 @@ fn buckets_for_line(alloc: Global, line: &[u8]) -> Result<Option<(Matcher, Vec<F
 /// The bucket count and the bucket duration of a summary line.
 #[tactic(auto, unfolding(crate::specs::Reading::summary_at))]
 fn summary_line(line: &[u8]) -> Option<(NonZeroU32, u64)>
-    ensures { option_map (λ summary. (non_zero_u32_get summary.0, summary.1)) result ≡ summary_at line.now }
+    ensures { option_map (λ summary. (non_zero_u32_get summary.0, summary.1)) result
+        ≡ summary_at line.now }
 {
     let mut cursor = Cursor::new(line);
     cursor.literal(b"summary ")?;
@@ -270,7 +273,8 @@ fn limit_line(line: &[u8]) -> Option<u64>
 /// The prefix of a dsd-prefix line.
 #[tactic(auto, unfolding(crate::specs::Reading::prefix_at))]
 fn prefix_line(alloc: Global, line: &[u8]) -> Result<Option<String>, Memory>
-    ensures { IfOk result (λ read. option_map (λ prefix. string_bytes prefix) read ≡ prefix_at line.now) }
+    ensures { IfOk result (λ read.
+        option_map (λ prefix. string_bytes prefix) read ≡ prefix_at line.now) }
 {
     let mut cursor = Cursor::new(line);
     let Some(()) = cursor.literal(b"dsd-prefix ") else {
@@ -336,7 +340,8 @@ impl HeaderLine {
 impl Settings {
     /// Adds what one more header line says.
     pub(crate) fn add(&mut self, line: HeaderLine) -> Result<(), Memory>
-        ensures { OnOk result (settings_of self.new ≡ with_header (settings_of self.old) (header_of line)) }
+        ensures { OnOk result (settings_of self.new ≡ with_header (settings_of self.old)
+            (header_of line)) }
     {
         match line {
             HeaderLine::Quantiles(quantiles) => self.quantiles = Some(quantiles),

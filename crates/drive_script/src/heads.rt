@@ -59,7 +59,8 @@ impl Heads {
         rounds: &[Round],
     ) -> Result<bool, Memory>
         ensures globals { self.new.globals ≡ self.old.globals }
-        ensures apart { AreNoted (labels_of self.old.globals.entries) self.old.table (registrations_of rounds.now)
+        ensures apart { AreNoted (labels_of self.old.globals.entries) self.old.table
+            (registrations_of rounds.now)
             → IfOk result (λ apart. MatchBool apart
             (AreNoted (labels_of self.old.globals.entries) self.new.table (registrations_of rounds.now ++ record { kind = kind; key = key.now } ∷ [])
             × All (λ r. PrintApart (labels_of self.old.globals.entries) r (record { kind = kind; key = key.now })) (registrations_of rounds.now))

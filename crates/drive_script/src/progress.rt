@@ -74,7 +74,8 @@ impl ScriptSoFar {
 
     /// Takes what the next line says. Answers whether the lines with it are a valid script.
     pub(crate) fn take(&mut self, alloc: Global, says: Statement) -> Result<bool, Memory>
-        ensures { (lines : List (List ℕ)) (line : List ℕ) → StandsBehind lines self.old → text.IsLine line (line_of says) → IfOk result (λ taken.
+        ensures { (lines : List (List ℕ)) (line : List ℕ) → StandsBehind lines self.old
+            → text.IsLine line (line_of says) → IfOk result (λ taken.
             MatchBool taken (StandsBehind (lines ++ line ∷ []) self.new)
             (¬ AreValidLines (lines ++ line ∷ []))) }
     {
@@ -88,7 +89,8 @@ impl ScriptSoFar {
 
     /// Takes the next call lines, in order. Answers whether the lines with them are a valid script.
     pub(crate) fn take_calls(&mut self, calls: Vec<CallLine>) -> Result<bool, Memory>
-        ensures { (done lines : List (List ℕ)) → StandsBehind done self.old → AllZip text.IsLine lines (calls_said calls.items)
+        ensures { (done lines : List (List ℕ)) → StandsBehind done self.old
+            → AllZip text.IsLine lines (calls_said calls.items)
             → IfOk result (λ taken. IsTrue taken → StandsBehind (done ++ lines) self.new) }
     {
         for call in calls {
@@ -221,7 +223,8 @@ impl ScriptSoFar {
 
     /// Whether a register line may stand here: where a setup line may, as one of the first 1,000,000.
     fn may_register(&self) -> bool
-        ensures { (said : text.Said) → IsKnown said self.now → MatchBool result (MayRegister self.now)
+        ensures { (said : text.Said) → IsKnown said self.now
+            → MatchBool result (MayRegister self.now)
             ((kind : MetricKind) (key : KeyText) (script : text.ScriptText)
             → ¬ SetsUp (script_so_far self.now) (text.Register kind key) script) }
     {

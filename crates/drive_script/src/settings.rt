@@ -29,8 +29,10 @@ use std::num::NonZeroU32;
 /// any, then a line of native histograms that can't be, then a width of 0, then a span that passes 64 bits of nanoseconds, and
 /// then a payload limit that the address doesn't allow. It takes no memory.
 pub fn check_settings(settings: &Settings, to: &RemoteAddr) -> Result<(), SettingFault>
-    ensures allowed { IfOk result (λ done. refused_setting (settings_of settings.now) (remote_text to.now) ≡ None) }
-    ensures refused { IfErr result (λ fault. refused_setting (settings_of settings.now) (remote_text to.now) ≡ Some (refusal_of fault)) }
+    ensures allowed { IfOk result (λ done.
+        refused_setting (settings_of settings.now) (remote_text to.now) ≡ None) }
+    ensures refused { IfErr result (λ fault.
+        refused_setting (settings_of settings.now) (remote_text to.now) ≡ Some (refusal_of fault)) }
 {
     if lacks_any(settings) {
         return Err(SettingFault::Empty);
@@ -42,7 +44,8 @@ pub fn check_settings(settings: &Settings, to: &RemoteAddr) -> Result<(), Settin
 
 /// Finds the first line of native histograms that is refused.
 fn check_native(lines: &[(Matcher, Fixed, u32, Fixed)]) -> Result<(), SettingFault>
-    ensures { MatchResult result (λ _. option_map Native (refused_native (map native_of lines.now)) ≡ None)
+    ensures { MatchResult result
+        (λ _. option_map Native (refused_native (map native_of lines.now)) ≡ None)
         (λ fault. option_map Native (refused_native (map native_of lines.now)) ≡ Some (refusal_of fault)) }
 {
     for line in lines {
@@ -87,7 +90,8 @@ fn check_limit(limit: Option<u64>, to: &RemoteAddr) -> Result<(), SettingFault>
 
 /// Whether a line of quantiles or of bounds has none.
 fn lacks_any(settings: &Settings) -> bool
-    ensures { result ≡ (has_none (settings_of settings.now).quantiles || (has_none (settings_of settings.now).buckets
+    ensures { result ≡ (has_none (settings_of settings.now).quantiles ||
+        (has_none (settings_of settings.now).buckets
         || list_any rule_has_none (settings_of settings.now).buckets_for)) }
 {
     is_bare(&settings.quantiles) || is_bare(&settings.buckets) || any_bare(&settings.buckets_for)

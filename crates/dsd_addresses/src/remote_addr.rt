@@ -96,7 +96,8 @@ impl RemoteAddr {
     /// The same address.
     pub fn clone(&self, alloc: Global) -> Result<RemoteAddr, Memory>
         ensures same { IfOk result (λ copy. remote_text copy ≡ remote_text self.now) }
-        ensures no_memory { (a : SocketAddr) → remote_text self.now ≡ RemoteText.Udp a → IsOk result }
+        ensures no_memory { (a : SocketAddr) → remote_text self.now ≡ RemoteText.Udp a
+            → IsOk result }
     {
         match self {
             RemoteAddr::Udp(socket) => Ok(RemoteAddr::Udp(*socket)),

@@ -106,7 +106,8 @@ impl DogStatsDBuilder {
         alloc: Global,
         addr: &str,
     ) -> Result<DogStatsDBuilder, BuildError>
-        ensures set { IfOk result (λ builder. IsRemote addr.now builder.remote × (builder ≡ record self { remote = builder.remote })) }
+        ensures set { IfOk result (λ builder. IsRemote addr.now builder.remote
+            × (builder ≡ record self { remote = builder.remote })) }
         ensures refused { IfErr result (IsRefusal addr.now) }
     {
         self.remote_addr = RemoteAddr::from_text(alloc, addr)?;
@@ -115,8 +116,11 @@ impl DogStatsDBuilder {
 
     /// Sets the payload limit, in bytes. One that `limit_fault` refuses for the address set so far is refused.
     pub fn with_maximum_payload_length(self, limit: u64) -> Result<DogStatsDBuilder, BuildError>
-        ensures set { IfOk result (λ builder. (fault_of_limit limit self.remote ≡ None) × (builder ≡ record self { limit = Some limit })) }
-        ensures refused { IfErr result (λ fault. (reason : _) × (fault_of_limit limit self.remote ≡ Some reason) × (fault ≡ causes.InvalidConfiguration reason)) }
+        ensures set { IfOk result (λ builder. (fault_of_limit limit self.remote ≡ None)
+            × (builder ≡ record self { limit = Some limit })) }
+        ensures refused { IfErr result (λ fault. (reason : _)
+            × (fault_of_limit limit self.remote ≡ Some reason)
+            × (fault ≡ causes.InvalidConfiguration reason)) }
     {
         match limit_fault(limit, &self.remote_addr) {
             Some(reason) => Err(BuildError::InvalidConfiguration { reason }),
@@ -169,7 +173,8 @@ impl DogStatsDBuilder {
 
     /// Sets how flushes add up.
     pub fn with_aggregation_mode(self, mode: AggregationMode) -> DogStatsDBuilder
-        ensures { result ≡ record self { configuration = record self.configuration { agg_mode = mode } } }
+        ensures { result ≡ record self
+            { configuration = record self.configuration { agg_mode = mode } } }
     {
         let mut configuration = self.configuration;
         configuration.agg_mode = mode;
@@ -181,7 +186,8 @@ impl DogStatsDBuilder {
 
     /// Sets what stands before the name of each series, but for the exporter's own.
     pub fn set_global_prefix(self, prefix: String) -> DogStatsDBuilder
-        ensures { result ≡ record self { configuration = record self.configuration { global_prefix = Some prefix } } }
+        ensures { result ≡ record self
+            { configuration = record self.configuration { global_prefix = Some prefix } } }
     {
         let mut configuration = self.configuration;
         configuration.global_prefix = Some(prefix);
@@ -193,7 +199,8 @@ impl DogStatsDBuilder {
 
     /// Sets whether the exporter counts its own work.
     pub fn with_telemetry(mut self, telemetry: bool) -> DogStatsDBuilder
-        ensures { result ≡ record self { configuration = record self.configuration { telemetry = telemetry } } }
+        ensures { result ≡ record self
+            { configuration = record self.configuration { telemetry = telemetry } } }
     {
         self.configuration.telemetry = telemetry;
         self
@@ -201,7 +208,8 @@ impl DogStatsDBuilder {
 
     /// Sets whether a histogram sends only a sample of its values.
     pub fn with_histogram_sampling(mut self, sampling: bool) -> DogStatsDBuilder
-        ensures { result ≡ record self { configuration = record self.configuration { histogram_sampling = sampling } } }
+        ensures { result ≡ record self
+            { configuration = record self.configuration { histogram_sampling = sampling } } }
     {
         self.configuration.histogram_sampling = sampling;
         self
@@ -209,7 +217,8 @@ impl DogStatsDBuilder {
 
     /// Sets how many values such a sample has at most.
     pub fn with_histogram_reservoir_size(mut self, size: u32) -> DogStatsDBuilder
-        ensures { result ≡ record self { configuration = record self.configuration { histogram_reservoir_size = size } } }
+        ensures { result ≡ record self
+            { configuration = record self.configuration { histogram_reservoir_size = size } } }
     {
         self.configuration.histogram_reservoir_size = size;
         self
@@ -217,7 +226,9 @@ impl DogStatsDBuilder {
 
     /// Sets whether histograms are sent as distributions.
     pub fn send_histograms_as_distributions(mut self, distributions: bool) -> DogStatsDBuilder
-        ensures { result ≡ record self { configuration = record self.configuration { histograms_as_distributions = distributions } } }
+        ensures { result ≡ record self
+            { configuration = record self.configuration
+            { histograms_as_distributions = distributions } } }
     {
         self.configuration.histograms_as_distributions = distributions;
         self

@@ -52,7 +52,8 @@ pub struct StateConfiguration {
 impl StateConfiguration {
     /// What stands before the name of a series with this key.
     pub(crate) fn prefix_for(&self, key: &Key) -> Option<&str>
-        ensures { option_copied result ≡ prefix_before (settings_of self.now).name_prefix key.now.name }
+        ensures { option_copied result ≡ prefix_before
+            (settings_of self.now).name_prefix key.now.name }
     {
         self.prefix_before(key.name().as_bytes())
     }

@@ -31,9 +31,11 @@ fn is_skipped(is_quiet: bool, was_idle: bool) -> bool
 /// Writes the line of a gauge that is kept, for which there is room.
 fn write_line(writer: &mut PayloadWriter, line: &[u8]) -> WriteResult
     requires line { IsGaugeLine line.now }
-    requires room { (item : ItemText) × (value : ℤ) × (item.type ≡ codes "g") × (line.now ≡ line_of item (dogstatsd_number value ∷ []))
+    requires room { (item : ItemText) × (value : ℤ) × (item.type ≡ codes "g")
+        × (line.now ≡ line_of item (dogstatsd_number value ∷ []))
         × HasRoomFor writer.old (lines_of writer.old.limit item (dogstatsd_number value ∷ [])) }
-    ensures { (item : ItemText) (value : ℤ) → item.type ≡ codes "g" → line.now ≡ line_of item (dogstatsd_number value ∷ [])
+    ensures { (item : ItemText) (value : ℤ) → item.type ≡ codes "g"
+        → line.now ≡ line_of item (dogstatsd_number value ∷ [])
         → WritesOne item (dogstatsd_number value) result writer.old writer.new }
 {
     let Ok(written) = writer.write_gauge_line(line) else {
@@ -52,7 +54,8 @@ impl State {
     ) -> Result<(), Memory>
         ensures settings { SameSettings writer.old writer.new }
         ensures lines { writer.new.lines ≡ writer.old.lines }
-        ensures room { OnOk result ((key : KeyText) → HasKeyAt place key self.now.series.counters → (value : ℕ) → value < 2 ^ 64
+        ensures room { OnOk result ((key : KeyText) → HasKeyAt place key self.now.series.counters
+            → (value : ℕ) → value < 2 ^ 64
             → HasRoomFor writer.new (lines_of writer.old.limit (counter_line self.now.settings writer.old.global_tags moment key) (decimal value ∷ []))) }
     {
         let Some(key) = self.series.counters().key(place) else {
@@ -67,7 +70,8 @@ impl State {
         requires { place < length self.old.series.counters }
         ensures taken { (found : CounterState) × (result ≡ (found.delta, found.updates))
             × ChangesAt place (λ c d. TakesCounter c found d) self.old.series.counters self.new.series.counters }
-        ensures others { self.new ≡ record self.old { series = record self.old.series { counters = self.new.series.counters } } }
+        ensures others { self.new ≡ record self.old
+            { series = record self.old.series { counters = self.new.series.counters } } }
     {
         self.series.counter_at(place).take_delta(rt)
     }
@@ -75,10 +79,12 @@ impl State {
     /// Takes what waits in the counter at a place where that is nothing: no delta, and no updates. Elsewhere nothing changes.
     fn take_nothing<R: Wait>(&mut self, rt: &R, place: usize) -> bool
         requires { place < length self.old.series.counters }
-        ensures taken { OnTrue result ((found : CounterState) × (found.delta ≡ 0) × (found.updates ≡ 0)
+        ensures taken { OnTrue result ((found : CounterState) × (found.delta ≡ 0)
+            × (found.updates ≡ 0)
             × ChangesAt place (λ c d. TakesCounter c found d) self.old.series.counters self.new.series.counters) }
         ensures none { OnFalse result (self.new ≡ self.old) }
-        ensures others { self.new ≡ record self.old { series = record self.old.series { counters = self.new.series.counters } } }
+        ensures others { self.new ≡ record self.old
+            { series = record self.old.series { counters = self.new.series.counters } } }
     {
         self.series.counter_at(place).take_nothing(rt)
     }
@@ -87,10 +93,12 @@ impl State {
     /// nothing changes.
     fn pass_over_counter<R: Wait>(&mut self, rt: &R, place: usize, marks: &[bool]) -> bool
         requires { place < length self.old.series.counters }
-        ensures taken { OnTrue result ((idle_at marks.now place ≡ true) × (found : CounterState) × (found.delta ≡ 0) × (found.updates ≡ 0)
+        ensures taken { OnTrue result ((idle_at marks.now place ≡ true) × (found : CounterState)
+            × (found.delta ≡ 0) × (found.updates ≡ 0)
             × ChangesAt place (λ c d. TakesCounter c found d) self.old.series.counters self.new.series.counters) }
         ensures none { OnFalse result (self.new ≡ self.old) }
-        ensures others { self.new ≡ record self.old { series = record self.old.series { counters = self.new.series.counters } } }
+        ensures others { self.new ≡ record self.old
+            { series = record self.old.series { counters = self.new.series.counters } } }
     {
         has_mark(marks, place) && self.take_nothing(rt, place)
     }
@@ -104,7 +112,8 @@ impl State {
         writer: &mut PayloadWriter,
     ) -> WriteResult
         requires here { place < length self.now.series.counters }
-        requires room { (key : KeyText) → HasKeyAt place key self.now.series.counters → (value : ℕ) → value < 2 ^ 64
+        requires room { (key : KeyText) → HasKeyAt place key self.now.series.counters → (value : ℕ)
+            → value < 2 ^ 64
             → HasRoomFor writer.old (lines_of writer.old.limit (counter_line self.now.settings writer.old.global_tags moment key) (decimal value ∷ [])) }
         ensures { (key : KeyText) × HasKeyAt place key self.now.series.counters
             × WritesOne (counter_line self.now.settings writer.old.global_tags moment key) (decimal delta) result writer.old writer.new }
@@ -132,10 +141,13 @@ impl State {
         moment: u64,
     ) -> Result<(), Memory>
         requires { place < length self.old.series.counters }
-        ensures flushed { OnOk result (FlushesCounter self.old.settings moment place self.old.series.counters self.new.series.counters
+        ensures flushed { OnOk result (FlushesCounter self.old.settings moment place
+            self.old.series.counters self.new.series.counters
             marks.old.items marks.new.items writer.old writer.new telemetry.old telemetry.new) }
-        ensures others { self.new ≡ record self.old { series = record self.old.series { counters = self.new.series.counters } } }
-        ensures refused { OnErr result ((self.new.series.counters ≡ self.old.series.counters) × (marks.new.items ≡ marks.old.items)
+        ensures others { self.new ≡ record self.old
+            { series = record self.old.series { counters = self.new.series.counters } } }
+        ensures refused { OnErr result ((self.new.series.counters ≡ self.old.series.counters)
+            × (marks.new.items ≡ marks.old.items)
             × Sends [] writer.old writer.new telemetry.old telemetry.new) }
     {
         reserve_mark(marks)?;
@@ -162,10 +174,13 @@ impl State {
         moment: u64,
     ) -> Result<(), Memory>
         requires { place < length self.old.series.counters }
-        ensures flushed { OnOk result (FlushesCounter self.old.settings moment place self.old.series.counters self.new.series.counters
+        ensures flushed { OnOk result (FlushesCounter self.old.settings moment place
+            self.old.series.counters self.new.series.counters
             marks.old.items marks.new.items writer.old writer.new telemetry.old telemetry.new) }
-        ensures others { self.new ≡ record self.old { series = record self.old.series { counters = self.new.series.counters } } }
-        ensures refused { OnErr result ((self.new.series.counters ≡ self.old.series.counters) × (marks.new.items ≡ marks.old.items)
+        ensures others { self.new ≡ record self.old
+            { series = record self.old.series { counters = self.new.series.counters } } }
+        ensures refused { OnErr result ((self.new.series.counters ≡ self.old.series.counters)
+            × (marks.new.items ≡ marks.old.items)
             × Sends [] writer.old writer.new telemetry.old telemetry.new) }
     {
         if self.pass_over_counter(rt, place, marks.as_slice()) {
@@ -195,7 +210,8 @@ impl State {
 
     /// The key of the gauge at a place, as its line wants it, if there is one.
     fn gauge_key(&self, place: usize) -> Option<KeptKey<'_>>
-        ensures { result ≡ option_map (λ series. series.key) (slice_get self.now.series.gauges place) }
+        ensures { result ≡ option_map (λ series. series.key)
+            (slice_get self.now.series.gauges place) }
     {
         self.gauge_keys.get(place)
     }
@@ -209,7 +225,8 @@ impl State {
     ) -> Result<(), Memory>
         ensures settings { SameSettings writer.old writer.new }
         ensures lines { writer.new.lines ≡ writer.old.lines }
-        ensures room { OnOk result ((key : KeyText) → HasKeyAt place key self.now.series.gauges → (value : ℤ) → FitsSigned w64 value
+        ensures room { OnOk result ((key : KeyText) → HasKeyAt place key self.now.series.gauges
+            → (value : ℤ) → FitsSigned w64 value
             → HasRoomFor writer.new (lines_of writer.old.limit (gauge_line self.now.settings writer.old.global_tags moment key) (dogstatsd_number value ∷ []))) }
     {
         let Some(key) = self.gauge_key(place) else {
@@ -225,7 +242,8 @@ impl State {
         requires { place < length self.old.series.gauges }
         ensures taken { (found : GaugeState) × (result ≡ (found.value, found.updates))
             × ChangesAt place (λ c d. TakesGauge c found d) self.old.series.gauges self.new.series.gauges }
-        ensures others { self.new ≡ record self.old { series = record self.old.series { gauges = self.new.series.gauges } } }
+        ensures others { self.new ≡ record self.old
+            { series = record self.old.series { gauges = self.new.series.gauges } } }
     {
         self.series.gauge_at(place).take_value(rt)
     }
@@ -248,7 +266,8 @@ impl State {
         moment: u64,
         writer: &PayloadWriter,
     ) -> Option<&[u8]>
-        ensures is { IfSome result (λ line. (key : KeyText) → HasKeyAt place key self.now.series.gauges
+        ensures is { IfSome result (λ line. (key : KeyText)
+            → HasKeyAt place key self.now.series.gauges
             → line.now ≡ line_of (gauge_line self.now.settings writer.now.global_tags moment key) (dogstatsd_number value.0 ∷ [])) }
         ensures some { IfSome result (λ line. IsGaugeLine line.now) }
     {
@@ -268,7 +287,8 @@ impl State {
         writer: &mut PayloadWriter,
     ) -> WriteResult
         requires here { place < length self.now.series.gauges }
-        requires room { (key : KeyText) → HasKeyAt place key self.now.series.gauges → (value : ℤ) → FitsSigned w64 value
+        requires room { (key : KeyText) → HasKeyAt place key self.now.series.gauges → (value : ℤ)
+            → FitsSigned w64 value
             → HasRoomFor writer.old (lines_of writer.old.limit (gauge_line self.now.settings writer.old.global_tags moment key) (dogstatsd_number value ∷ [])) }
         ensures { (key : KeyText) × HasKeyAt place key self.now.series.gauges
             × WritesOne (gauge_line self.now.settings writer.old.global_tags moment key) (dogstatsd_number value.0) result writer.old writer.new }
@@ -304,11 +324,14 @@ impl State {
         moment: u64,
         writer: &mut PayloadWriter,
     ) -> Result<Option<WriteResult>, Memory>
-        ensures written { IfOk result (λ written. IfSome written (λ written. (found : GaugeState) × (key : KeyText) × HasKeyAt place key self.now.series.gauges
+        ensures written { IfOk result (λ written.
+            IfSome written (λ written. (found : GaugeState) × (key : KeyText)
+            × HasKeyAt place key self.now.series.gauges
             × ChangesAt place (λ c d. PassesGauge c found d) self.now.series.gauges self.now.series.gauges
             × WritesOne (gauge_line self.now.settings writer.old.global_tags moment key) (dogstatsd_number found.value.0) written writer.old writer.new)) }
         ensures unwritten { IfOk result (λ written. IfNone written (writer.new ≡ writer.old)) }
-        ensures refused { OnErr result (SameSettings writer.old writer.new × (writer.new.lines ≡ writer.old.lines)) }
+        ensures refused { OnErr result (SameSettings writer.old writer.new
+            × (writer.new.lines ≡ writer.old.lines)) }
     {
         let Some(value) = self.resting_gauge(place) else {
             return Ok(None);
@@ -331,10 +354,13 @@ impl State {
         moment: u64,
     ) -> Result<(), Memory>
         requires { place < length self.old.series.gauges }
-        ensures flushed { OnOk result (FlushesGauge self.old.settings moment place self.old.series.gauges self.new.series.gauges
+        ensures flushed { OnOk result (FlushesGauge self.old.settings moment place
+            self.old.series.gauges self.new.series.gauges
             writer.old writer.new telemetry.old telemetry.new) }
-        ensures others { self.new ≡ record self.old { series = record self.old.series { gauges = self.new.series.gauges } } }
-        ensures refused { OnErr result ((self.new.series.gauges ≡ self.old.series.gauges) × Sends [] writer.old writer.new telemetry.old telemetry.new) }
+        ensures others { self.new ≡ record self.old
+            { series = record self.old.series { gauges = self.new.series.gauges } } }
+        ensures refused { OnErr result ((self.new.series.gauges ≡ self.old.series.gauges)
+            × Sends [] writer.old writer.new telemetry.old telemetry.new) }
     {
         self.reserve_gauge(place, moment, writer)?;
         let (value, updates) = self.take_gauge(rt, place);
@@ -354,10 +380,13 @@ impl State {
         moment: u64,
     ) -> Result<(), Memory>
         requires { place < length self.old.series.gauges }
-        ensures flushed { OnOk result (FlushesGauge self.old.settings moment place self.old.series.gauges self.new.series.gauges
+        ensures flushed { OnOk result (FlushesGauge self.old.settings moment place
+            self.old.series.gauges self.new.series.gauges
             writer.old writer.new telemetry.old telemetry.new) }
-        ensures others { self.new ≡ record self.old { series = record self.old.series { gauges = self.new.series.gauges } } }
-        ensures refused { OnErr result ((self.new.series.gauges ≡ self.old.series.gauges) × Sends [] writer.old writer.new telemetry.old telemetry.new) }
+        ensures others { self.new ≡ record self.old
+            { series = record self.old.series { gauges = self.new.series.gauges } } }
+        ensures refused { OnErr result ((self.new.series.gauges ≡ self.old.series.gauges)
+            × Sends [] writer.old writer.new telemetry.old telemetry.new) }
     {
         if let Some(written) = self.write_again(place, moment, writer)? {
             telemetry.count_number(MetricKind::Gauge, 0, &written);
@@ -403,7 +432,8 @@ impl State {
         ensures flushed { (found : Found)
             × Flushes moment found self.old self.new flush_state.old flush_state.new writer.old writer.new telemetry.old telemetry.new (W.to_come words.old) (W.to_come words.new)
             × OnOk result (IsWhole found self.old) }
-        ensures home { OnOk result (AllHome self.old → FlushesAll moment self.old self.new flush_state.old flush_state.new
+        ensures home { OnOk result (AllHome self.old
+            → FlushesAll moment self.old self.new flush_state.old flush_state.new
             writer.old writer.new telemetry.old telemetry.new (W.to_come words.old) (W.to_come words.new)) }
     {
         self.flush_each(rt, alloc, flush_state, writer, telemetry, moment, words)

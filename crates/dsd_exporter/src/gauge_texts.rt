@@ -175,7 +175,8 @@ fn are_for(
     configuration: &StateConfiguration,
     writer: &PayloadWriter,
 ) -> bool
-    ensures { OnTrue result ((prefix_text prefix.now ≡ (settings_of configuration.now).name_prefix) × (tags.now ≡ writer.now.global_tags)) }
+    ensures { OnTrue result ((prefix_text prefix.now ≡ (settings_of configuration.now).name_prefix)
+        × (tags.now ≡ writer.now.global_tags)) }
 {
     is_same_prefix(prefix, &configuration.global_prefix)
         && are_same_tags(tags, writer.global_tags())
@@ -211,9 +212,11 @@ fn begin(
     configuration: &StateConfiguration,
     writer: &PayloadWriter,
 ) -> Result<(), Memory>
-    ensures lines { (keys : List KeyText) → AreLines (prefix_text prefix.old) tags.old.items keys lines.old.items
+    ensures lines { (keys : List KeyText)
+        → AreLines (prefix_text prefix.old) tags.old.items keys lines.old.items
         → AreLines (prefix_text prefix.new) tags.new.items keys lines.new.items }
-    ensures begun { OnOk result ((prefix_text prefix.new ≡ (settings_of configuration.now).name_prefix) × (tags.new.items ≡ writer.now.global_tags)) }
+    ensures begun { OnOk result ((prefix_text prefix.new ≡
+        (settings_of configuration.now).name_prefix) × (tags.new.items ≡ writer.now.global_tags)) }
 {
     if are_for(prefix, tags.as_slice(), configuration, writer) {
         return Ok(());
@@ -247,7 +250,8 @@ fn keep_line(
 
 /// Adds a place for a line where this is the next.
 fn add_place(alloc: Global, lines: &mut Vec<GaugeLine>, place: usize) -> Result<(), Memory>
-    ensures { (prefix : Option (List ℕ)) (tags : List LabelText) (keys : List KeyText) (key : KeyText) → slice_get keys place ≡ Some key
+    ensures { (prefix : Option (List ℕ)) (tags : List LabelText) (keys : List KeyText)
+        (key : KeyText) → slice_get keys place ≡ Some key
         → AreLines prefix tags keys lines.old.items → AreLines prefix tags keys lines.new.items }
 {
     if place == lines.len() {
@@ -267,7 +271,8 @@ fn set_line(
     configuration: &StateConfiguration,
     writer: &PayloadWriter,
 ) -> Result<(), Memory>
-    ensures { IsLineOf (settings_of configuration.now).name_prefix writer.now.global_tags key.now line.old
+    ensures { IsLineOf (settings_of configuration.now).name_prefix writer.now.global_tags key.now
+        line.old
         → IsLineOf (settings_of configuration.now).name_prefix writer.now.global_tags key.now line.new }
 {
     if let Some(held) = line.value

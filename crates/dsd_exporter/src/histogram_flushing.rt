@@ -31,7 +31,9 @@ fn write_values(
     prefix: Option<&str>,
     writer: &mut PayloadWriter,
 ) -> Result<WriteResult, Memory>
-    ensures { let item = sampled rate (item_of (line_letter distributions) (option_copied prefix.entry) key.now writer.old.global_tags) in
+    ensures { let item = sampled rate
+        (item_of (line_letter distributions)
+        (option_copied prefix.entry) key.now writer.old.global_tags) in
         Writes result writer.old writer.new item (spelled_values values.now) }
 {
     if distributions {
@@ -52,7 +54,9 @@ fn send_values(
     telemetry: &mut TelemetryUpdate,
 ) -> Result<(), Memory>
     requires { 0 < rate_in (rate_of rate) }
-    ensures sent { OnOk result ((updates : ℕ) → Sends (samples_item distributions (option_copied prefix.entry) key.now writer.old.global_tags rate values.now updates ∷ [])
+    ensures sent { OnOk result ((updates : ℕ)
+        → Sends (samples_item distributions
+        (option_copied prefix.entry) key.now writer.old.global_tags rate values.now updates ∷ [])
         writer.old writer.new telemetry.old telemetry.new) }
     ensures refused { OnErr result (Sends [] writer.old writer.new telemetry.old telemetry.new) }
 {
@@ -67,9 +71,13 @@ impl State {
     /// Drains the queue of the histogram at a place.
     fn drain_histogram<R: Wait>(&mut self, rt: &R, place: usize) -> Result<(), Memory>
         requires { place < length self.old.series.histograms }
-        ensures drains { ChangesAt place Drains self.old.series.histograms self.new.series.histograms }
-        ensures empty { OnOk result (ChangesAt place (λ c d. Drains c d × FoundEmpty d.root) self.old.series.histograms self.new.series.histograms) }
-        ensures others { self.new ≡ record self.old { series = record self.old.series { histograms = self.new.series.histograms } } }
+        ensures drains { ChangesAt place Drains self.old.series.histograms
+            self.new.series.histograms }
+        ensures empty { OnOk result (ChangesAt place
+            (λ c d. Drains c d × FoundEmpty d.root) self.old.series.histograms
+            self.new.series.histograms) }
+        ensures others { self.new ≡ record self.old
+            { series = record self.old.series { histograms = self.new.series.histograms } } }
     {
         self.series.histogram_at(place).drain(rt)
     }
@@ -77,8 +85,11 @@ impl State {
     /// Lets the samples go that were taken out of the histogram at a place.
     fn clear_histogram(&mut self, place: usize)
         requires { place < length self.old.series.histograms }
-        ensures cleared { ChangesAt place (λ c d. d ≡ record c { taken = [] }) self.old.series.histograms self.new.series.histograms }
-        ensures others { self.new ≡ record self.old { series = record self.old.series { histograms = self.new.series.histograms } } }
+        ensures cleared { ChangesAt place
+            (λ c d. d ≡ record c { taken = [] }) self.old.series.histograms
+            self.new.series.histograms }
+        ensures others { self.new ≡ record self.old
+            { series = record self.old.series { histograms = self.new.series.histograms } } }
     {
         self.series.histogram_at(place).clear();
     }
@@ -93,8 +104,11 @@ impl State {
         words: &mut W,
     ) -> Result<(), Memory>
         requires { place < length self.now.series.histograms }
-        ensures sent { OnOk result (SendsTaken self.now.settings place self.now.series.histograms writer.old writer.new telemetry.old telemetry.new (W.to_come words.old) (W.to_come words.new)) }
-        ensures refused { OnErr result (Sends [] writer.old writer.new telemetry.old telemetry.new) }
+        ensures sent { OnOk result (SendsTaken self.now.settings place self.now.series.histograms
+            writer.old writer.new telemetry.old telemetry.new (W.to_come words.old)
+            (W.to_come words.new)) }
+        ensures refused { OnErr result (Sends [] writer.old writer.new telemetry.old telemetry.new)
+            }
         ensures drawn { (drawn : List ℕ) × Draws (W.to_come words.old) drawn (W.to_come words.new) }
     {
         let series = self.series.histograms();
@@ -120,10 +134,14 @@ impl State {
         words: &mut W,
     ) -> Result<(), Memory>
         requires { place < length self.old.series.histograms }
-        ensures flushed { OnOk result (FlushesHistogram self.old.settings place self.old.series.histograms self.new.series.histograms
+        ensures flushed { OnOk result (FlushesHistogram self.old.settings place
+            self.old.series.histograms self.new.series.histograms
             writer.old writer.new telemetry.old telemetry.new (W.to_come words.old) (W.to_come words.new)) }
-        ensures others { self.new ≡ record self.old { series = record self.old.series { histograms = self.new.series.histograms } } }
-        ensures refused { OnErr result (ChangesAt place Drains self.old.series.histograms self.new.series.histograms × Sends [] writer.old writer.new telemetry.old telemetry.new) }
+        ensures others { self.new ≡ record self.old
+            { series = record self.old.series { histograms = self.new.series.histograms } } }
+        ensures refused { OnErr result (ChangesAt place Drains self.old.series.histograms
+            self.new.series.histograms × Sends [] writer.old writer.new telemetry.old telemetry.new)
+            }
         ensures drawn { (drawn : List ℕ) × Draws (W.to_come words.old) drawn (W.to_come words.new) }
     {
         self.drain_histogram(rt, place)?;
@@ -164,9 +182,12 @@ impl StateConfiguration {
         telemetry: &mut TelemetryUpdate,
         words: &mut W,
     ) -> Result<(), Memory>
-        ensures sent { OnOk result ((drawn : List ℕ) × DrawsFor (settings_of self.now) (samples_in histogram.now.taken) drawn (W.to_come words.old) (W.to_come words.new)
+        ensures sent { OnOk result ((drawn : List ℕ)
+            × DrawsFor (settings_of self.now) (samples_in histogram.now.taken) drawn
+            (W.to_come words.old) (W.to_come words.new)
             × SendsSamples (settings_of self.now) key.now (samples_in histogram.now.taken) drawn writer.old writer.new telemetry.old telemetry.new) }
-        ensures refused { OnErr result (Sends [] writer.old writer.new telemetry.old telemetry.new) }
+        ensures refused { OnErr result (Sends [] writer.old writer.new telemetry.old telemetry.new)
+            }
         ensures drawn { (drawn : List ℕ) × Draws (W.to_come words.old) drawn (W.to_come words.new) }
     {
         if !histogram.has_samples() {

@@ -71,7 +71,9 @@ impl<C: RestingCell> KeptCell<C> {
 
     /// Lends the cell and a new pass of it. The first lend makes the cell.
     pub(crate) fn lend_pass(&mut self, alloc: Global) -> Result<(Arc<C>, C::Pass), Memory>
-        ensures lent { IfOk result (λ lent. Makes self.old.fixed (arc_value lent.0) × C.is_pass (arc_value lent.0) lent.1 × (C.view lent.1 ≡ child self.old.root) × (self.new ≡ with_lent (arc_value lent.0) self.old)) }
+        ensures lent { IfOk result (λ lent. Makes self.old.fixed (arc_value lent.0)
+            × C.is_pass (arc_value lent.0) lent.1 × (C.view lent.1 ≡ child self.old.root)
+            × (self.new ≡ with_lent (arc_value lent.0) self.old)) }
         ensures refused { OnErr result (self.new ≡ self.old) }
     {
         self.rest = None;
@@ -97,7 +99,8 @@ impl<C: RestingCell> KeptCell<C> {
 
     /// Lends a new pass of the cell to a lane. The first lend makes the cell.
     pub(crate) fn lend_to_lane(&mut self, alloc: Global) -> Result<LentCell<C>, Memory>
-        ensures lent { IfOk result (λ lent. Makes self.old.fixed lent.cell × (lent.knows ≡ child self.old.root) × (self.new ≡ with_lent lent.cell self.old)) }
+        ensures lent { IfOk result (λ lent. Makes self.old.fixed lent.cell
+            × (lent.knows ≡ child self.old.root) × (self.new ≡ with_lent lent.cell self.old)) }
         ensures refused { OnErr result (self.new ≡ self.old) }
     {
         let (cell, pass) = self.lend_pass(alloc)?;
@@ -173,7 +176,8 @@ pub(crate) fn new_gauge() -> KeptCell<DsdGauge>
 impl KeptCell<DsdCounter> {
     /// Takes what waits in the counter: its delta, and its number of updates.
     pub(crate) fn take_delta<R: Wait>(&mut self, rt: &R) -> (u64, u64)
-        ensures { (found : CounterState) × (result ≡ (found.delta, found.updates)) × TakesCounter self.old found self.new }
+        ensures { (found : CounterState) × (result ≡ (found.delta, found.updates))
+            × TakesCounter self.old found self.new }
     {
         if self.rest.is_some() {
             return (0, 0);
@@ -188,7 +192,8 @@ impl KeptCell<DsdCounter> {
 
     /// Takes what waits in the counter where that is nothing: no delta, and no updates. Elsewhere nothing changes.
     pub(crate) fn take_nothing<R: Wait>(&mut self, rt: &R) -> bool
-        ensures taken { OnTrue result ((found : CounterState) × (found.delta ≡ 0) × (found.updates ≡ 0) × TakesCounter self.old found self.new) }
+        ensures taken { OnTrue result ((found : CounterState) × (found.delta ≡ 0)
+            × (found.updates ≡ 0) × TakesCounter self.old found self.new) }
         ensures none { OnFalse result (self.new ≡ self.old) }
     {
         if self.rest.is_some() {
@@ -209,14 +214,16 @@ impl KeptCell<DsdCounter> {
 impl KeptCell<DsdGauge> {
     /// The value of the gauge, where no pass is out and nothing waits for sure.
     pub(crate) fn resting_value(&self) -> Option<Fixed>
-        ensures { IfSome result (λ value. (found : GaugeState) × (value ≡ found.value) × PassesGauge self.now found self.now) }
+        ensures { IfSome result (λ value. (found : GaugeState) × (value ≡ found.value)
+            × PassesGauge self.now found self.now) }
     {
         self.rest
     }
 
     /// Takes what waits in the gauge: its value, which it keeps, and its number of updates.
     pub(crate) fn take_value<R: Wait>(&mut self, rt: &R) -> (Fixed, u64)
-        ensures { (found : GaugeState) × (result ≡ (found.value, found.updates)) × TakesGauge self.old found self.new }
+        ensures { (found : GaugeState) × (result ≡ (found.value, found.updates))
+            × TakesGauge self.old found self.new }
     {
         if let Some(value) = self.rest {
             return (value, 0);

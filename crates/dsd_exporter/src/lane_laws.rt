@@ -26,15 +26,18 @@ pub fn an_id_has_one_index()
 /// After a round each counter of the sequential state is what it was after the calls of all lanes on it, in one order in which
 /// each lane's calls stand as the lane has them.
 pub fn a_round_leaves_the_state_of_counters()
-    ensures { (lanes : List (Lane SeriesCall)) (old new : Exporter) → IsRound lanes old new → LeavesCounters lanes old new }
+    ensures { (lanes : List (Lane SeriesCall)) (old new : Exporter) → IsRound lanes old new
+        → LeavesCounters lanes old new }
 {}
 
 /// The same of each gauge.
 pub fn a_round_leaves_the_state_of_gauges()
-    ensures { (lanes : List (Lane SeriesCall)) (old new : Exporter) → IsRound lanes old new → LeavesGauges lanes old new }
+    ensures { (lanes : List (Lane SeriesCall)) (old new : Exporter) → IsRound lanes old new
+        → LeavesGauges lanes old new }
 {}
 
 /// The same of each histogram, whose samples are those that wait to be sent. A record of no sample is none.
 pub fn a_round_leaves_the_state_of_histograms()
-    ensures { (lanes : List (Lane SeriesCall)) (old new : Exporter) → IsRound lanes old new → LeavesHistograms lanes old new }
+    ensures { (lanes : List (Lane SeriesCall)) (old new : Exporter) → IsRound lanes old new
+        → LeavesHistograms lanes old new }
 {}

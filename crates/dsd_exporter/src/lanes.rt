@@ -52,7 +52,8 @@ pub enum SeriesEntry {
 /// What a call asks of a counter.
 fn counter_change(call: &SeriesCall) -> CounterChange
     requires { IsCounterCall call.now }
-    ensures { (state : CounterState) → counters.answered result state ∷ [] ≡ counter_calls call.now }
+    ensures { (state : CounterState)
+        → counters.answered result state ∷ [] ≡ counter_calls call.now }
 {
     match *call {
         SeriesCall::Increment(count) => CounterChange::Increment(count),
@@ -106,7 +107,8 @@ impl LanePass {
     /// Makes a call of the series' kind.
     fn make<R: Wait>(&mut self, rt: &R, alloc: Global, call: &SeriesCall) -> Result<(), Memory>
         requires { (cell : SeriesCell) × IsPassOf cell self.old × TakesCall cell call.now }
-        ensures made { OnOk result (Made (StandsAsEntries call.now) (pass_known self.old) (pass_known self.new)) }
+        ensures made { OnOk result (Made (StandsAsEntries call.now) (pass_known self.old)
+            (pass_known self.new)) }
         ensures refused { OnErr result (pass_known self.new ≡ pass_known self.old) }
         ensures cell { (cell : SeriesCell) → IsPassOf cell self.old → IsPassOf cell self.new }
     {

@@ -32,7 +32,8 @@ pub trait Link {
 
     /// Sends a payload whole. A failed send sends nothing.
     fn send(&mut self, payload: &[u8]) -> Result<(), Failed>
-        ensures grew { OnOk result (GrewBy (sent self.old) (sent self.new) (record { to = aimed self.old; payload = payload.now } ∷ [])) }
+        ensures grew { OnOk result (GrewBy (sent self.old) (sent self.new)
+            (record { to = aimed self.old; payload = payload.now } ∷ [])) }
         ensures kept { OnErr result (sent self.new ≡ sent self.old) }
         ensures cause { OnErr result (Rose (faults self.old) (faults self.new)) }
         ensures never_falls { faults self.old ≤ faults self.new }
@@ -86,7 +87,8 @@ impl Model for MemoryLink {
 
 /// The same address, where there is one.
 fn copied(alloc: Global, address: &Option<RemoteAddr>) -> Result<Option<RemoteAddr>, Memory>
-    ensures { IfOk result (λ copy. option_map remote_text copy ≡ option_map remote_text address.now) }
+    ensures { IfOk result (λ copy. option_map remote_text copy ≡ option_map remote_text address.now)
+        }
 {
     match address {
         Some(address) => Ok(Some(address.clone(alloc)?)),
@@ -97,7 +99,9 @@ fn copied(alloc: Global, address: &Option<RemoteAddr>) -> Result<Option<RemoteAd
 impl MemoryLink {
     /// The link that isn't aimed yet, has sent nothing, and whose sends with the numbers in `failing`, counted from 0, fail.
     pub fn new(alloc: Global, failing: Vec<u64>) -> MemoryLink
-        ensures { result ≡ record { aimed = None; sent = []; calls = record { failing = failing.items; number = 0; faults = 0 } } }
+        ensures { result ≡ record
+            { aimed = None; sent = []; calls = record
+            { failing = failing.items; number = 0; faults = 0 } } }
     {
         MemoryLink {
             alloc,
@@ -123,7 +127,10 @@ impl MemoryLink {
 
     /// Keeps a payload with the address that the link is aimed at.
     fn keep(&mut self, payload: &[u8]) -> Result<(), Memory>
-        ensures kept { OnOk result (self.new ≡ record self.old { sent = self.old.sent ++ record { to = self.old.aimed; payload = payload.now } ∷ [] }) }
+        ensures kept { OnOk result (self.new
+            ≡ record self.old
+            { sent = self.old.sent ++ record { to = self.old.aimed; payload = payload.now } ∷ [] })
+            }
         ensures refused { OnErr result (self.new ≡ self.old) }
     {
         let to = copied(self.alloc, &self.aimed)?;
@@ -141,7 +148,8 @@ impl Link for MemoryLink {
     ghost faults = { λ link. link.calls.faults };
 
     fn aim(&mut self, alloc: Global, to: &RemoteAddr) -> Result<(), Memory>
-        ensures aimed { OnOk result (self.new ≡ record self.old { aimed = Some (remote_text to.now) }) }
+        ensures aimed { OnOk result (self.new
+            ≡ record self.old { aimed = Some (remote_text to.now) }) }
         ensures refused { OnErr result (self.new ≡ self.old) }
         ensures sent { self.new.sent ≡ self.old.sent }
         ensures never_falls { self.old.calls.faults ≤ self.new.calls.faults }
@@ -152,12 +160,14 @@ impl Link for MemoryLink {
 
     /// Fails where the number of this send is in the list, and where the room for the payload is refused.
     fn send(&mut self, payload: &[u8]) -> Result<(), Failed>
-        ensures grew { OnOk result (self.new.sent ≡ self.old.sent ++ record { to = self.old.aimed; payload = payload.now } ∷ []) }
+        ensures grew { OnOk result (self.new.sent
+            ≡ self.old.sent ++ record { to = self.old.aimed; payload = payload.now } ∷ []) }
         ensures kept { OnErr result (self.new.sent ≡ self.old.sent) }
         ensures cause { OnErr result (Rose self.old.calls.faults self.new.calls.faults) }
         ensures never_falls { self.old.calls.faults ≤ self.new.calls.faults }
         ensures aimed { self.new.aimed ≡ self.old.aimed }
-        ensures fails { OnOk result (is_listed self.old.calls.failing self.old.calls.number ≡ false) }
+        ensures fails { OnOk result (is_listed self.old.calls.failing self.old.calls.number ≡ false)
+            }
         ensures next { self.new.calls.number ≡ one_more self.old.calls.number }
         ensures list { self.new.calls.failing ≡ self.old.calls.failing }
         ensures no_fault { OnOk result (self.new.calls.faults ≡ self.old.calls.faults) }

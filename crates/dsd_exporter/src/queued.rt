@@ -51,7 +51,8 @@ impl QueuedSamples {
         &mut self,
         alloc: Global,
     ) -> Result<(Arc<DsdHistogram>, SamplePass<Fixed>), Memory>
-        ensures lent { IfOk result (λ lent. (arc_value lent.0 ≡ self.old.cell) × IsSamplePass self.old.cell lent.1 × (view_of lent.1 ≡ child self.old.root)) }
+        ensures lent { IfOk result (λ lent. (arc_value lent.0 ≡ self.old.cell)
+            × IsSamplePass self.old.cell lent.1 × (view_of lent.1 ≡ child self.old.root)) }
         ensures out { OnOk result (self.new ≡ queue_out self.old) }
         ensures refused { OnErr result (self.new ≡ self.old) }
     {
@@ -68,7 +69,8 @@ impl QueuedSamples {
 
     /// Lends a new pass of the queue to a lane.
     pub(crate) fn lend_to_lane(&mut self, alloc: Global) -> Result<LentCell<DsdHistogram>, Memory>
-        ensures lent { IfOk result (λ lent. (lent.cell ≡ self.old.cell) × (lent.knows ≡ child self.old.root)) }
+        ensures lent { IfOk result (λ lent. (lent.cell ≡ self.old.cell)
+            × (lent.knows ≡ child self.old.root)) }
         ensures out { OnOk result (self.new ≡ queue_out self.old) }
         ensures refused { OnErr result (self.new ≡ self.old) }
     {
@@ -160,7 +162,9 @@ impl QueuedSamples {
         size: u32,
         words: &mut W,
     ) -> Result<Reservoir, Memory>
-        ensures sample { IfOk result (λ sample. IsSample size (samples_in self.now.taken) sample (W.to_come words.old) (W.to_come words.new)) }
+        ensures sample { IfOk result (λ sample.
+            IsSample size (samples_in self.now.taken) sample (W.to_come words.old)
+            (W.to_come words.new)) }
         ensures refused { OnErr result (words.new ≡ words.old) }
     {
         let mut sample = Reservoir::new(alloc, size)?;
@@ -186,7 +190,8 @@ fn push_times(values: &mut Vec<Fixed>, value: Fixed, count: u32) -> Result<(), M
 
 /// Hands a value to a sample so many times. It takes no memory.
 fn offer_times<W: Words>(sample: &mut Reservoir, value: Fixed, count: u32, words: &mut W)
-    ensures { Offers (sample.old, W.to_come words.old) (replicate count value) (sample.new, W.to_come words.new) }
+    ensures { Offers (sample.old, W.to_come words.old) (replicate count value)
+        (sample.new, W.to_come words.new) }
 {
     let mut made = 0;
     while made < count {

@@ -29,7 +29,8 @@ pub struct FlushReport {
 
 /// Hands a payload to a link, counts it, and answers whether it was sent.
 fn send_payload<L: Link>(payload: &[u8], telemetry: &mut TelemetryUpdate, link: &mut L) -> bool
-    ensures handed { HandsOut (payload.now ∷ []) (record { payload = payload.now; went = result } ∷ []) (L.aimed link.old)
+    ensures handed { HandsOut (payload.now ∷ [])
+        (record { payload = payload.now; went = result } ∷ []) (L.aimed link.old)
         (L.sent link.old) (L.sent link.new) (L.faults link.old) (L.faults link.new) telemetry.old telemetry.new }
     ensures aimed { L.aimed link.new ≡ L.aimed link.old }
     ensures never_falls { L.faults link.old ≤ L.faults link.new }
@@ -49,7 +50,8 @@ fn send_payloads<L: Link>(
     telemetry: &mut TelemetryUpdate,
     link: &mut L,
 ) -> (u64, u64)
-    ensures handed { (outcomes : List Outcome) × HandsOut (payloads_left payloads.entry) outcomes (L.aimed link.old)
+    ensures handed { (outcomes : List Outcome)
+        × HandsOut (payloads_left payloads.entry) outcomes (L.aimed link.old)
         (L.sent link.old) (L.sent link.new) (L.faults link.old) (L.faults link.new) telemetry.old telemetry.new × Counts outcomes result }
     ensures all { result.0 + result.1 ≡ length (payloads_left payloads.entry) }
     ensures aimed { L.aimed link.new ≡ L.aimed link.old }
@@ -73,7 +75,8 @@ fn send_lines<L: Link>(
     telemetry: &mut TelemetryUpdate,
     link: &mut L,
 ) -> (u64, u64)
-    ensures handed { (outcomes : List Outcome) × HandsOut (payloads_in writer.old) outcomes (L.aimed link.old)
+    ensures handed { (outcomes : List Outcome)
+        × HandsOut (payloads_in writer.old) outcomes (L.aimed link.old)
         (L.sent link.old) (L.sent link.new) (L.faults link.old) (L.faults link.new) telemetry.old telemetry.new × Counts outcomes result }
     ensures all { result.0 + result.1 ≡ length (payloads_in writer.old) }
     ensures emptied { IsEmptied writer.old writer.new }
@@ -102,9 +105,12 @@ pub fn write_flush<R: Wait, W: Words>(
     moment: u64,
     words: &mut W,
 ) -> Result<u64, Memory>
-    ensures written { IfOk result (WritesFlush moment state.old state.new flush_state.old flush_state.new writer.old writer.new telemetry.old telemetry.new
+    ensures written { IfOk result (WritesFlush moment state.old state.new flush_state.old
+        flush_state.new writer.old writer.new telemetry.old telemetry.new
         (W.to_come words.old) (W.to_come words.new)) }
-    ensures refused { OnErr result ((found : Found) × Flushes moment found state.old state.new flush_state.old flush_state.new writer.old writer.new
+    ensures refused { OnErr result ((found : Found)
+        × Flushes moment found state.old state.new flush_state.old flush_state.new writer.old
+        writer.new
         telemetry.old telemetry.new (W.to_come words.old) (W.to_come words.new)) }
 {
     let before = telemetry.points_left_out();
@@ -120,7 +126,8 @@ pub fn send_written<L: Link>(
     dropped: u64,
     link: &mut L,
 ) -> FlushReport
-    ensures sent { SendsWritten writer.old writer.new telemetry.old telemetry.new (L.aimed link.old) (L.sent link.old) (L.sent link.new)
+    ensures sent { SendsWritten writer.old writer.new telemetry.old telemetry.new (L.aimed link.old)
+        (L.sent link.old) (L.sent link.new)
         (L.faults link.old) (L.faults link.new) (result.sent, result.unsent) }
     ensures dropped { result.dropped ≡ dropped }
     ensures aimed { L.aimed link.new ≡ L.aimed link.old }
@@ -147,9 +154,12 @@ pub fn send_flush<R: Wait, L: Link, W: Words>(
     words: &mut W,
     link: &mut L,
 ) -> Result<FlushReport, Memory>
-    ensures sent { IfOk result (SendsFlush moment state.old state.new flush_state.old flush_state.new writer.old writer.new telemetry.old telemetry.new
+    ensures sent { IfOk result (SendsFlush moment state.old state.new flush_state.old
+        flush_state.new writer.old writer.new telemetry.old telemetry.new
         (W.to_come words.old) (W.to_come words.new) (L.aimed link.old) (L.sent link.old) (L.sent link.new) (L.faults link.old) (L.faults link.new)) }
-    ensures refused { OnErr result ((found : Found) × Flushes moment found state.old state.new flush_state.old flush_state.new writer.old writer.new
+    ensures refused { OnErr result ((found : Found)
+        × Flushes moment found state.old state.new flush_state.old flush_state.new writer.old
+        writer.new
         telemetry.old telemetry.new (W.to_come words.old) (W.to_come words.new)) }
     ensures unused { OnErr result (link.new ≡ link.old) }
     ensures aimed { L.aimed link.new ≡ L.aimed link.old }

@@ -47,7 +47,8 @@ impl Model for State {
 impl State {
     /// An exporter without series. Keys are looked up by hashes from the fixed start. It takes no memory.
     pub fn new(alloc: Global, config: StateConfiguration) -> Result<State, Memory>
-        ensures { IfOk result (λ made. made ≡ record { settings = settings_of config; series = no_cells }) }
+        ensures { IfOk result (λ made.
+            made ≡ record { settings = settings_of config; series = no_cells }) }
     {
         State::starting_from(alloc, HashStart::fixed(), config)
     }
@@ -59,7 +60,8 @@ impl State {
         start: HashStart,
         config: StateConfiguration,
     ) -> Result<State, Memory>
-        ensures { IfOk result (λ made. made ≡ record { settings = settings_of config; series = no_cells }) }
+        ensures { IfOk result (λ made.
+            made ≡ record { settings = settings_of config; series = no_cells }) }
     {
         Ok(State {
             configuration: config,
@@ -86,10 +88,13 @@ impl State {
     /// Registers a counter. Where there is one with an equal key its id is given, no memory is taken, and nothing changes;
     /// otherwise a new one at 0 goes last. Past 2^64 - 1 series none is made, and the id names none.
     pub fn register_counter(&mut self, alloc: Global, key: &Key) -> Result<SeriesId, Memory>
-        ensures registered { OnOk result (series_seen self.new.series ≡ register Counter key.now (series_seen self.old.series)) }
-        ensures cells { OnOk result ((self.new ≡ self.old) ⊎ AddsCounter key.now self.old self.new) }
+        ensures registered { OnOk result (series_seen self.new.series ≡ register Counter key.now
+            (series_seen self.old.series)) }
+        ensures cells { OnOk result ((self.new ≡ self.old) ⊎ AddsCounter key.now self.old self.new)
+            }
         ensures home { AllHome self.old → AllHome self.new }
-        ensures id { IfOk result (λ id. id ≡ record { kind = Counter; number = number_given Counter key.now self.old.series }) }
+        ensures id { IfOk result (λ id.
+            id ≡ record { kind = Counter; number = number_given Counter key.now self.old.series }) }
         ensures absent { OnErr result (number_found Counter key.now self.old.series ≡ None) }
         ensures refused { OnErr result (self.new ≡ self.old) }
     {
@@ -104,10 +109,12 @@ impl State {
     /// Registers a counter as `register_counter` does, under a key that the exporter then keeps: it is not copied. A key that is
     /// there takes no memory.
     pub fn register_owned_counter(&mut self, alloc: Global, key: Key) -> Result<SeriesId, Memory>
-        ensures registered { OnOk result (series_seen self.new.series ≡ register Counter key (series_seen self.old.series)) }
+        ensures registered { OnOk result (series_seen self.new.series ≡ register Counter key
+            (series_seen self.old.series)) }
         ensures cells { OnOk result ((self.new ≡ self.old) ⊎ AddsCounter key self.old self.new) }
         ensures home { AllHome self.old → AllHome self.new }
-        ensures id { IfOk result (λ id. id ≡ record { kind = Counter; number = number_given Counter key self.old.series }) }
+        ensures id { IfOk result (λ id.
+            id ≡ record { kind = Counter; number = number_given Counter key self.old.series }) }
         ensures absent { OnErr result (number_found Counter key self.old.series ≡ None) }
         ensures refused { OnErr result (self.new ≡ self.old) }
     {
@@ -126,10 +133,12 @@ impl State {
 
     /// Registers a gauge, as `register_counter` does a counter: a key that is there takes no memory.
     pub fn register_gauge(&mut self, alloc: Global, key: &Key) -> Result<SeriesId, Memory>
-        ensures registered { OnOk result (series_seen self.new.series ≡ register Gauge key.now (series_seen self.old.series)) }
+        ensures registered { OnOk result (series_seen self.new.series ≡ register Gauge key.now
+            (series_seen self.old.series)) }
         ensures cells { OnOk result ((self.new ≡ self.old) ⊎ AddsGauge key.now self.old self.new) }
         ensures home { AllHome self.old → AllHome self.new }
-        ensures id { IfOk result (λ id. id ≡ record { kind = Gauge; number = number_given Gauge key.now self.old.series }) }
+        ensures id { IfOk result (λ id.
+            id ≡ record { kind = Gauge; number = number_given Gauge key.now self.old.series }) }
         ensures absent { OnErr result (number_found Gauge key.now self.old.series ≡ None) }
         ensures refused { OnErr result (self.new ≡ self.old) }
     {
@@ -144,10 +153,12 @@ impl State {
     /// Registers a gauge as `register_gauge` does, under a key that the exporter then keeps: it is not copied. A key that is
     /// there takes no memory.
     pub fn register_owned_gauge(&mut self, alloc: Global, key: Key) -> Result<SeriesId, Memory>
-        ensures registered { OnOk result (series_seen self.new.series ≡ register Gauge key (series_seen self.old.series)) }
+        ensures registered { OnOk result (series_seen self.new.series ≡ register Gauge key
+            (series_seen self.old.series)) }
         ensures cells { OnOk result ((self.new ≡ self.old) ⊎ AddsGauge key self.old self.new) }
         ensures home { AllHome self.old → AllHome self.new }
-        ensures id { IfOk result (λ id. id ≡ record { kind = Gauge; number = number_given Gauge key self.old.series }) }
+        ensures id { IfOk result (λ id.
+            id ≡ record { kind = Gauge; number = number_given Gauge key self.old.series }) }
         ensures absent { OnErr result (number_found Gauge key self.old.series ≡ None) }
         ensures refused { OnErr result (self.new ≡ self.old) }
     {
@@ -168,7 +179,9 @@ impl State {
     /// the gauge is taken back.
     fn add_gauge(&mut self, key: Key) -> Result<SeriesId, Memory>
         requires { self.old.series.made < 2 ^ 64 - 1 }
-        ensures registered { IfOk result (λ id. RegistersGauge (λ cell. cell ≡ unused cell.fixed) key id self.old.series self.new.series) }
+        ensures registered { IfOk result (λ id.
+            RegistersGauge (λ cell. cell ≡ unused cell.fixed) key id self.old.series
+            self.new.series) }
         ensures others { self.new ≡ record self.old { series = self.new.series } }
         ensures absent { OnErr result (id_of_key key self.old.series.gauges ≡ None) }
         ensures refused { OnErr result (self.new ≡ self.old) }
@@ -192,10 +205,14 @@ impl State {
 
     /// Registers a histogram, as `register_counter` does a counter: a key that is there takes no memory.
     pub fn register_histogram(&mut self, alloc: Global, key: &Key) -> Result<SeriesId, Memory>
-        ensures registered { OnOk result (series_seen self.new.series ≡ register Histogram key.now (series_seen self.old.series)) }
-        ensures cells { OnOk result ((self.new ≡ self.old) ⊎ AddsHistogram key.now self.old self.new) }
+        ensures registered { OnOk result (series_seen self.new.series ≡ register Histogram key.now
+            (series_seen self.old.series)) }
+        ensures cells { OnOk result ((self.new ≡ self.old)
+            ⊎ AddsHistogram key.now self.old self.new) }
         ensures home { AllHome self.old → AllHome self.new }
-        ensures id { IfOk result (λ id. id ≡ record { kind = Histogram; number = number_given Histogram key.now self.old.series }) }
+        ensures id { IfOk result (λ id.
+            id ≡ record { kind = Histogram; number = number_given Histogram key.now self.old.series
+            }) }
         ensures absent { OnErr result (number_found Histogram key.now self.old.series ≡ None) }
         ensures refused { OnErr result (self.new ≡ self.old) }
     {
@@ -210,10 +227,12 @@ impl State {
     /// Registers a histogram as `register_histogram` does, under a key that the exporter then keeps: it is not copied. A key that
     /// is there takes no memory.
     pub fn register_owned_histogram(&mut self, alloc: Global, key: Key) -> Result<SeriesId, Memory>
-        ensures registered { OnOk result (series_seen self.new.series ≡ register Histogram key (series_seen self.old.series)) }
+        ensures registered { OnOk result (series_seen self.new.series ≡ register Histogram key
+            (series_seen self.old.series)) }
         ensures cells { OnOk result ((self.new ≡ self.old) ⊎ AddsHistogram key self.old self.new) }
         ensures home { AllHome self.old → AllHome self.new }
-        ensures id { IfOk result (λ id. id ≡ record { kind = Histogram; number = number_given Histogram key self.old.series }) }
+        ensures id { IfOk result (λ id.
+            id ≡ record { kind = Histogram; number = number_given Histogram key self.old.series }) }
         ensures absent { OnErr result (number_found Histogram key self.old.series ≡ None) }
         ensures refused { OnErr result (self.new ≡ self.old) }
     {
@@ -253,7 +272,9 @@ impl State {
     /// the id the pass is dropped.
     pub fn give_back_counter(&mut self, lent: Lent<Arc<DsdCounter>, CounterPass>)
         requires lent { LentCounter self.old lent }
-        ensures taken { (HasNoCounter lent.id self.old × (self.new ≡ self.old)) ⊎ ChangesCounter lent.id (λ s t. t ≡ with_one_back (flushed.view_of lent.pass) s) self.old self.new }
+        ensures taken { (HasNoCounter lent.id self.old × (self.new ≡ self.old))
+            ⊎ ChangesCounter lent.id
+            (λ s t. t ≡ with_one_back (flushed.view_of lent.pass) s) self.old self.new }
     {
         let Lent {
             handle: _,
@@ -284,7 +305,9 @@ impl State {
     /// Takes back a gauge that this exporter lent, as `give_back_counter` does a counter.
     pub fn give_back_gauge(&mut self, lent: Lent<Arc<DsdGauge>, GaugePass>)
         requires lent { LentGauge self.old lent }
-        ensures taken { (HasNoGauge lent.id self.old × (self.new ≡ self.old)) ⊎ ChangesGauge lent.id (λ s t. t ≡ with_one_back (flushed.view_of lent.pass) s) self.old self.new }
+        ensures taken { (HasNoGauge lent.id self.old × (self.new ≡ self.old))
+            ⊎ ChangesGauge lent.id
+            (λ s t. t ≡ with_one_back (flushed.view_of lent.pass) s) self.old self.new }
     {
         let Lent {
             handle: _,
@@ -315,7 +338,9 @@ impl State {
     /// Takes back a histogram that this exporter lent, as `give_back_counter` does a counter.
     pub fn give_back_histogram(&mut self, lent: Lent<Arc<DsdHistogram>, SamplePass<Fixed>>)
         requires lent { LentHistogram self.old lent }
-        ensures taken { (HasNoHistogram lent.id self.old × (self.new ≡ self.old)) ⊎ ChangesHistogram lent.id (λ s t. t ≡ queue_back (queued.view_of lent.pass) s) self.old self.new }
+        ensures taken { (HasNoHistogram lent.id self.old × (self.new ≡ self.old))
+            ⊎ ChangesHistogram lent.id
+            (λ s t. t ≡ queue_back (queued.view_of lent.pass) s) self.old self.new }
     {
         let Lent {
             handle: _,

@@ -165,7 +165,8 @@ impl TelemetryUpdate {
 
     /// Counts a series that was sent with one number, which tells of so many updates.
     pub(crate) fn count_number(&mut self, kind: MetricKind, updates: u64, written: &WriteResult)
-        ensures { self.new ≡ with_series kind (if nat_lt 0 written.now.left_out then 0 else updates) written.now.left_out self.old }
+        ensures { self.new ≡ with_series kind
+            (if nat_lt 0 written.now.left_out then 0 else updates) written.now.left_out self.old }
     {
         let points = if written.any_failures() { 0 } else { updates };
         self.count_series(kind, points, written.points_dropped());
@@ -289,7 +290,8 @@ impl TelemetryUpdate {
     /// Counts a histogram that was sent: so many of its values stand on lines with this rate, and so many were left out.
     pub(crate) fn count_samples(&mut self, kept: u64, rate: Option<Fixed>, left_out: u64)
         requires { 0 < rate_in (rate_of rate) }
-        ensures { self.new ≡ with_series Histogram (kept * one / rate_in (rate_of rate)) left_out self.old }
+        ensures { self.new ≡ with_series Histogram
+            (kept * one / rate_in (rate_of rate)) left_out self.old }
     {
         self.count_series(MetricKind::Histogram, points_at(kept, rate), left_out);
     }

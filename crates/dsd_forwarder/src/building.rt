@@ -36,7 +36,8 @@ pub trait BuildForwarder {
         ensures built { IfOk result (λ made. IsBuilt (settings self) made.1) }
         ensures one { IfOk result (λ made. arc_value made.0.state ≡ made.1.state) }
         ensures limit { OnOk result (limit_fault_in (settings self) ≡ None) }
-        ensures refused { IfErr result (λ fault. fault ≡ refusal_for (limit_fault_in (settings self))) };
+        ensures refused { IfErr result (λ fault.
+            fault ≡ refusal_for (limit_fault_in (settings self))) };
 
     /// The forwarder, with the recorder set as that of the whole program. Where one was set before it is refused with
     /// `FailedToInstall`, and the note then knows that one.
@@ -50,7 +51,9 @@ pub trait BuildForwarder {
         ensures cell { note.new.cell ≡ note.old.cell }
         ensures built { IfOk result (IsBuilt (settings self)) }
         ensures limit { OnOk result (limit_fault_in (settings self) ≡ None) }
-        ensures installed { IfOk result (λ forwarder. (note.old.known ≡ None) × ((there : RecorderOf) × (note.new.known ≡ Some there) × (arc_value there.state ≡ forwarder.state))) }
+        ensures installed { IfOk result (λ forwarder. (note.old.known ≡ None)
+            × ((there : RecorderOf) × (note.new.known ≡ Some there)
+            × (arc_value there.state ≡ forwarder.state))) }
         ensures refused { IfErr result (λ fault.
             ((fault ≡ refusal_for (limit_fault_in (settings self))) × (note.new.known ≡ note.old.known))
             ⊎ ((fault ≡ causes.FailedToInstall) × (limit_fault_in (settings self) ≡ None)
@@ -66,7 +69,8 @@ fn build_both(
 ) -> Result<(DogStatsDRecorder, Forwarder), Memory>
     requires least { 6 ≤ configuration.max_payload_len }
     requires most { configuration.max_payload_len ≤ 4294967295 }
-    ensures made { IfOk result (λ made. IsMadeWith configuration (settings_of state_configuration) made.1) }
+    ensures made { IfOk result (λ made.
+        IsMadeWith configuration (settings_of state_configuration) made.1) }
     ensures one { IfOk result (λ made. arc_value made.0.state ≡ made.1.state) }
 {
     let counts_own = state_configuration.telemetry;

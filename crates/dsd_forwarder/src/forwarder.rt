@@ -75,7 +75,9 @@ impl Forwarder {
         requires least { 6 ≤ configuration.max_payload_len }
         requires most { configuration.max_payload_len ≤ 4294967295 }
         requires root { (view_of own.pass).number ≡ 0 }
-        ensures made { IfOk result (λ made. (settings : DogStatsDSettings) → counts_own ≡ settings.telemetry → view_of own.pass ≡ lender (opening (Built settings)) → IsMadeWith configuration settings made) }
+        ensures made { IfOk result (λ made. (settings : DogStatsDSettings)
+            → counts_own ≡ settings.telemetry → view_of own.pass ≡ lender (opening (Built settings))
+            → IsMadeWith configuration settings made) }
         ensures state { IfOk result (λ made. made.state ≡ arc_value own.state) }
     {
         let labels = configuration.global_labels.iter().into_labels(alloc)?;
@@ -133,9 +135,11 @@ impl Forwarder {
         link: &mut L,
     ) -> Result<FlushReport, Memory>
         requires { L.aimed link.old ≡ Some (remote_of self.old) }
-        ensures sent { IfOk result (SendsState moment self.old self.new (W.to_come words.old) (W.to_come words.new)
+        ensures sent { IfOk result (SendsState moment self.old self.new (W.to_come words.old)
+            (W.to_come words.new)
             (L.sent link.old) (L.sent link.new) (L.faults link.old) (L.faults link.new)) }
-        ensures refused { OnErr result (FlushesState moment self.old self.new (W.to_come words.old) (W.to_come words.new)) }
+        ensures refused { OnErr result (FlushesState moment self.old self.new (W.to_come words.old)
+            (W.to_come words.new)) }
         ensures unused { OnErr result (link.new ≡ link.old) }
         ensures aimed { L.aimed link.new ≡ L.aimed link.old }
         ensures never_falls { L.faults link.old ≤ L.faults link.new }
@@ -168,10 +172,13 @@ impl Forwarder {
 
     /// Takes the exporter's own counters out of the forwarder. Where it has none yet they are registered.
     fn take_telemetry<R: Wait>(&mut self, rt: &R, alloc: Global) -> Result<Telemetry, Memory>
-        ensures counted_in { IfOk result (λ counts. IsCountedIn (transport_of (remote_of self.old)) self.old.telemetry counts self.old.knows self.new.knows) }
+        ensures counted_in { IfOk result (λ counts.
+            IsCountedIn (transport_of (remote_of self.old)) self.old.telemetry counts self.old.knows
+            self.new.knows) }
         ensures taken { self.new ≡ record self.old { telemetry = None; knows = self.new.knows } }
         ensures none_yet { OnErr result (self.old.telemetry ≡ None) }
-        ensures refused { OnErr result (RegistersSomeSeen (transport_of (remote_of self.old)) self.old.knows own_counters self.new.knows) }
+        ensures refused { OnErr result (RegistersSomeSeen
+            (transport_of (remote_of self.old)) self.old.knows own_counters self.new.knows) }
     {
         match self.telemetry.take() {
             Some(telemetry) => Ok(telemetry),
@@ -217,12 +224,15 @@ impl Forwarder {
         words: &mut W,
         link: &mut L,
     ) -> Result<FlushReport, Memory>
-        ensures run { IfOk result (RunsOnce moment self.old self.new (W.to_come words.old) (W.to_come words.new)
+        ensures run { IfOk result (RunsOnce moment self.old self.new (W.to_come words.old)
+            (W.to_come words.new)
             (L.sent link.old) (L.sent link.new) (L.faults link.old) (L.faults link.new)) }
-        ensures refused { OnErr result (IsRefusedRun moment self.old self.new (W.to_come words.old) (W.to_come words.new)
+        ensures refused { OnErr result (IsRefusedRun moment self.old self.new (W.to_come words.old)
+            (W.to_come words.new)
             (L.sent link.old) (L.sent link.new) (L.faults link.old) (L.faults link.new)) }
         ensures aimed { OnOk result (L.aimed link.new ≡ Some (remote_of self.old)) }
-        ensures unaimed { OnErr result ((L.aimed link.new ≡ L.aimed link.old) ⊎ (L.aimed link.new ≡ Some (remote_of self.old))) }
+        ensures unaimed { OnErr result ((L.aimed link.new ≡ L.aimed link.old)
+            ⊎ (L.aimed link.new ≡ Some (remote_of self.old))) }
         ensures never_falls { L.faults link.old ≤ L.faults link.new }
     {
         self.begin();
@@ -235,7 +245,8 @@ impl Forwarder {
 
     /// Lends a pass of the state, for a thread that registers. It has seen what the forwarder has seen.
     pub fn lend_pass(&mut self) -> Result<StatePass, Memory>
-        ensures lent { IfOk result (λ pass. IsPass self.old.state pass × (view_of pass ≡ child self.old.knows)) }
+        ensures lent { IfOk result (λ pass. IsPass self.old.state pass
+            × (view_of pass ≡ child self.old.knows)) }
         ensures child { IfOk result (λ pass. ¬ ((view_of pass).number ≡ 0)) }
         ensures knows { OnOk result (self.new ≡ record self.old { knows = lender self.old.knows }) }
         ensures refused { OnErr result (self.new ≡ self.old) }

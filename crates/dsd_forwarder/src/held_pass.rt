@@ -76,9 +76,13 @@ impl HeldPass {
         moment: u64,
         words: &mut W,
     ) -> Result<u64, Memory>
-        ensures written { IfOk result (λ left_out. During (λ x y. WritesFlush moment x y flush_state.old flush_state.new writer.old writer.new
+        ensures written { IfOk result (λ left_out.
+            During (λ x y. WritesFlush moment x y flush_state.old flush_state.new writer.old
+            writer.new
             telemetry.old telemetry.new (W.to_come words.old) (W.to_come words.new) left_out) (view_of self.old.pass) (view_of self.new.pass)) }
-        ensures refused { OnErr result (During (λ x y. (found : Found) × Flushes moment found x y flush_state.old flush_state.new writer.old writer.new
+        ensures refused { OnErr result (During
+            (λ x y. (found : Found)
+            × Flushes moment found x y flush_state.old flush_state.new writer.old writer.new
             telemetry.old telemetry.new (W.to_come words.old) (W.to_come words.new)) (view_of self.old.pass) (view_of self.new.pass)) }
         ensures state { self.new.state ≡ self.old.state }
         ensures number { (view_of self.new.pass).number ≡ (view_of self.old.pass).number }
@@ -98,7 +102,8 @@ impl HeldPass {
     /// As the root lends a pass: refused where no number is left for it.
     pub(crate) fn lend(&mut self) -> Result<StatePass, Memory>
         requires { (view_of self.old.pass).number ≡ 0 }
-        ensures lent { IfOk result (λ pass. IsPass (arc_value self.old.state) pass × (view_of pass ≡ child (view_of self.old.pass))) }
+        ensures lent { IfOk result (λ pass. IsPass (arc_value self.old.state) pass
+            × (view_of pass ≡ child (view_of self.old.pass))) }
         ensures child { IfOk result (λ pass. ¬ ((view_of pass).number ≡ 0)) }
         ensures root { OnOk result (view_of self.new.pass ≡ lender (view_of self.old.pass)) }
         ensures refused { OnErr result (view_of self.new.pass ≡ view_of self.old.pass) }

@@ -54,8 +54,11 @@ impl DogStatsDRecorder {
         requires { IsPass (arc_value self.now.state) pass.old }
         ensures pass { IsPass (arc_value self.now.state) pass.new }
         ensures handed { IfOk result IsHandedCounter }
-        ensures given { IfOk result (λ lent. HandsOut kinds.Counter LendsCounter IsLoneCounter key.now lent (view_of pass.old) (view_of pass.new)) }
-        ensures refused { OnErr result (MayRegister kinds.Counter key.now (view_of pass.old) (view_of pass.new)) }
+        ensures given { IfOk result (λ lent.
+            HandsOut kinds.Counter LendsCounter IsLoneCounter key.now lent (view_of pass.old)
+            (view_of pass.new)) }
+        ensures refused { OnErr result (MayRegister kinds.Counter key.now (view_of pass.old)
+            (view_of pass.new)) }
         ensures number { (view_of pass.new).number ≡ (view_of pass.old).number }
     {
         register_counter(rt, alloc, &self.state, pass, key)
@@ -72,8 +75,11 @@ impl DogStatsDRecorder {
         requires { IsPass (arc_value self.now.state) pass.old }
         ensures pass { IsPass (arc_value self.now.state) pass.new }
         ensures handed { IfOk result IsHandedGauge }
-        ensures given { IfOk result (λ lent. HandsOut kinds.Gauge LendsGauge IsLoneGauge key.now lent (view_of pass.old) (view_of pass.new)) }
-        ensures refused { OnErr result (MayRegister kinds.Gauge key.now (view_of pass.old) (view_of pass.new)) }
+        ensures given { IfOk result (λ lent.
+            HandsOut kinds.Gauge LendsGauge IsLoneGauge key.now lent (view_of pass.old)
+            (view_of pass.new)) }
+        ensures refused { OnErr result (MayRegister kinds.Gauge key.now (view_of pass.old)
+            (view_of pass.new)) }
         ensures number { (view_of pass.new).number ≡ (view_of pass.old).number }
     {
         register_gauge(rt, alloc, &self.state, pass, key)
@@ -90,8 +96,11 @@ impl DogStatsDRecorder {
         requires { IsPass (arc_value self.now.state) pass.old }
         ensures pass { IsPass (arc_value self.now.state) pass.new }
         ensures handed { IfOk result IsHandedHistogram }
-        ensures given { IfOk result (λ lent. HandsOut kinds.Histogram LendsHistogram IsLoneHistogram key.now lent (view_of pass.old) (view_of pass.new)) }
-        ensures refused { OnErr result (MayRegister kinds.Histogram key.now (view_of pass.old) (view_of pass.new)) }
+        ensures given { IfOk result (λ lent.
+            HandsOut kinds.Histogram LendsHistogram IsLoneHistogram key.now lent (view_of pass.old)
+            (view_of pass.new)) }
+        ensures refused { OnErr result (MayRegister kinds.Histogram key.now (view_of pass.old)
+            (view_of pass.new)) }
         ensures number { (view_of pass.new).number ≡ (view_of pass.old).number }
     {
         register_histogram(rt, alloc, &self.state, pass, key)

@@ -66,8 +66,11 @@ pub(crate) fn register_counter<R: Wait>(
     requires { IsPass state.now pass.old }
     ensures pass { IsPass state.now pass.new }
     ensures handed { IfOk result IsHandedCounter }
-    ensures given { IfOk result (λ lent. HandsOut kinds.Counter LendsCounter IsLoneCounter key.now lent (view_of pass.old) (view_of pass.new)) }
-    ensures refused { OnErr result (MayRegister kinds.Counter key.now (view_of pass.old) (view_of pass.new)) }
+    ensures given { IfOk result (λ lent.
+        HandsOut kinds.Counter LendsCounter IsLoneCounter key.now lent (view_of pass.old)
+        (view_of pass.new)) }
+    ensures refused { OnErr result (MayRegister kinds.Counter key.now (view_of pass.old)
+        (view_of pass.new)) }
     ensures number { (view_of pass.new).number ≡ (view_of pass.old).number }
 {
     let id = state.register(rt, alloc, pass, MetricKind::Counter, key)?;
@@ -88,8 +91,11 @@ pub(crate) fn register_gauge<R: Wait>(
     requires { IsPass state.now pass.old }
     ensures pass { IsPass state.now pass.new }
     ensures handed { IfOk result IsHandedGauge }
-    ensures given { IfOk result (λ lent. HandsOut kinds.Gauge LendsGauge IsLoneGauge key.now lent (view_of pass.old) (view_of pass.new)) }
-    ensures refused { OnErr result (MayRegister kinds.Gauge key.now (view_of pass.old) (view_of pass.new)) }
+    ensures given { IfOk result (λ lent.
+        HandsOut kinds.Gauge LendsGauge IsLoneGauge key.now lent (view_of pass.old)
+        (view_of pass.new)) }
+    ensures refused { OnErr result (MayRegister kinds.Gauge key.now (view_of pass.old)
+        (view_of pass.new)) }
     ensures number { (view_of pass.new).number ≡ (view_of pass.old).number }
 {
     let id = state.register(rt, alloc, pass, MetricKind::Gauge, key)?;
@@ -110,8 +116,11 @@ pub(crate) fn register_histogram<R: Wait>(
     requires { IsPass state.now pass.old }
     ensures pass { IsPass state.now pass.new }
     ensures handed { IfOk result IsHandedHistogram }
-    ensures given { IfOk result (λ lent. HandsOut kinds.Histogram LendsHistogram IsLoneHistogram key.now lent (view_of pass.old) (view_of pass.new)) }
-    ensures refused { OnErr result (MayRegister kinds.Histogram key.now (view_of pass.old) (view_of pass.new)) }
+    ensures given { IfOk result (λ lent.
+        HandsOut kinds.Histogram LendsHistogram IsLoneHistogram key.now lent (view_of pass.old)
+        (view_of pass.new)) }
+    ensures refused { OnErr result (MayRegister kinds.Histogram key.now (view_of pass.old)
+        (view_of pass.new)) }
     ensures number { (view_of pass.new).number ≡ (view_of pass.old).number }
 {
     let id = state.register(rt, alloc, pass, MetricKind::Histogram, key)?;

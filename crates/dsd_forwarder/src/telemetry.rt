@@ -66,7 +66,8 @@ fn register_own(
 ) -> Result<OwnCount, Memory>
     ensures counter { IfOk result (λ count. count.counter ≡ counter) }
     ensures registered { IfOk result (λ count. Registers transport.now state.old count state.new) }
-    ensures refused { OnErr result ((state.new ≡ state.old) ⊎ RegistersCounter (own_key transport.now counter) state.old state.new) }
+    ensures refused { OnErr result ((state.new ≡ state.old)
+        ⊎ RegistersCounter (own_key transport.now counter) state.old state.new) }
 {
     let key = counter.key(alloc, transport)?;
     let id = state.register_owned_counter(alloc, key)?;
@@ -83,7 +84,8 @@ fn register_own_seen<R: Wait>(
     counter: OwnCounter,
 ) -> Result<OwnCount, Memory>
     ensures counter { IfOk result (λ count. count.counter ≡ counter) }
-    ensures registered { IfOk result (λ count. RegistersSeen transport.now (view_of own.old.pass) count (view_of own.new.pass)) }
+    ensures registered { IfOk result (λ count.
+        RegistersSeen transport.now (view_of own.old.pass) count (view_of own.new.pass)) }
     ensures refused { OnErr result ((view_of own.new.pass ≡ view_of own.old.pass)
         ⊎ MayRegister kinds.Counter (own_key transport.now counter) (view_of own.old.pass) (view_of own.new.pass)) }
     ensures state { own.new.state ≡ own.old.state }
@@ -129,8 +131,10 @@ impl Telemetry {
         transport: &'static str,
     ) -> Result<Telemetry, Memory>
         ensures all { IfOk result (λ telemetry. counters_of telemetry ≡ own_counters) }
-        ensures registered { IfOk result (λ telemetry. FoldsTo (Registers transport.now) state.old telemetry state.new) }
-        ensures refused { OnErr result (RegistersSome transport.now state.old own_counters state.new) }
+        ensures registered { IfOk result (λ telemetry.
+            FoldsTo (Registers transport.now) state.old telemetry state.new) }
+        ensures refused { OnErr result (RegistersSome transport.now state.old own_counters
+            state.new) }
     {
         let mut counts = Vec::with_capacity(alloc, OWN_COUNTERS.len())?;
         for counter in OWN_COUNTERS {
@@ -147,8 +151,11 @@ impl Telemetry {
         transport: &'static str,
     ) -> Result<Telemetry, Memory>
         ensures all { IfOk result (λ telemetry. counters_of telemetry ≡ own_counters) }
-        ensures registered { IfOk result (λ telemetry. FoldsTo (RegistersSeen transport.now) (view_of own.old.pass) telemetry (view_of own.new.pass)) }
-        ensures refused { OnErr result (RegistersSomeSeen transport.now (view_of own.old.pass) own_counters (view_of own.new.pass)) }
+        ensures registered { IfOk result (λ telemetry.
+            FoldsTo (RegistersSeen transport.now) (view_of own.old.pass) telemetry
+            (view_of own.new.pass)) }
+        ensures refused { OnErr result (RegistersSomeSeen transport.now
+            (view_of own.old.pass) own_counters (view_of own.new.pass)) }
         ensures state { own.new.state ≡ own.old.state }
         ensures number { (view_of own.new.pass).number ≡ (view_of own.old.pass).number }
     {

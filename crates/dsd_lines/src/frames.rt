@@ -57,9 +57,11 @@ impl Frames {
     /// Takes the next payload, if the stream so far has it whole. That costs as much as the payload is long, however much stands
     /// behind it.
     pub fn next_frame(&mut self, alloc: Global) -> Result<Option<Vec<u8>>, Memory>
-        ensures frame { IfOk result (λ next. MatchOption next (BeginsNoFrame self.old × (self.new ≡ self.old))
+        ensures frame { IfOk result (λ next.
+            MatchOption next (BeginsNoFrame self.old × (self.new ≡ self.old))
             (λ frame. self.old ≡ framed true frame.items ++ self.new)) }
-        ensures split { IfOk result (λ next. (bytes : List ℕ) (frames : List (List ℕ)) → Splits bytes frames self.old
+        ensures split { IfOk result (λ next. (bytes : List ℕ) (frames : List (List ℕ))
+            → Splits bytes frames self.old
             → MatchOption next (AreFrames bytes frames) (λ frame. Splits bytes (frames ++ frame.items ∷ []) self.new)) }
         ensures refused { OnErr result (self.new ≡ self.old) }
     {
@@ -96,7 +98,8 @@ impl Frames {
 
 /// The payload at the front, if it is whole.
 fn first_frame(bytes: &[u8]) -> Option<&[u8]>
-    ensures { MatchOption result (BeginsNoFrame bytes.now) (λ payload. BeginsFrame bytes.now payload.now) }
+    ensures { MatchOption result (BeginsNoFrame bytes.now)
+        (λ payload. BeginsFrame bytes.now payload.now) }
 {
     if bytes.len() < LEAD {
         return None;

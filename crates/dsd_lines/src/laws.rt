@@ -11,8 +11,10 @@ ghost use Rattle.dsd_lines.specs.Written.{IsSayable, item_said, points_spelled};
 
 /// A line is read in one way, and has no newline.
 pub fn one_reading()
-    ensures same { (bytes : List ℕ) (said other : LineText) → IsLine bytes said → IsLine bytes other → said ≡ other }
-    ensures no_newline { (bytes : List ℕ) (said : LineText) → IsLine bytes said → All (λ c. is newline c ≡ false) bytes }
+    ensures same { (bytes : List ℕ) (said other : LineText) → IsLine bytes said → IsLine bytes other
+        → said ≡ other }
+    ensures no_newline { (bytes : List ℕ) (said : LineText) → IsLine bytes said
+        → All (λ c. is newline c ≡ false) bytes }
 {}
 
 /// What a line can say is written by the writer as one line and a newline, and that line says it.
@@ -29,5 +31,6 @@ pub fn payloads_are_their_lines()
 
 /// Bytes begin with one list of frames.
 pub fn one_list_of_frames()
-    ensures { (bytes : List ℕ) (frames others : List (List ℕ)) → AreFrames bytes frames → AreFrames bytes others → frames ≡ others }
+    ensures { (bytes : List ℕ) (frames others : List (List ℕ)) → AreFrames bytes frames
+        → AreFrames bytes others → frames ≡ others }
 {}

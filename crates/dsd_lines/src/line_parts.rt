@@ -18,7 +18,8 @@ pub(crate) fn read_points(
     line_type: &[u8],
     values: Pieces<'_>,
 ) -> Result<Option<Points>, Memory>
-    ensures { IfOk result (λ points. option_map points_text points ≡ points_of line_type.now (pieces_left values.entry)) }
+    ensures { IfOk result (λ points.
+        option_map points_text points ≡ points_of line_type.now (pieces_left values.entry)) }
 {
     if line_type == b"c".as_slice() {
         return match read_counts(alloc, values)? {
@@ -50,7 +51,8 @@ fn typed(line_type: &[u8], values: Vec<Fixed>) -> Option<Points>
 
 /// The values of a counter, of which there is one at least.
 fn read_counts(alloc: Global, texts: Pieces<'_>) -> Result<Option<Vec<u64>>, Memory>
-    ensures { IfOk result (λ counts. option_map (λ counts. counts.items) counts ≡ some_of number_of (pieces_left texts.entry)) }
+    ensures { IfOk result (λ counts.
+        option_map (λ counts. counts.items) counts ≡ some_of number_of (pieces_left texts.entry)) }
 {
     let mut texts = texts;
     let mut counts = Vec::new(alloc);
@@ -68,7 +70,9 @@ fn read_counts(alloc: Global, texts: Pieces<'_>) -> Result<Option<Vec<u64>>, Mem
 
 /// Values in billionths, of which there is one at least.
 fn read_values(alloc: Global, texts: Pieces<'_>) -> Result<Option<Vec<Fixed>>, Memory>
-    ensures { IfOk result (λ values. option_map (λ values. numbers_of values.items) values ≡ some_of decimal_of (pieces_left texts.entry)) }
+    ensures { IfOk result (λ values.
+        option_map (λ values. numbers_of values.items) values ≡ some_of decimal_of
+        (pieces_left texts.entry)) }
 {
     let mut texts = texts;
     let mut values = Vec::new(alloc);

@@ -39,7 +39,8 @@ pub struct Line {
 
 /// Reads a line, which stands without its newline. Answers what it says, or nothing where the bytes are no line.
 pub fn read_line(alloc: Global, bytes: &[u8]) -> Result<Option<Line>, Memory>
-    ensures { IfOk result (λ line. MatchOption line (IsNoLine bytes.now) (λ line. IsLine bytes.now (line_text line))) }
+    ensures { IfOk result (λ line.
+        MatchOption line (IsNoLine bytes.now) (λ line. IsLine bytes.now (line_text line))) }
 {
     read_parts(alloc, bytes)
 }
@@ -67,7 +68,9 @@ fn read_head(
     line_type: &[u8],
     parts: Pieces<'_>,
 ) -> Result<Option<Line>, Memory>
-    ensures { IfOk result (λ line. option_map line_text line ≡ line_of_head (pieces_left head.entry) line_type.now (pieces_left parts.entry)) }
+    ensures { IfOk result (λ line.
+        option_map line_text line ≡ line_of_head (pieces_left head.entry) line_type.now
+        (pieces_left parts.entry)) }
 {
     let mut head = head;
     let Some(name) = head.next() else {
@@ -90,7 +93,9 @@ fn read_behind(
     points: Points,
     parts: Pieces<'_>,
 ) -> Result<Option<Line>, Memory>
-    ensures { IfOk result (λ line. option_map line_text line ≡ line_behind (string_bytes name) (points_text points) (pieces_left parts.entry)) }
+    ensures { IfOk result (λ line.
+        option_map line_text line ≡ line_behind (string_bytes name) (points_text points)
+        (pieces_left parts.entry)) }
 {
     let mut parts = parts;
     let Some(rate) = take_rate(&mut parts) else {

@@ -35,7 +35,8 @@ pub(crate) fn read_number(text: &[u8]) -> Option<u64>
 
 /// Whether a zero stands in front of others.
 fn has_zero_in_front(text: &[u8]) -> bool
-    ensures { MatchBool result ((1 < length text.now) × (slice_index text.now 0 ≡ 48)) (1 < length text.now → slice_index text.now 0 ≢ 48) }
+    ensures { MatchBool result ((1 < length text.now) × (slice_index text.now 0 ≡ 48))
+        (1 < length text.now → slice_index text.now 0 ≢ 48) }
 {
     text.len() > 1 && text[0] == b'0'
 }
@@ -125,7 +126,8 @@ fn are_digits(text: &[u8]) -> bool
 /// The value of digits, where there is one at least and it has room.
 fn digits_value(digits: &[u8]) -> Option<u64>
     requires { AllDigits 10 digits.now }
-    ensures { SomeIff result ((0 < length digits.now) × (digits_value 10 digits.now < 2 ^ 64)) (digits_value 10 digits.now) }
+    ensures { SomeIff result ((0 < length digits.now) × (digits_value 10 digits.now < 2 ^ 64))
+        (digits_value 10 digits.now) }
 {
     str::from_utf8(digits).ok()?.parse().ok()
 }

@@ -53,7 +53,8 @@ fn read_tag(alloc: Global, text: &[u8]) -> Result<Option<Label>, Memory>
 
 /// The value of a tag behind its colon, or the empty value where there is no colon.
 fn read_tag_value(alloc: Global, behind: Option<&[u8]>) -> Result<Option<SharedString>, Memory>
-    ensures { IfOk result (λ value. option_map cow_text value ≡ tag_value_of (option_copied behind.entry)) }
+    ensures { IfOk result (λ value.
+        option_map cow_text value ≡ tag_value_of (option_copied behind.entry)) }
 {
     let Some(text) = behind else {
         return Ok(Some(SharedString::const_str("")));

@@ -36,7 +36,8 @@ pub(crate) fn call_counter<R: Wait>(
     requires rate { 0 < rate }
     ensures home { AllHome state.new }
     ensures settings { state.new.settings ≡ state.old.settings }
-    ensures called { OnOk result (state_of state.new ≡ after_calls Counter id.number (increments rate counts.now) (state_of state.old)) }
+    ensures called { OnOk result (state_of state.new ≡ after_calls Counter id.number
+        (increments rate counts.now) (state_of state.old)) }
     ensures refused { OnErr result (state_of state.new ≡ state_of state.old) }
 {
     settle(state, rt, id);
@@ -65,7 +66,8 @@ pub(crate) fn call_gauge<R: Wait>(
     requires kind { id.kind ≡ Gauge }
     ensures home { AllHome state.new }
     ensures settings { state.new.settings ≡ state.old.settings }
-    ensures called { OnOk result (state_of state.new ≡ after_calls Gauge id.number (sets (numbers_of values.now)) (state_of state.old)) }
+    ensures called { OnOk result (state_of state.new ≡ after_calls Gauge id.number
+        (sets (numbers_of values.now)) (state_of state.old)) }
     ensures refused { OnErr result (state_of state.new ≡ state_of state.old) }
 {
     settle(state, rt, id);
@@ -98,7 +100,8 @@ pub(crate) fn call_histogram<R: Wait>(
     requires times { 0 < times }
     ensures home { AllHome state.new }
     ensures settings { state.new.settings ≡ state.old.settings }
-    ensures called { state_of state.new ≡ after_calls Histogram id.number (take result (records moment times (numbers_of values.now))) (state_of state.old) }
+    ensures called { state_of state.new ≡ after_calls Histogram id.number
+        (take result (records moment times (numbers_of values.now))) (state_of state.old) }
     ensures within { result ≤ length values.now }
 {
     settle(state, rt, id);
@@ -183,7 +186,8 @@ fn record_each<R: Wait>(
     requires held { IsHistogramHeld histogram.now pass.old }
     requires times { 0 < times }
     ensures held { IsHistogramHeld histogram.now pass.new }
-    ensures calls { MakesRecords pass.old (take result (records moment times (numbers_of values.now))) pass.new }
+    ensures calls { MakesRecords pass.old
+        (take result (records moment times (numbers_of values.now))) pass.new }
     ensures within { result ≤ length values.now }
 {
     for place in 0..values.len() {

@@ -46,8 +46,11 @@ pub(crate) fn apply_line<R: Wait>(
     requires home { AllHome state.old }
     ensures home { AllHome state.new }
     ensures settings { state.new.settings ≡ state.old.settings }
-    ensures applied { IfOk result (λ is_line. IsReceived moment bytes.now is_line (state_of state.old) (state_of state.new)) }
-    ensures stopped { IfErr result (λ stop. StopsIn moment bytes.now stop.registered stop.values (state_of state.old) (state_of state.new)) }
+    ensures applied { IfOk result (λ is_line.
+        IsReceived moment bytes.now is_line (state_of state.old) (state_of state.new)) }
+    ensures stopped { IfErr result (λ stop.
+        StopsIn moment bytes.now stop.registered stop.values (state_of state.old)
+        (state_of state.new)) }
 {
     let Some(line) = read_line(alloc, bytes)? else {
         return Ok(false);
@@ -68,8 +71,11 @@ fn apply_said<R: Wait>(
     requires said { IsSaid (line_text line) }
     ensures home { AllHome state.new }
     ensures settings { state.new.settings ≡ state.old.settings }
-    ensures applied { OnOk result (state_of state.new ≡ after_line moment (state_of state.old) (line_text line)) }
-    ensures stopped { IfErr result (λ stop. IsInPart moment (line_text line) stop.registered stop.values (state_of state.old) (state_of state.new)) }
+    ensures applied { OnOk result (state_of state.new ≡ after_line moment (state_of state.old)
+        (line_text line)) }
+    ensures stopped { IfErr result (λ stop.
+        IsInPart moment (line_text line) stop.registered stop.values (state_of state.old)
+        (state_of state.new)) }
 {
     let Line {
         key,
@@ -101,8 +107,11 @@ fn apply_counter<R: Wait>(
     requires rate { 0 < rate }
     ensures home { AllHome state.new }
     ensures settings { state.new.settings ≡ state.old.settings }
-    ensures applied { OnOk result (state_of state.new ≡ with_calls Counter key (increments rate counts.now) (state_of state.old)) }
-    ensures stopped { IfErr result (λ stop. (stop.values ≡ 0) × InPart Counter key (increments rate counts.now) stop.registered stop.values (state_of state.old) (state_of state.new)) }
+    ensures applied { OnOk result (state_of state.new ≡ with_calls Counter key
+        (increments rate counts.now) (state_of state.old)) }
+    ensures stopped { IfErr result (λ stop. (stop.values ≡ 0)
+        × InPart Counter key (increments rate counts.now) stop.registered stop.values
+        (state_of state.old) (state_of state.new)) }
 {
     let id = state.register_owned_counter(alloc, key)?;
     match call_counter(state, rt, alloc, id, counts, rate) {
@@ -126,8 +135,11 @@ fn apply_gauge<R: Wait>(
     requires some { 0 < length values.now }
     ensures home { AllHome state.new }
     ensures settings { state.new.settings ≡ state.old.settings }
-    ensures applied { OnOk result (state_of state.new ≡ with_calls Gauge key (sets (numbers_of values.now)) (state_of state.old)) }
-    ensures stopped { IfErr result (λ stop. (stop.values ≡ 0) × InPart Gauge key (sets (numbers_of values.now)) stop.registered stop.values (state_of state.old) (state_of state.new)) }
+    ensures applied { OnOk result (state_of state.new ≡ with_calls Gauge key
+        (sets (numbers_of values.now)) (state_of state.old)) }
+    ensures stopped { IfErr result (λ stop. (stop.values ≡ 0)
+        × InPart Gauge key (sets (numbers_of values.now)) stop.registered stop.values
+        (state_of state.old) (state_of state.new)) }
 {
     let id = state.register_owned_gauge(alloc, key)?;
     match call_gauge(state, rt, alloc, id, values) {
@@ -153,8 +165,12 @@ fn apply_histogram<R: Wait>(
     requires rate { (0 < rate) × (rate ≤ one) }
     ensures home { AllHome state.new }
     ensures settings { state.new.settings ≡ state.old.settings }
-    ensures applied { OnOk result (state_of state.new ≡ with_calls Histogram key (records moment (times_at rate) (numbers_of values.now)) (state_of state.old)) }
-    ensures stopped { IfErr result (λ stop. InPart Histogram key (records moment (times_at rate) (numbers_of values.now)) stop.registered stop.values (state_of state.old) (state_of state.new)) }
+    ensures applied { OnOk result (state_of state.new ≡ with_calls Histogram key
+        (records moment (times_at rate) (numbers_of values.now)) (state_of state.old)) }
+    ensures stopped { IfErr result (λ stop.
+        InPart Histogram key
+        (records moment (times_at rate) (numbers_of values.now)) stop.registered stop.values
+        (state_of state.old) (state_of state.new)) }
 {
     let id = state.register_owned_histogram(alloc, key)?;
     let done = call_histogram(state, rt, alloc, id, values, moment, BILLIONTHS / rate);

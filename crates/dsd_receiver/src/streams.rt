@@ -50,7 +50,8 @@ pub fn receive<R: Wait, K: Sink>(
 ) -> Result<Received, StreamFault>
     ensures received { OnOk result (IsReceived bytes.now (K.written out.old) (K.written out.new)) }
     ensures counted { IfOk result (AreCounted bytes.now) }
-    ensures cause { IfErr result (HasStreamCause bytes.now (Rose (K.faults out.old) (K.faults out.new))) }
+    ensures cause { IfErr result (HasStreamCause bytes.now
+        (Rose (K.faults out.old) (K.faults out.new))) }
     ensures leaves { IfErr result (LeavesStream bytes.now (K.written out.old) (K.written out.new)) }
 {
     match default_state(alloc, start) {
@@ -84,7 +85,8 @@ fn receive_page<R: Wait, K: Sink>(
     requires settings { receiver.settings ≡ default_settings }
     ensures received { OnOk result (IsReceived bytes.now (K.written out.old) (K.written out.new)) }
     ensures counted { IfOk result (AreCounted bytes.now) }
-    ensures cause { IfErr result (HasStreamCause bytes.now (Rose (K.faults out.old) (K.faults out.new))) }
+    ensures cause { IfErr result (HasStreamCause bytes.now
+        (Rose (K.faults out.old) (K.faults out.new))) }
     ensures leaves { IfErr result (LeavesStream bytes.now (K.written out.old) (K.written out.new)) }
 {
     match receive_stream(rt, alloc, bytes, &mut receiver) {
@@ -112,7 +114,8 @@ fn receive_stream<R: Wait>(
     receiver: &mut Receiver,
 ) -> Result<Received, StreamFault>
     requires empty { state_of receiver.old ≡ empty_state }
-    ensures received { IfOk result (λ received. IsTakenIn bytes.now received (state_of receiver.new)) }
+    ensures received { IfOk result (λ received.
+        IsTakenIn bytes.now received (state_of receiver.new)) }
     ensures refused { IfErr result (IsIntakeFault bytes.now) }
     ensures settings { receiver.new.settings ≡ receiver.old.settings }
 {
@@ -180,8 +183,10 @@ fn write_page<R: Wait, K: Sink>(
 ) -> Result<(), StreamFault>
     requires home { AllHome state.old }
     requires timely { AreTimely 0 state.old }
-    ensures page { OnOk result (GrewBy (K.written out.old) (K.written out.new) (page_text (page_families 0 state.old))) }
-    ensures prefix { OnErr result (GrewByPrefix (K.written out.old) (K.written out.new) (page_text (page_families 0 state.old))) }
+    ensures page { OnOk result (GrewBy (K.written out.old) (K.written out.new)
+        (page_text (page_families 0 state.old))) }
+    ensures prefix { OnErr result (GrewByPrefix (K.written out.old) (K.written out.new)
+        (page_text (page_families 0 state.old))) }
     ensures refused { IfErr result (IsWritingFault (Rose (K.faults out.old) (K.faults out.new))) }
 {
     match state.render_to_write(rt, alloc, 0, out) {

@@ -63,7 +63,8 @@ impl<'a> SeriesKey<'a> {
 
     /// What is left of a room after the tags of the series and then the global ones.
     fn behind_tags(self, room: u64, global_tags: &[Label]) -> Option<u64>
-        ensures { Leaves result room (length (tags_text ((key_text self.entry).labels ++ global_tags.now))) }
+        ensures { Leaves result room
+            (length (tags_text ((key_text self.entry).labels ++ global_tags.now))) }
     {
         match self {
             SeriesKey::Live(key) => behind_all_tags(room, key.labels().as_slice(), global_tags),
@@ -73,9 +74,12 @@ impl<'a> SeriesKey<'a> {
 
     /// Appends the tags of the series and then the global ones, for which there is room.
     fn push_tags(self, bytes: &mut Vec<u8>, global_tags: &[Label])
-        requires { vec_len bytes.old + length (tags_text ((key_text self).labels ++ global_tags.now)) ≤ vec_capacity bytes.old }
-        ensures items { bytes.new.items ≡ bytes.old.items ++ tags_text ((key_text self.entry).labels ++ global_tags.now) }
-        ensures len { vec_len bytes.new ≡ vec_len bytes.old + length (tags_text ((key_text self.entry).labels ++ global_tags.now)) }
+        requires { vec_len bytes.old + length
+            (tags_text ((key_text self).labels ++ global_tags.now)) ≤ vec_capacity bytes.old }
+        ensures items { bytes.new.items ≡ bytes.old.items ++ tags_text
+            ((key_text self.entry).labels ++ global_tags.now) }
+        ensures len { vec_len bytes.new ≡ vec_len bytes.old + length
+            (tags_text ((key_text self.entry).labels ++ global_tags.now)) }
         ensures capacity { vec_capacity bytes.old ≤ vec_capacity bytes.new }
     {
         match self {
@@ -122,7 +126,8 @@ impl<'a> Item<'a> {
         key: SeriesKey<'a>,
         global_tags: &'a [Label],
     ) -> Item<'a>
-        ensures { result ≡ item_of (type_text line_type) (option_copied prefix.entry) (key_text key.entry) global_tags.now }
+        ensures { result ≡ item_of (type_text line_type) (option_copied prefix.entry)
+            (key_text key.entry) global_tags.now }
     {
         Item {
             prefix,

@@ -95,7 +95,8 @@ impl KeptKeys {
 
 /// How many bytes the name and the tags of a key take, unless they are more than can be counted.
 fn text_length(key: &Key) -> Option<usize>
-    ensures { MatchOption result (2 ^ 64 ≤ length (kept_text key.now)) (λ n. n ≡ length (kept_text key.now)) }
+    ensures { MatchOption result (2 ^ 64 ≤ length (kept_text key.now))
+        (λ n. n ≡ length (kept_text key.now)) }
 {
     let tags = key.labels().as_slice();
     let behind_name = behind(u64::MAX, key.name())?;

@@ -20,7 +20,8 @@ pub fn full_cuts_have_the_fewest_runs()
 pub fn lines_are_within_and_fewest()
     ensures within { (limit : ℕ) (item : ItemText) (values : List (List ℕ))
         → AreWithin limit (lines_of limit item values) }
-    ensures best { (limit : ℕ) (item : ItemText) (values : List (List ℕ)) → IsBestLines limit item values }
+    ensures best { (limit : ℕ) (item : ItemText) (values : List (List ℕ))
+        → IsBestLines limit item values }
 {}
 
 /// The payloads of lines that are each within the limit are within it; joined they are the lines in order, whole; and no

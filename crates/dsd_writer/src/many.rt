@@ -78,8 +78,10 @@ fn run_of(values: &[Fixed], room: u64) -> Run
 
 /// Appends those of some values that a line with so much room takes, for which there is room.
 fn push_values(bytes: &mut Vec<u8>, values: &[Fixed], room: u64)
-    requires { vec_len bytes.old + length (values_text (short_values room (spelled_values values.now))) ≤ vec_capacity bytes.old }
-    ensures items { bytes.new.items ≡ bytes.old.items ++ values_text (short_values room (spelled_values values.now)) }
+    requires { vec_len bytes.old + length
+        (values_text (short_values room (spelled_values values.now))) ≤ vec_capacity bytes.old }
+    ensures items { bytes.new.items ≡ bytes.old.items ++ values_text
+        (short_values room (spelled_values values.now)) }
     ensures capacity { vec_capacity bytes.old ≤ vec_capacity bytes.new }
 {
     for value in values {
@@ -94,8 +96,11 @@ fn push_values(bytes: &mut Vec<u8>, values: &[Fixed], room: u64)
 
 /// Appends the line of an item with those of some values that a line with so much room takes, for which there is room.
 fn push_line(bytes: &mut Vec<u8>, item: &Item<'_>, values: &[Fixed], room: u64)
-    requires { vec_len bytes.old + length (line_of item.now (short_values room (spelled_values values.now))) ≤ vec_capacity bytes.old }
-    ensures items { bytes.new.items ≡ bytes.old.items ++ line_of item.now (short_values room (spelled_values values.now)) }
+    requires { vec_len bytes.old + length
+        (line_of item.now (short_values room (spelled_values values.now)))
+        ≤ vec_capacity bytes.old }
+    ensures items { bytes.new.items ≡ bytes.old.items ++ line_of item.now
+        (short_values room (spelled_values values.now)) }
     ensures capacity { vec_capacity bytes.old ≤ vec_capacity bytes.new }
 {
     item.push_name(bytes);
@@ -120,7 +125,8 @@ fn fill(
         OnOk result (payloads_at on_stream starts.new.items bytes.new.items ≡ filled limit before lines) }
     ensures lengths { let lines = lines_of limit item.now (spelled_values values.now) in
         OnOk result (noted lengths.new.items ≡ noted lengths.old.items ++ map length lines) }
-    ensures written { IfOk result (λ written. written ≡ written_of limit item.now (spelled_values values.now)) }
+    ensures written { IfOk result (λ written.
+        written ≡ written_of limit item.now (spelled_values values.now)) }
     ensures kept_bytes { take (length bytes.old.items) bytes.new.items ≡ bytes.old.items }
     ensures kept_starts { take (length starts.old.items) starts.new.items ≡ starts.old.items }
     ensures kept_lengths { take (length lengths.old.items) lengths.new.items ≡ lengths.old.items }
@@ -168,7 +174,8 @@ pub(crate) fn write_points(
     requires { IsPacked limit on_stream bytes.old.items starts.old.items }
     ensures appends { let lines = lines_of limit item.now (spelled_values values.now) in
         Appends result limit on_stream bytes.old bytes.new starts.old starts.new lengths.old lengths.new lines }
-    ensures written { IfOk result (λ written. written ≡ written_of limit item.now (spelled_values values.now)) }
+    ensures written { IfOk result (λ written.
+        written ≡ written_of limit item.now (spelled_values values.now)) }
 {
     let end = bytes.len();
     let payloads = starts.len();

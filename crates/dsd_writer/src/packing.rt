@@ -80,9 +80,11 @@ pub(crate) fn make_way(
 ) -> Result<(), Memory>
     requires packed { IsPacked limit on_stream bytes.old.items starts.old.items }
     requires short { line_length ≤ limit }
-    ensures bytes { let takes = last_takes limit (payloads_at on_stream starts.old.items bytes.old.items) line_length in
+    ensures bytes { let takes = last_takes limit
+        (payloads_at on_stream starts.old.items bytes.old.items) line_length in
         OnOk result (bytes.new.items ≡ bytes.old.items ++ before_line on_stream takes) }
-    ensures starts { let takes = last_takes limit (payloads_at on_stream starts.old.items bytes.old.items) line_length in
+    ensures starts { let takes = last_takes limit
+        (payloads_at on_stream starts.old.items bytes.old.items) line_length in
         OnOk result (starts.new.items ≡ starts.old.items ++ start_of_line takes bytes.old.items) }
     ensures lengths { lengths.new.items ≡ lengths.old.items }
     ensures lengths_len { vec_len lengths.new ≡ vec_len lengths.old }
@@ -93,7 +95,8 @@ pub(crate) fn make_way(
     ensures bytes_capacity { vec_capacity bytes.old ≤ vec_capacity bytes.new }
     ensures starts_capacity { vec_capacity starts.old ≤ vec_capacity starts.new }
     ensures lengths_capacity { vec_capacity lengths.old ≤ vec_capacity lengths.new }
-    ensures no_memory { let takes = last_takes limit (payloads_at on_stream starts.old.items bytes.old.items) line_length in
+    ensures no_memory { let takes = last_takes limit
+        (payloads_at on_stream starts.old.items bytes.old.items) line_length in
         vec_len bytes.old + length (before_line on_stream takes) + line_length ≤ vec_capacity bytes.old
         → vec_len starts.old + length (start_of_line takes bytes.old.items) ≤ vec_capacity starts.old
         → vec_len lengths.old < vec_capacity lengths.old → IsOk result }
@@ -172,7 +175,8 @@ pub(crate) fn end_of(starts: &[usize], place: usize, end: usize) -> usize
 /// Writes a length into four bytes from a place on, little-endian.
 fn set_length(bytes: &mut [u8], start: usize, count: u32)
     requires { start + 4 ≤ length bytes.old }
-    ensures bytes { bytes.new ≡ take start bytes.old ++ (to_le_bytes w32 count ++ drop 4 (drop start bytes.old)) }
+    ensures bytes { bytes.new ≡ take start bytes.old ++
+        (to_le_bytes w32 count ++ drop 4 (drop start bytes.old)) }
     ensures len { length bytes.new ≡ length bytes.old }
 {
     bytes[start..start + 4].copy_from_slice(&count.to_le_bytes());

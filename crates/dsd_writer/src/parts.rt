@@ -27,9 +27,12 @@ pub(crate) fn behind_rate(room: u64, rate: Option<Fixed>) -> Option<u64>
 
 /// Appends a sample rate, for which there is room.
 pub(crate) fn push_rate(bytes: &mut Vec<u8>, rate: Option<Fixed>)
-    requires { vec_len bytes.old + length (rate_text (option_map (λ rate. rate.0) rate)) ≤ vec_capacity bytes.old }
-    ensures items { bytes.new.items ≡ bytes.old.items ++ rate_text (option_map (λ rate. rate.0) rate) }
-    ensures len { vec_len bytes.new ≡ vec_len bytes.old + length (rate_text (option_map (λ rate. rate.0) rate)) }
+    requires { vec_len bytes.old + length
+        (rate_text (option_map (λ rate. rate.0) rate)) ≤ vec_capacity bytes.old }
+    ensures items { bytes.new.items ≡ bytes.old.items ++ rate_text
+        (option_map (λ rate. rate.0) rate) }
+    ensures len { vec_len bytes.new ≡ vec_len bytes.old + length
+        (rate_text (option_map (λ rate. rate.0) rate)) }
     ensures capacity { vec_capacity bytes.old ≤ vec_capacity bytes.new }
 {
     if let Some(rate) = rate {
@@ -110,7 +113,8 @@ pub(crate) fn behind_tags(room: u64, first: &'static str, tags: &[Label]) -> Opt
 
 /// Appends tags, for which there is room, the first one with this before it.
 pub(crate) fn push_tags(bytes: &mut Vec<u8>, first: &'static str, tags: &[Label])
-    requires { vec_len bytes.old + length (tags_behind first.now tags.now) ≤ vec_capacity bytes.old }
+    requires { vec_len bytes.old + length
+        (tags_behind first.now tags.now) ≤ vec_capacity bytes.old }
     ensures items { bytes.new.items ≡ bytes.old.items ++ tags_behind first.now tags.now }
     ensures len { vec_len bytes.new ≡ vec_len bytes.old + length (tags_behind first.now tags.now) }
     ensures capacity { vec_capacity bytes.old ≤ vec_capacity bytes.new }
@@ -135,9 +139,11 @@ pub(crate) fn behind_all_tags(room: u64, tags: &[Label], global_tags: &[Label]) 
 /// Appends the tags of a series and then the global ones, for which there is room.
 #[tactic(auto, using(crate::proofs::Tags::written_tags))]
 pub(crate) fn push_all_tags(bytes: &mut Vec<u8>, tags: &[Label], global_tags: &[Label])
-    requires { vec_len bytes.old + length (tags_text (tags.now ++ global_tags.now)) ≤ vec_capacity bytes.old }
+    requires { vec_len bytes.old + length
+        (tags_text (tags.now ++ global_tags.now)) ≤ vec_capacity bytes.old }
     ensures items { bytes.new.items ≡ bytes.old.items ++ tags_text (tags.now ++ global_tags.now) }
-    ensures len { vec_len bytes.new ≡ vec_len bytes.old + length (tags_text (tags.now ++ global_tags.now)) }
+    ensures len { vec_len bytes.new ≡ vec_len bytes.old + length
+        (tags_text (tags.now ++ global_tags.now)) }
     ensures capacity { vec_capacity bytes.old ≤ vec_capacity bytes.new }
 {
     push_tags(bytes, "|#", tags);
@@ -154,9 +160,12 @@ pub(crate) fn behind_kept_tags(room: u64, key: &KeptKey<'_>, global_tags: &[Labe
 
 /// Appends the tags of a series whose key is kept, and then the global ones, for which there is room.
 pub(crate) fn push_kept_tags(bytes: &mut Vec<u8>, key: &KeptKey<'_>, global_tags: &[Label])
-    requires { vec_len bytes.old + length (tags_text (key.now.labels ++ global_tags.now)) ≤ vec_capacity bytes.old }
-    ensures items { bytes.new.items ≡ bytes.old.items ++ tags_text (key.now.labels ++ global_tags.now) }
-    ensures len { vec_len bytes.new ≡ vec_len bytes.old + length (tags_text (key.now.labels ++ global_tags.now)) }
+    requires { vec_len bytes.old + length
+        (tags_text (key.now.labels ++ global_tags.now)) ≤ vec_capacity bytes.old }
+    ensures items { bytes.new.items ≡ bytes.old.items ++ tags_text
+        (key.now.labels ++ global_tags.now) }
+    ensures len { vec_len bytes.new ≡ vec_len bytes.old + length
+        (tags_text (key.now.labels ++ global_tags.now)) }
     ensures capacity { vec_capacity bytes.old ≤ vec_capacity bytes.new }
 {
     push_bytes(bytes, key.tags());

@@ -38,9 +38,11 @@ fn behind_line(limit: u64, item: &Item<'_>, text: &NumberText<'_>) -> Option<u64
 
 /// Appends the line of one value, for which there is room.
 fn push_line(bytes: &mut Vec<u8>, item: &Item<'_>, text: &NumberText<'_>)
-    requires { vec_len bytes.old + length (line_of item.now (text.now ∷ [])) ≤ vec_capacity bytes.old }
+    requires { vec_len bytes.old + length
+        (line_of item.now (text.now ∷ [])) ≤ vec_capacity bytes.old }
     ensures items { bytes.new.items ≡ bytes.old.items ++ line_of item.now (text.now ∷ []) }
-    ensures len { vec_len bytes.new ≡ vec_len bytes.old + length (line_of item.now (text.now ∷ [])) }
+    ensures len { vec_len bytes.new ≡ vec_len bytes.old + length
+        (line_of item.now (text.now ∷ [])) }
     ensures capacity { vec_capacity bytes.old ≤ vec_capacity bytes.new }
 {
     item.push_name(bytes);
@@ -100,9 +102,11 @@ pub(crate) fn write_made(
     line: &[u8],
 ) -> Result<WriteResult, Memory>
     requires { IsPacked limit on_stream bytes.old.items starts.old.items }
-    ensures appends { (item : ItemText) (text : List ℕ) → line.now ≡ line_of item (text ∷ []) → let lines = lines_of limit item (text ∷ []) in
+    ensures appends { (item : ItemText) (text : List ℕ) → line.now ≡ line_of item (text ∷ [])
+        → let lines = lines_of limit item (text ∷ []) in
         Appends result limit on_stream bytes.old bytes.new starts.old starts.new lengths.old lengths.new lines }
-    ensures written { (item : ItemText) (text : List ℕ) → line.now ≡ line_of item (text ∷ []) → IfOk result (λ written. written ≡ written_of limit item (text ∷ [])) }
+    ensures written { (item : ItemText) (text : List ℕ) → line.now ≡ line_of item (text ∷ [])
+        → IfOk result (λ written. written ≡ written_of limit item (text ∷ [])) }
 {
     let length = line.len() as u64;
     if length > limit {

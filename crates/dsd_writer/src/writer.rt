@@ -125,7 +125,8 @@ impl PayloadWriter {
     ) -> Result<(), Memory>
         ensures settings { SameSettings self.old self.new }
         ensures lines { self.new.lines ≡ self.old.lines }
-        ensures room { let item = timed timestamp (item_in self.old (codes "c") (option_copied prefix.entry) key.now) in
+        ensures room { let item = timed timestamp
+            (item_in self.old (codes "c") (option_copied prefix.entry) key.now) in
             OnOk result ((value : ℕ) → value < 2 ^ 64 → HasRoomFor self.new (lines_of self.old.limit item (decimal value ∷ []))) }
         ensures kept { self.old.spare ≤ self.new.spare }
     {
@@ -141,7 +142,8 @@ impl PayloadWriter {
     ) -> Result<(), Memory>
         ensures settings { SameSettings self.old self.new }
         ensures lines { self.new.lines ≡ self.old.lines }
-        ensures room { let item = timed timestamp (item_in self.old (codes "g") (option_copied prefix.entry) key.now) in
+        ensures room { let item = timed timestamp
+            (item_in self.old (codes "g") (option_copied prefix.entry) key.now) in
             OnOk result ((value : ℤ) → FitsSigned w64 value → HasRoomFor self.new (lines_of self.old.limit item (dogstatsd_number value ∷ []))) }
         ensures kept { self.old.spare ≤ self.new.spare }
     {
@@ -157,7 +159,8 @@ impl PayloadWriter {
     ) -> Result<(), Memory>
         ensures settings { SameSettings self.old self.new }
         ensures lines { self.new.lines ≡ self.old.lines }
-        ensures room { let item = timed timestamp (item_in self.old (codes "g") (option_copied prefix.entry) key.now) in
+        ensures room { let item = timed timestamp
+            (item_in self.old (codes "g") (option_copied prefix.entry) key.now) in
             OnOk result ((value : ℤ) → FitsSigned w64 value → HasRoomFor self.new (lines_of self.old.limit item (dogstatsd_number value ∷ []))) }
         ensures kept { self.old.spare ≤ self.new.spare }
     {
@@ -174,7 +177,9 @@ impl PayloadWriter {
     ) -> Result<(), Memory>
         ensures settings { SameSettings self.old self.new }
         ensures lines { self.new.lines ≡ self.old.lines }
-        ensures room { let item = timed timestamp (item_in self.old (type_text line_type) (option_copied prefix.entry) (key_text key.entry)) in
+        ensures room { let item = timed timestamp
+            (item_in self.old (type_text line_type) (option_copied prefix.entry)
+            (key_text key.entry)) in
             OnOk result ((text : List ℕ) → length text ≤ 255 → HasRoomFor self.new (lines_of self.old.limit item (text ∷ []))) }
         ensures kept { self.old.spare ≤ self.new.spare }
     {
@@ -193,7 +198,8 @@ impl PayloadWriter {
         timestamp: Option<u64>,
         prefix: Option<&str>,
     ) -> Result<WriteResult, Memory>
-        ensures writes { let item = item_in self.old (codes "c") (option_copied prefix.entry) key.now in
+        ensures writes { let item = item_in self.old (codes "c")
+            (option_copied prefix.entry) key.now in
             Writes result self.old self.new (timed timestamp item) (decimal value ∷ []) }
     {
         let mut digits = Buffer::new();
@@ -215,7 +221,8 @@ impl PayloadWriter {
         timestamp: Option<u64>,
         prefix: Option<&str>,
     ) -> Result<WriteResult, Memory>
-        ensures writes { let item = item_in self.old (codes "g") (option_copied prefix.entry) key.now in
+        ensures writes { let item = item_in self.old (codes "g")
+            (option_copied prefix.entry) key.now in
             Writes result self.old self.new (timed timestamp item) (dogstatsd_number value.0 ∷ []) }
     {
         let mut whole = Buffer::new();
@@ -238,7 +245,8 @@ impl PayloadWriter {
         timestamp: Option<u64>,
         prefix: Option<&str>,
     ) -> Result<WriteResult, Memory>
-        ensures writes { let item = item_in self.old (codes "g") (option_copied prefix.entry) key.now in
+        ensures writes { let item = item_in self.old (codes "g")
+            (option_copied prefix.entry) key.now in
             Writes result self.old self.new (timed timestamp item) (dogstatsd_number value.0 ∷ []) }
     {
         let mut whole = Buffer::new();
@@ -261,7 +269,9 @@ impl PayloadWriter {
         value: Fixed,
         prefix: Option<&str>,
     ) -> Result<(), Memory>
-        ensures { OnOk result (line.new.items ≡ line_of (item_in self.now (codes "g") (option_copied prefix.entry) key.now) (dogstatsd_number value.0 ∷ [])) }
+        ensures { OnOk result (line.new.items ≡ line_of
+            (item_in self.now (codes "g") (option_copied prefix.entry) key.now)
+            (dogstatsd_number value.0 ∷ [])) }
     {
         let mut whole = Buffer::new();
         let mut fraction = Buffer::new();
@@ -279,7 +289,8 @@ impl PayloadWriter {
     /// they were.
     pub fn write_gauge_line(&mut self, line: &[u8]) -> Result<WriteResult, Memory>
         requires { IsGaugeLine line.now }
-        ensures { (item : ItemText) (value : ℤ) → item.type ≡ codes "g" → line.now ≡ line_of item (dogstatsd_number value ∷ [])
+        ensures { (item : ItemText) (value : ℤ) → item.type ≡ codes "g"
+            → line.now ≡ line_of item (dogstatsd_number value ∷ [])
             → Writes result self.old self.new item (dogstatsd_number value ∷ []) }
     {
         begin_anew(
@@ -309,9 +320,11 @@ impl PayloadWriter {
         maybe_sample_rate: Option<Fixed>,
         prefix: Option<&str>,
     ) -> Result<WriteResult, Memory>
-        ensures writes { let item = item_in self.old (codes "h") (option_copied prefix.entry) key.now in
+        ensures writes { let item = item_in self.old (codes "h")
+            (option_copied prefix.entry) key.now in
             Writes result self.old self.new (sampled maybe_sample_rate item) (spelled_values values.now) }
-        ensures best { let item = item_in self.old (codes "h") (option_copied prefix.entry) key.now in
+        ensures best { let item = item_in self.old (codes "h")
+            (option_copied prefix.entry) key.now in
             IsBestLines self.old.limit (sampled maybe_sample_rate item) (spelled_values values.now) }
     {
         self.write_many(
@@ -332,9 +345,11 @@ impl PayloadWriter {
         maybe_sample_rate: Option<Fixed>,
         prefix: Option<&str>,
     ) -> Result<WriteResult, Memory>
-        ensures writes { let item = item_in self.old (codes "d") (option_copied prefix.entry) key.now in
+        ensures writes { let item = item_in self.old (codes "d")
+            (option_copied prefix.entry) key.now in
             Writes result self.old self.new (sampled maybe_sample_rate item) (spelled_values values.now) }
-        ensures best { let item = item_in self.old (codes "d") (option_copied prefix.entry) key.now in
+        ensures best { let item = item_in self.old (codes "d")
+            (option_copied prefix.entry) key.now in
             IsBestLines self.old.limit (sampled maybe_sample_rate item) (spelled_values values.now) }
     {
         self.write_many(
@@ -355,7 +370,8 @@ impl PayloadWriter {
         prefix: Option<&str>,
         text: &NumberText<'_>,
     ) -> Result<WriteResult, Memory>
-        ensures writes { let item = item_in self.old (type_text line_type) (option_copied prefix.entry) (key_text key.entry) in
+        ensures writes { let item = item_in self.old (type_text line_type)
+            (option_copied prefix.entry) (key_text key.entry) in
             Writes result self.old self.new (timed timestamp item) (text.now ∷ []) }
     {
         let item = Item::new(line_type, prefix, key, self.global_tags.as_slice()).at(timestamp);
@@ -385,7 +401,8 @@ impl PayloadWriter {
         rate: Option<Fixed>,
         prefix: Option<&str>,
     ) -> Result<WriteResult, Memory>
-        ensures writes { let item = item_in self.old (type_text line_type) (option_copied prefix.entry) (key_text key.entry) in
+        ensures writes { let item = item_in self.old (type_text line_type)
+            (option_copied prefix.entry) (key_text key.entry) in
             Writes result self.old self.new (sampled rate item) (spelled_values values.now) }
     {
         let item = Item::new(line_type, prefix, key, self.global_tags.as_slice()).sampled(rate);

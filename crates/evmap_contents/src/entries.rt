@@ -22,7 +22,8 @@ fn add_key<K: KeyClone + Drop, V: Eq + Hash + Drop, S: BuildHasher>(
     bag: Values<V>,
 ) -> Result<(), AllocError>
     requires { get K.eq map.old key.now ≡ None }
-    ensures added { OnOk result (with_keys K.plain map.new.entries ≡ with_keys K.plain map.old.entries ++ (K.plain key.now, bag) ∷ []) }
+    ensures added { OnOk result (with_keys K.plain map.new.entries
+        ≡ with_keys K.plain map.old.entries ++ (K.plain key.now, bag) ∷ []) }
     ensures refused { OnErr result (map.new.entries ≡ map.old.entries) }
 {
     let Ok(key) = key.clone_key(*map.allocator()) else {
@@ -38,7 +39,10 @@ pub(crate) fn insert<K: KeyClone + Drop, V: Eq + Hash + Drop, S: BuildHasher>(
     key: &K,
     value: &Arc<V>,
 ) -> Result<(), AllocError>
-    ensures inserted { OnOk result (with_keys K.plain map.new.entries ≡ change (K.same (K.plain key.now)) (K.plain key.now) (λ bag. bags.pushed V.eq bag (arc_value value.now)) (Short (arc_value value.now ∷ [])) (with_keys K.plain map.old.entries)) }
+    ensures inserted { OnOk result (with_keys K.plain map.new.entries ≡ change
+        (K.same (K.plain key.now)) (K.plain key.now)
+        (λ bag. bags.pushed V.eq bag (arc_value value.now)) (Short (arc_value value.now ∷ []))
+        (with_keys K.plain map.old.entries)) }
     ensures refused { OnErr result (map.new.entries ≡ map.old.entries) }
 {
     if let Some(bag) = map.get_mut(key) {
@@ -56,7 +60,9 @@ pub(crate) fn update<K: KeyClone + Drop, V: Eq + Hash + Drop, S: BuildHasher>(
     key: &K,
     value: &Arc<V>,
 ) -> Result<(), AllocError>
-    ensures updated { OnOk result (with_keys K.plain map.new.entries ≡ change (K.same (K.plain key.now)) (K.plain key.now) (λ _. Short (arc_value value.now ∷ [])) (Short (arc_value value.now ∷ [])) (with_keys K.plain map.old.entries)) }
+    ensures updated { OnOk result (with_keys K.plain map.new.entries ≡ change
+        (K.same (K.plain key.now)) (K.plain key.now) (λ _. Short (arc_value value.now ∷ []))
+        (Short (arc_value value.now ∷ [])) (with_keys K.plain map.old.entries)) }
     ensures refused { OnErr result (map.new.entries ≡ map.old.entries) }
 {
     let bag = Values::of(*map.allocator(), value)?;
@@ -73,7 +79,9 @@ pub(crate) fn clear<K: KeyClone + Drop, V: Eq + Hash + Drop, S: BuildHasher>(
     map: &mut IndexMap<K, Values<V>, S>,
     key: &K,
 ) -> Result<(), AllocError>
-    ensures cleared { OnOk result (with_keys K.plain map.new.entries ≡ change (K.same (K.plain key.now)) (K.plain key.now) bags.cleared (Short []) (with_keys K.plain map.old.entries)) }
+    ensures cleared { OnOk result (with_keys K.plain map.new.entries ≡ change
+        (K.same (K.plain key.now)) (K.plain key.now) bags.cleared (Short [])
+        (with_keys K.plain map.old.entries)) }
     ensures refused { OnErr result (map.new.entries ≡ map.old.entries) }
 {
     if let Some(bag) = map.get_mut(key) {
@@ -91,7 +99,8 @@ pub(crate) fn remove_value<K: KeyClone + Drop, V: Eq + Hash + Drop, S: BuildHash
     key: &K,
     value: &Arc<V>,
 )
-    ensures { with_keys K.plain map.new.entries ≡ alter (K.same (K.plain key.now)) (λ bag. bags.removed V.eq bag (arc_value value.now)) (with_keys K.plain map.old.entries) }
+    ensures { with_keys K.plain map.new.entries ≡ alter (K.same (K.plain key.now))
+        (λ bag. bags.removed V.eq bag (arc_value value.now)) (with_keys K.plain map.old.entries) }
 {
     if let Some(bag) = map.get_mut(key) {
         bag.remove_one(value);
@@ -104,7 +113,8 @@ pub(crate) fn retain<K: KeyClone + Drop, V: Eq + Hash + Drop, S: BuildHasher, P:
     key: &K,
     test: &P,
 )
-    ensures { with_keys K.plain map.new.entries ≡ alter (K.same (K.plain key.now)) (bags.retained (P.keeps test.now)) (with_keys K.plain map.old.entries) }
+    ensures { with_keys K.plain map.new.entries ≡ alter (K.same (K.plain key.now))
+        (bags.retained (P.keeps test.now)) (with_keys K.plain map.old.entries) }
 {
     if let Some(bag) = map.get_mut(key) {
         bag.retain(test);
@@ -116,7 +126,8 @@ pub(crate) fn remove_entry<K: KeyClone + Drop, V: Eq + Hash + Drop, S: BuildHash
     map: &mut IndexMap<K, Values<V>, S>,
     key: &K,
 )
-    ensures { with_keys K.plain map.new.entries ≡ swap_remove_entry (K.same (K.plain key.now)) (with_keys K.plain map.old.entries) }
+    ensures { with_keys K.plain map.new.entries ≡ swap_remove_entry (K.same (K.plain key.now))
+        (with_keys K.plain map.old.entries) }
 {
     map.swap_remove(key);
 }
@@ -126,7 +137,8 @@ pub(crate) fn remove_places<K: KeyClone + Drop, V: Eq + Hash + Drop, S: BuildHas
     map: &mut IndexMap<K, Values<V>, S>,
     places: &LinkedList<usize>,
 )
-    ensures { with_keys K.plain map.new.entries ≡ fold without_place (with_keys K.plain map.old.entries) places.now }
+    ensures { with_keys K.plain map.new.entries ≡ fold without_place
+        (with_keys K.plain map.old.entries) places.now }
 {
     for place in places {
         map.swap_remove_index(*place);
@@ -138,7 +150,8 @@ pub(crate) fn fit<K: KeyClone + Drop, V: Eq + Hash + Drop, S: BuildHasher>(
     map: &mut IndexMap<K, Values<V>, S>,
     key: &K,
 ) -> Result<(), AllocError>
-    ensures fitted { OnOk result (with_keys K.plain map.new.entries ≡ alter (K.same (K.plain key.now)) bags.fitted (with_keys K.plain map.old.entries)) }
+    ensures fitted { OnOk result (with_keys K.plain map.new.entries ≡ alter
+        (K.same (K.plain key.now)) bags.fitted (with_keys K.plain map.old.entries)) }
     ensures refused { OnErr result (map.new.entries ≡ map.old.entries) }
 {
     if let Some(bag) = map.get_mut(key) {
@@ -153,7 +166,9 @@ pub(crate) fn reserve<K: KeyClone + Drop, V: Eq + Hash + Drop, S: BuildHasher>(
     key: &K,
     additional: usize,
 ) -> Result<(), AllocError>
-    ensures reserved { OnOk result (with_keys K.plain map.new.entries ≡ change (K.same (K.plain key.now)) (K.plain key.now) (bags.reserved V.eq additional) (bags.roomy additional) (with_keys K.plain map.old.entries)) }
+    ensures reserved { OnOk result (with_keys K.plain map.new.entries ≡ change
+        (K.same (K.plain key.now)) (K.plain key.now) (bags.reserved V.eq additional)
+        (bags.roomy additional) (with_keys K.plain map.old.entries)) }
     ensures refused { OnErr result (map.new.entries ≡ map.old.entries) }
 {
     if let Some(bag) = map.get_mut(key) {

@@ -73,14 +73,16 @@ impl<K: KeyClone, V: Eq + Hash, M, S: BuildHasher> Inner<K, V, M, S> {
 
     /// The bag of a key.
     pub fn get(&self, key: &K) -> Option<&Values<V>>
-        ensures { option_copied result ≡ lookup (K.same (K.plain key.now)) (contents K.plain self.now).entries }
+        ensures { option_copied result ≡ lookup (K.same (K.plain key.now))
+            (contents K.plain self.now).entries }
     {
         self.map.get(key)
     }
 
     /// Whether a key is there.
     pub fn contains_key(&self, key: &K) -> bool
-        ensures { result ≡ is_some (lookup (K.same (K.plain key.now)) (contents K.plain self.now).entries) }
+        ensures { result ≡ is_some
+            (lookup (K.same (K.plain key.now)) (contents K.plain self.now).entries) }
     {
         self.map.contains_key(key)
     }

@@ -10,5 +10,7 @@ use value_bags::Keep;
 
 /// After any list of writes the keys and how often each has a value are those of plain lists of values, which have no form.
 pub fn forms_change_no_value<K: KeyClone, V: Eq + Hash, M, P: Keep<V>>()
-    ensures { (m : M) (writes : List (Write K.Plain V M P)) → HoldAlike V.eq (after_all K.same V.eq P.keeps (made_with m) writes).entries (plain_after_all K.same V.eq P.keeps writes) }
+    ensures { (m : M) (writes : List (Write K.Plain V M P))
+        → HoldAlike V.eq (after_all K.same V.eq P.keeps (made_with m) writes).entries
+        (plain_after_all K.same V.eq P.keeps writes) }
 {}

@@ -140,21 +140,24 @@ impl<
 
     /// The bag of a key.
     pub fn get(&self, key: &K) -> Option<&Values<V>>
-        ensures { option_copied result ≡ bag_under K.same (K.plain key.now) (shown_by K.plain self.now) }
+        ensures { option_copied result ≡ bag_under K.same (K.plain key.now)
+            (shown_by K.plain self.now) }
     {
         self.reading.get().get(key)
     }
 
     /// One value of the bag of a key. `None` where there is no such key, or its bag is empty.
     pub fn get_one(&self, key: &K) -> Option<&V>
-        ensures { IsOneOf (bag_under K.same (K.plain key.now) (shown_by K.plain self.now)) (option_copied result) }
+        ensures { IsOneOf (bag_under K.same (K.plain key.now) (shown_by K.plain self.now))
+            (option_copied result) }
     {
         self.reading.get().get_one(key)
     }
 
     /// Whether a key is there.
     pub fn contains_key(&self, key: &K) -> bool
-        ensures { result ≡ is_some (bag_under K.same (K.plain key.now) (shown_by K.plain self.now)) }
+        ensures { result ≡ is_some
+            (bag_under K.same (K.plain key.now) (shown_by K.plain self.now)) }
     {
         self.reading.get().contains_key(key)
     }

@@ -11,5 +11,8 @@ use std::hash::Hash;
 /// The keys that a removal at random marks go with their bags, and no others: what it gave and what is left then are
 /// together the entries from before.
 pub fn marked_keys_go<K: KeyClone, V: Eq + Hash>()
-    ensures { (entries : List (K.Plain × BagForm V)) (places : List ℕ) → IsStrictlyIncreasing places → All (λ place. place < length entries) places → IsPermutation entries (entries_at entries places ++ fold without_place entries (reverse places)) }
+    ensures { (entries : List (K.Plain × BagForm V)) (places : List ℕ) → IsStrictlyIncreasing places
+        → All (λ place. place < length entries) places
+        → IsPermutation entries
+        (entries_at entries places ++ fold without_place entries (reverse places)) }
 {}

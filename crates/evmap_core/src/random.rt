@@ -81,7 +81,8 @@ impl<
     // The marked keys with their bags.
     fn emptied(&self) -> Emptied<'_, K, V, S>
         requires { All (λ p. p < length (shown self.now).inner.map.entries) self.now.marked.items }
-        ensures { entries_left result ≡ entries_at (shown self.now).inner.map.entries self.now.marked.items }
+        ensures { entries_left result ≡ entries_at
+            (shown self.now).inner.map.entries self.now.marked.items }
     {
         Emptied::at(&self.writer.published().inner.map, &self.marked)
     }

@@ -11,7 +11,8 @@ ghost use Rattle.exporter_lanes.specs.BothRounds.{IsRound, IsRoundOverEach};
 /// lane's calls stand as the lane has them. Each of these calls is one that the series takes, and nothing else of either exporter
 /// changed.
 pub fn a_round_over_both_is_one_over_each()
-    ensures { (lanes : List (Lane ExporterCall)) (old new : Exporters) → IsRound lanes old new → IsRoundOverEach lanes old new }
+    ensures { (lanes : List (Lane ExporterCall)) (old new : Exporters) → IsRound lanes old new
+        → IsRoundOverEach lanes old new }
 {}
 
 /// Both exporters together are at rest exactly where each of them is.

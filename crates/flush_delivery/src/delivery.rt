@@ -30,9 +30,11 @@ pub fn deliver<R: Wait, W: Words>(
     to: &mut Receiver,
 ) -> Result<Applied, ReceiveFault>
     requires plain { IsPlain writer.old }
-    ensures delivered { IfOk result (λ applied. Delivers moment from.old from.new flush_state.old flush_state.new writer.old writer.new
+    ensures delivered { IfOk result (λ applied.
+        Delivers moment from.old from.new flush_state.old flush_state.new writer.old writer.new
         telemetry.old telemetry.new (W.to_come words.old) (W.to_come words.new) (state_of to.old) applied (state_of to.new)) }
-    ensures refused { IfErr result (λ fault. IsUndelivered moment from.old from.new flush_state.old flush_state.new writer.old writer.new
+    ensures refused { IfErr result (λ fault.
+        IsUndelivered moment from.old from.new flush_state.old flush_state.new writer.old writer.new
         telemetry.old telemetry.new (W.to_come words.old) (W.to_come words.new) (state_of to.old) fault (state_of to.new)) }
     ensures settings { to.new.settings ≡ to.old.settings }
 {
@@ -57,8 +59,12 @@ fn apply_written<R: Wait>(
 ) -> Result<Applied, ReceiveFault>
     requires plain { writer.old.on_stream ≡ false }
     ensures emptied { IsEmptied writer.old writer.new }
-    ensures applied { IfOk result (λ applied. IsAppliedOver moment (lines_delivered writer.old) (state_of to.old) applied (state_of to.new)) }
-    ensures refused { IfErr result (λ fault. IsStoppedOver moment (lines_delivered writer.old) (state_of to.old) fault (state_of to.new)) }
+    ensures applied { IfOk result (λ applied.
+        IsAppliedOver moment (lines_delivered writer.old) (state_of to.old) applied
+        (state_of to.new)) }
+    ensures refused { IfErr result (λ fault.
+        IsStoppedOver moment (lines_delivered writer.old) (state_of to.old) fault (state_of to.new))
+        }
     ensures settings { to.new.settings ≡ to.old.settings }
 {
     apply_payloads(rt, alloc, writer.payloads(), moment, to)

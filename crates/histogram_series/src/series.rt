@@ -61,7 +61,8 @@ impl HistogramSeries {
     /// A series with a distribution of no samples.
     pub fn new(alloc: Global, distribution: Distribution) -> Result<HistogramSeries, Memory>
         requires { (kind : DistributionKind) × StandsFor kind [] distribution }
-        ensures unused { IfOk result (λ made. (kind : DistributionKind) → StandsFor kind [] distribution → made ≡ unused kind made.cell) }
+        ensures unused { IfOk result (λ made. (kind : DistributionKind)
+            → StandsFor kind [] distribution → made ≡ unused kind made.cell) }
         ensures settled { IfOk result (λ made. Settled made.root) }
     {
         let queue = SampleQueue::owned(alloc)?;
@@ -77,7 +78,8 @@ impl HistogramSeries {
         &mut self,
         alloc: Global,
     ) -> Result<(Arc<PromHistogram>, SamplePass<(Fixed, u64)>), Memory>
-        ensures lent { IfOk result (λ lent. (arc_value lent.0 ≡ self.old.cell) × IsSamplePass self.old.cell lent.1 × (view_of lent.1 ≡ child self.old.root)) }
+        ensures lent { IfOk result (λ lent. (arc_value lent.0 ≡ self.old.cell)
+            × IsSamplePass self.old.cell lent.1 × (view_of lent.1 ≡ child self.old.root)) }
         ensures out { OnOk result (self.new ≡ with_one_out self.old) }
         ensures refused { OnErr result (self.new ≡ self.old) }
     {
@@ -94,7 +96,8 @@ impl HistogramSeries {
 
     /// Lends a new pass of the queue to a lane.
     pub fn lend_to_lane(&mut self, alloc: Global) -> Result<LentCell<PromHistogram>, Memory>
-        ensures lent { IfOk result (λ lent. (lent.cell ≡ self.old.cell) × (lent.knows ≡ child self.old.root)) }
+        ensures lent { IfOk result (λ lent. (lent.cell ≡ self.old.cell)
+            × (lent.knows ≡ child self.old.root)) }
         ensures out { OnOk result (self.new ≡ with_one_out self.old) }
         ensures refused { OnErr result (self.new ≡ self.old) }
     {
@@ -134,7 +137,8 @@ impl HistogramSeries {
 
         // Where no pass is out, no entry is lost and none comes; after a drain that was not refused all are recorded.
         ensures same_entries { IsHome self.old → entries self.new ≡ entries self.old }
-        ensures all_recorded { OnOk result (IsHome self.old → recorded self.new ≡ entries self.old) }
+        ensures all_recorded { OnOk result (IsHome self.old → recorded self.new ≡ entries self.old)
+            }
     {
         self.record_stray(alloc)?;
         for _ in rt.forever() {
@@ -181,7 +185,8 @@ impl HistogramSeries {
     pub fn distribution(&self) -> &Distribution
         ensures recorded { HasRecorded self.now.kind (recorded self.now) result.now }
         ensures kind { kind_of result.now ≡ self.now.kind }
-        ensures stands { AreInTurn self.now.kind (recorded_samples self.now) → StandsFor self.now.kind (recorded_samples self.now) result.now }
+        ensures stands { AreInTurn self.now.kind (recorded_samples self.now)
+            → StandsFor self.now.kind (recorded_samples self.now) result.now }
     {
         &self.distribution
     }

@@ -75,7 +75,9 @@ impl Descriptions {
         unit: Option<Unit>,
         text: SharedString,
     ) -> Result<(), Memory>
-        ensures described { OnOk result (self.new ≡ describe (record { name = string_bytes name; text = cow_text text.entry; unit = unit }) self.old) }
+        ensures described { OnOk result (self.new ≡ describe
+            (record { name = string_bytes name; text = cow_text text.entry; unit = unit }) self.old)
+            }
         ensures refused { OnErr result (self.new ≡ self.old) }
     {
         make(&mut self.writer, rt, alloc, self.start)?;
@@ -99,7 +101,8 @@ impl Descriptions {
 
     /// What is published of a metric name. It costs one look-up in a hash map.
     pub fn of(&self, name: &String) -> Option<Described<'_>>
-        ensures { option_map said result ≡ option_map written (description_of self.now.published (string_bytes name.now)) }
+        ensures { option_map said result ≡ option_map written
+            (description_of self.now.published (string_bytes name.now)) }
     {
         match &self.writer {
             Some(writer) => match find(writer, name) {
@@ -117,7 +120,9 @@ impl Descriptions {
         alloc: Global,
     ) -> Result<DescriptionReader, EvmapFault>
         ensures same { self.new ≡ self.old }
-        ensures told { IfOk result (λ reader. IsToldOf (after ⟦<String as KeyClone>⟧.same ⟦<Text as PartialEq>⟧.eq ⟦<KeepAll as Keep<Text>>⟧.keeps) self.old.published (known reader)) }
+        ensures told { IfOk result (λ reader.
+            IsToldOf (after ⟦<String as KeyClone>⟧.same ⟦<Text as PartialEq>⟧.eq ⟦<KeepAll as
+            Keep<Text>>⟧.keeps) self.old.published (known reader)) }
     {
         make(&mut self.writer, rt, alloc, self.start)?;
         match &mut self.writer {
@@ -163,7 +168,8 @@ fn make<R: Wait>(
 // A text waits under a name, where nothing is published under it.
 fn put(writer: &mut Writer, name: String, text: Text) -> Result<(), Memory>
     requires { IsBook writer.old }
-    ensures described { OnOk result (text_of writer.new ≡ describe (said_of (string_bytes name) text.entry) (text_of writer.old)) }
+    ensures described { OnOk result (text_of writer.new ≡ describe
+        (said_of (string_bytes name) text.entry) (text_of writer.old)) }
     ensures refused { OnErr result (text_of writer.new ≡ text_of writer.old) }
     ensures kept { IsBook writer.new }
 {
@@ -176,7 +182,8 @@ fn put(writer: &mut Writer, name: String, text: Text) -> Result<(), Memory>
 // Whether anything is published under a name.
 fn is_published(writer: &Writer, name: &String) -> bool
     requires { IsBook writer.now }
-    ensures { result ≡ is_some (description_of (text_of writer.now).published (string_bytes name.now)) }
+    ensures { result ≡ is_some
+        (description_of (text_of writer.now).published (string_bytes name.now)) }
 {
     writer.contains_key(name)
 }
@@ -197,7 +204,8 @@ fn show<R: Wait>(writer: &mut Writer, rt: &R) -> Result<(), Memory>
 // What is published under a name.
 fn find<'a>(writer: &'a Writer, name: &String) -> Option<&'a Text>
     requires { IsBook writer.now }
-    ensures { option_map stored (option_copied result) ≡ option_map written (description_of (text_of writer.now).published (string_bytes name.now)) }
+    ensures { option_map stored (option_copied result) ≡ option_map written
+        (description_of (text_of writer.now).published (string_bytes name.now)) }
 {
     writer.get_one(name)
 }
@@ -217,7 +225,9 @@ fn tell(writer: &mut Writer) -> Result<DescriptionReader, EvmapFault>
     requires { IsBook writer.old }
     ensures same { text_of writer.new ≡ text_of writer.old }
     ensures kept { IsBook writer.new }
-    ensures told { IfOk result (λ reader. IsToldOf (after ⟦<String as KeyClone>⟧.same ⟦<Text as PartialEq>⟧.eq ⟦<KeepAll as Keep<Text>>⟧.keeps) (text_of writer.old).published (known reader)) }
+    ensures told { IfOk result (λ reader.
+        IsToldOf (after ⟦<String as KeyClone>⟧.same ⟦<Text as PartialEq>⟧.eq ⟦<KeepAll as
+        Keep<Text>>⟧.keeps) (text_of writer.old).published (known reader)) }
 {
     writer.told_reader()
 }

@@ -37,7 +37,8 @@ impl<F: CounterFn<Pass = P> + Drop, P: Drop> CounterHandle<F, P> {
 
     /// Adds to the counter, modulo 2^64.
     pub fn increment(&mut self, value: u64)
-        ensures call { Stands F.is_pass F.may_follow self.old.cell self.old.pass (Increment value) self.new.pass }
+        ensures call { Stands F.is_pass F.may_follow self.old.cell self.old.pass
+            (Increment value) self.new.pass }
         ensures cell { self.new.cell ≡ self.old.cell }
     {
         self.handle.increment(&mut self.pass, value);
@@ -45,7 +46,8 @@ impl<F: CounterFn<Pass = P> + Drop, P: Drop> CounterHandle<F, P> {
 
     /// Raises the counter to this value, where it is less.
     pub fn absolute(&mut self, value: u64)
-        ensures call { Stands F.is_pass F.may_follow self.old.cell self.old.pass (Absolute value) self.new.pass }
+        ensures call { Stands F.is_pass F.may_follow self.old.cell self.old.pass
+            (Absolute value) self.new.pass }
         ensures cell { self.new.cell ≡ self.old.cell }
     {
         self.handle.absolute(&mut self.pass, value);

@@ -38,7 +38,8 @@ impl<F: GaugeFn<Pass = P> + Drop, P: Drop> GaugeHandle<F, P> {
 
     /// Adds to the gauge, modulo 2^64 billionths. A value out of range is refused, and changes nothing.
     pub fn increment<T: IntoFixed>(&mut self, value: T) -> Result<(), OutOfRange>
-        ensures call { Tells F.is_pass F.may_follow self.old.cell self.old.pass self.new.pass (called Add (T.fixed value)) result }
+        ensures call { Tells F.is_pass F.may_follow self.old.cell self.old.pass self.new.pass
+            (called Add (T.fixed value)) result }
         ensures cell { self.new.cell ≡ self.old.cell }
     {
         self.handle.increment(&mut self.pass, value)
@@ -46,7 +47,8 @@ impl<F: GaugeFn<Pass = P> + Drop, P: Drop> GaugeHandle<F, P> {
 
     /// Takes off the gauge, modulo 2^64 billionths. A value out of range is refused, and changes nothing.
     pub fn decrement<T: IntoFixed>(&mut self, value: T) -> Result<(), OutOfRange>
-        ensures call { Tells F.is_pass F.may_follow self.old.cell self.old.pass self.new.pass (called Subtract (T.fixed value)) result }
+        ensures call { Tells F.is_pass F.may_follow self.old.cell self.old.pass self.new.pass
+            (called Subtract (T.fixed value)) result }
         ensures cell { self.new.cell ≡ self.old.cell }
     {
         self.handle.decrement(&mut self.pass, value)
@@ -54,7 +56,8 @@ impl<F: GaugeFn<Pass = P> + Drop, P: Drop> GaugeHandle<F, P> {
 
     /// Sets the gauge. A value out of range is refused, and changes nothing.
     pub fn set<T: IntoFixed>(&mut self, value: T) -> Result<(), OutOfRange>
-        ensures call { Tells F.is_pass F.may_follow self.old.cell self.old.pass self.new.pass (called Set (T.fixed value)) result }
+        ensures call { Tells F.is_pass F.may_follow self.old.cell self.old.pass self.new.pass
+            (called Set (T.fixed value)) result }
         ensures cell { self.new.cell ≡ self.old.cell }
     {
         self.handle.set(&mut self.pass, value)

@@ -47,7 +47,8 @@ impl<F: HistogramFn<Pass = P> + Drop, P: Drop> HistogramHandle<F, P> {
         value: T,
         moment: u64,
     ) -> Result<(), RecordFault>
-        ensures call { Records F.is_pass F.may_follow F.stays self.old.cell self.old.pass self.new.pass
+        ensures call { Records F.is_pass F.may_follow F.stays self.old.cell self.old.pass
+            self.new.pass
             (called (λ v. Record v moment 1) (T.fixed value)) result }
         ensures cell { self.new.cell ≡ self.old.cell }
     {
@@ -64,7 +65,8 @@ impl<F: HistogramFn<Pass = P> + Drop, P: Drop> HistogramHandle<F, P> {
         moment: u64,
         count: u32,
     ) -> Result<(), RecordFault>
-        ensures call { Records F.is_pass F.may_follow F.stays self.old.cell self.old.pass self.new.pass
+        ensures call { Records F.is_pass F.may_follow F.stays self.old.cell self.old.pass
+            self.new.pass
             (called (λ v. Record v moment count) (T.fixed value)) result }
         ensures cell { self.new.cell ≡ self.old.cell }
     {

@@ -142,7 +142,8 @@ impl<F: GaugeFn> Gauge<F> {
     /// Adds to the gauge, modulo 2^64 billionths. A value out of range is refused, and changes nothing.
     pub fn increment<T: IntoFixed>(&self, pass: &mut F::Pass, value: T) -> Result<(), OutOfRange>
         requires { Fits F.is_pass self.now pass.old }
-        ensures { Tells F.is_pass F.may_follow self.now pass.old pass.new (called Add (T.fixed value)) result }
+        ensures { Tells F.is_pass F.may_follow self.now pass.old pass.new
+            (called Add (T.fixed value)) result }
     {
         let value = value.into_fixed().ok_or(OutOfRange)?;
         if let Some(cell) = &self.cell {
@@ -154,7 +155,8 @@ impl<F: GaugeFn> Gauge<F> {
     /// Takes off the gauge, modulo 2^64 billionths. A value out of range is refused, and changes nothing.
     pub fn decrement<T: IntoFixed>(&self, pass: &mut F::Pass, value: T) -> Result<(), OutOfRange>
         requires { Fits F.is_pass self.now pass.old }
-        ensures { Tells F.is_pass F.may_follow self.now pass.old pass.new (called Subtract (T.fixed value)) result }
+        ensures { Tells F.is_pass F.may_follow self.now pass.old pass.new
+            (called Subtract (T.fixed value)) result }
     {
         let value = value.into_fixed().ok_or(OutOfRange)?;
         if let Some(cell) = &self.cell {
@@ -166,7 +168,8 @@ impl<F: GaugeFn> Gauge<F> {
     /// Sets the gauge. A value out of range is refused, and changes nothing.
     pub fn set<T: IntoFixed>(&self, pass: &mut F::Pass, value: T) -> Result<(), OutOfRange>
         requires { Fits F.is_pass self.now pass.old }
-        ensures { Tells F.is_pass F.may_follow self.now pass.old pass.new (called Set (T.fixed value)) result }
+        ensures { Tells F.is_pass F.may_follow self.now pass.old pass.new
+            (called Set (T.fixed value)) result }
     {
         let value = value.into_fixed().ok_or(OutOfRange)?;
         if let Some(cell) = &self.cell {

@@ -49,7 +49,8 @@ pub trait Recorder {
         unit: Option<Unit>,
         description: SharedString,
     ) -> Result<(), Memory>
-        ensures answer { describes self.now kinds.Counter key unit (cow_text description.entry) result }
+        ensures answer { describes self.now kinds.Counter key unit
+            (cow_text description.entry) result }
         ensures refused { OnErr result (may_refuse self.now) };
 
     /// Describes the gauges of a name.
@@ -61,7 +62,8 @@ pub trait Recorder {
         unit: Option<Unit>,
         description: SharedString,
     ) -> Result<(), Memory>
-        ensures answer { describes self.now kinds.Gauge key unit (cow_text description.entry) result }
+        ensures answer { describes self.now kinds.Gauge key unit
+            (cow_text description.entry) result }
         ensures refused { OnErr result (may_refuse self.now) };
 
     /// Describes the histograms of a name.
@@ -73,7 +75,8 @@ pub trait Recorder {
         unit: Option<Unit>,
         description: SharedString,
     ) -> Result<(), Memory>
-        ensures answer { describes self.now kinds.Histogram key unit (cow_text description.entry) result }
+        ensures answer { describes self.now kinds.Histogram key unit
+            (cow_text description.entry) result }
         ensures refused { OnErr result (may_refuse self.now) };
 
     /// Hands out the counter of a key.

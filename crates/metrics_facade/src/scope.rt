@@ -135,7 +135,8 @@ pub fn with_recorder<'c, R, T, F: FnOnce(Current<'c, R>) -> T>(
     requires callable { F.IsAlwaysCallable f }
     ensures cell { note.new.cell ≡ note.old.cell }
     ensures known { IfSome note.old.known (λ there. note.new.known ≡ Some there) }
-    ensures answer { (current : _) × IsCurrent scope.now note.new.known current × F.post f current result }
+    ensures answer { (current : _) × IsCurrent scope.now note.new.known current
+        × F.post f current result }
 {
     match scope.current() {
         Some(recorder) => f(Current::Local(recorder)),

@@ -45,7 +45,8 @@ impl Chunk {
         requires counted { self.old.count ≡ length (repeated self.old.entries.items) }
         requires fits { self.old.count + count < 2 ^ 64 }
         ensures least { self.new.least ≡ self.old.least }
-        ensures raised { OnOk result (IsRaised value count self.old.entries.items self.new.entries.items) }
+        ensures raised { OnOk result (IsRaised value count self.old.entries.items
+            self.new.entries.items) }
         ensures counted { OnOk result (self.new.count ≡ self.old.count + count) }
         ensures refused { OnErr result (self.new.entries.items ≡ self.old.entries.items) }
         ensures same { OnErr result (self.new.count ≡ self.old.count) }
@@ -58,7 +59,8 @@ impl Chunk {
     /// The value at a rank, counted from 1, among those of the chunk.
     fn value_at(&self, rank: u64) -> Option<Fixed>
         requires { 1 ≤ rank }
-        ensures { result ≡ option_map of_billionths (slice_get (repeated self.now.entries.items) (rank - 1)) }
+        ensures { result ≡ option_map of_billionths
+            (slice_get (repeated self.now.entries.items) (rank - 1)) }
     {
         let mut left = rank;
         for (value, count) in self.entries.as_slice() {
@@ -171,7 +173,8 @@ pub(crate) fn raise(
     ensures ordered { AreOrdered chunks.new.items }
     ensures raised { OnOk result ((v : ℤ) → copies v (entries_of chunks.new.items)
         ≡ copies v (entries_of chunks.old.items) + (if int_eq v value then count else 0)) }
-    ensures refused { OnErr result (repeated (entries_of chunks.new.items) ≡ repeated (entries_of chunks.old.items)) }
+    ensures refused { OnErr result (repeated (entries_of chunks.new.items) ≡ repeated
+        (entries_of chunks.old.items)) }
 {
     let place = place_with_room(alloc, chunks, value)?;
     chunks[place].raise(value, count)?;
@@ -181,7 +184,8 @@ pub(crate) fn raise(
 /// Adds all counts of entries. After a refusal some of them were added.
 fn add_entries(alloc: Global, chunks: &mut Vec<Chunk>, entries: &[(i64, u64)]) -> Result<(), Memory>
     requires ordered { AreOrdered chunks.old.items }
-    requires fits { length (repeated (entries_of chunks.old.items)) + length (repeated entries.now) < 2 ^ 64 }
+    requires fits { length (repeated (entries_of chunks.old.items)) + length
+        (repeated entries.now) < 2 ^ 64 }
     ensures ordered { AreOrdered chunks.new.items }
     ensures added { OnOk result ((v : ℤ) → copies v (entries_of chunks.new.items)
         ≡ copies v (entries_of chunks.old.items) + copies v entries.now) }
@@ -199,7 +203,8 @@ pub(crate) fn add_all(
     others: &[Chunk],
 ) -> Result<(), Memory>
     requires ordered { AreOrdered chunks.old.items }
-    requires fits { length (repeated (entries_of chunks.old.items)) + length (repeated (entries_of others.now)) < 2 ^ 64 }
+    requires fits { length (repeated (entries_of chunks.old.items)) + length
+        (repeated (entries_of others.now)) < 2 ^ 64 }
     ensures ordered { AreOrdered chunks.new.items }
     ensures added { OnOk result ((v : ℤ) → copies v (entries_of chunks.new.items)
         ≡ copies v (entries_of chunks.old.items) + copies v (entries_of others.now)) }
@@ -215,7 +220,8 @@ pub(crate) fn add_all(
 pub(crate) fn value_at(chunks: &[Chunk], rank: u64) -> Option<Fixed>
     requires least { 1 ≤ rank }
     requires ordered { AreOrdered chunks.now }
-    ensures { result ≡ option_map of_billionths (slice_get (repeated (entries_of chunks.now)) (rank - 1)) }
+    ensures { result ≡ option_map of_billionths
+        (slice_get (repeated (entries_of chunks.now)) (rank - 1)) }
 {
     let mut left = rank;
     for chunk in chunks {

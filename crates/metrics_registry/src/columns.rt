@@ -103,7 +103,8 @@ impl<T> Column<T> {
     pub(crate) fn cell_mut(&mut self, place: usize) -> &mut T
         requires { place < length self.old.items.items }
         ensures* writes_back { sem 𝓛 (lends_stored T.row self.entry place result) }
-        ensures value { option_map (λ series. series.cell) (slice_get self.old.items.items place) ≡ Some result.now }
+        ensures value { option_map (λ series. series.cell)
+            (slice_get self.old.items.items place) ≡ Some result.now }
     {
         let series = &mut self.items[place];
         &mut series.cell
@@ -119,7 +120,8 @@ impl<T> Column<T> {
     ) -> Result<(), (Key, T)>
         requires stored { AreStored keys.old.keys self.old.items.items }
         requires new { id_of_key key (live_of keys.old.keys self.old.items.items) ≡ None }
-        requires above { All (λ series. series.id.number < id.number) (live_of keys.old.keys self.old.items.items) }
+        requires above { All (λ series. series.id.number < id.number)
+            (live_of keys.old.keys self.old.items.items) }
         ensures added { OnOk result (live_of keys.new.keys self.new.items.items
             ≡ with_last (live_of keys.old.keys self.old.items.items) id key cell) }
         ensures refused { OnErr result (live_of keys.new.keys self.new.items.items
@@ -153,11 +155,14 @@ impl<T> Column<T> {
         make: F,
     ) -> Result<SeriesId, Memory>
         requires stored { AreStored keys.old.keys self.old.items.items }
-        requires above { All (λ series. series.id.number < id.number) (live_of keys.old.keys self.old.items.items) }
+        requires above { All (λ series. series.id.number < id.number)
+            (live_of keys.old.keys self.old.items.items) }
         requires callable { F.pre make }
-        ensures registered { IfOk result (λ given. Registers (λ cell. F.post make (Ok cell)) key id given
+        ensures registered { IfOk result (λ given.
+            Registers (λ cell. F.post make (Ok cell)) key id given
             (live_of keys.old.keys self.old.items.items) (live_of keys.new.keys self.new.items.items)) }
-        ensures absent { OnErr result (id_of_key key (live_of keys.old.keys self.old.items.items) ≡ None) }
+        ensures absent { OnErr result (id_of_key key
+            (live_of keys.old.keys self.old.items.items) ≡ None) }
         ensures refused { OnErr result (live_of keys.new.keys self.new.items.items
             ≡ live_of keys.old.keys self.old.items.items) }
         ensures stored { AreStored keys.new.keys self.new.items.items }
@@ -181,7 +186,9 @@ impl<T> Column<T> {
         requires callable { F.pre make }
         ensures put { IfOk result (λ given. (given ≡ id) × (keys.new.keys ≡ keys.old.keys)
             × ((cell : T) × F.post make (Ok cell) × (self.new.items.items ≡ self.old.items.items ++ record { id = id; cell = cell } ∷ []))) }
-        ensures refused { OnErr result ((keys.new.keys ≡ take (length keys.old.keys - 1) keys.old.keys) × (self.new.items.items ≡ self.old.items.items)) }
+        ensures refused { OnErr result ((keys.new.keys ≡ take
+            (length keys.old.keys - 1) keys.old.keys)
+            × (self.new.items.items ≡ self.old.items.items)) }
     {
         match self.push_made(id, make) {
             Ok(()) => Ok(id),
@@ -239,7 +246,8 @@ impl<T> Column<T> {
         T: Drop,
         requires stored { AreStored keys.old.keys self.old.items.items }
         requires callable { F.IsAlwaysCallable keep }
-        ensures retained { (last : F) × Retains F.FnMut keep (live_of keys.old.keys self.old.items.items)
+        ensures retained { (last : F) × Retains F.FnMut keep
+            (live_of keys.old.keys self.old.items.items)
             (live_of keys.new.keys self.new.items.items) last }
         ensures stored { AreStored keys.new.keys self.new.items.items }
     {
@@ -283,7 +291,8 @@ impl<T> Column<T> {
 /// Asks the test of one series.
 fn ask<T, F: FnMut(SeriesId, &mut T) -> bool>(keep: &mut F, series: &mut Series<T>) -> bool
     requires { F.IsAlwaysCallable keep.old }
-    ensures asked { AskedAt F.FnMut keep.old series.old.id series.old.cell result series.new.cell keep.new }
+    ensures asked { AskedAt F.FnMut keep.old series.old.id series.old.cell result series.new.cell
+        keep.new }
     ensures id { series.new.id ≡ series.old.id }
     ensures callable { F.IsAlwaysCallable keep.new }
 {
@@ -329,7 +338,8 @@ impl<'a, T> SeriesIter<'a, T> {
 
     /// The key of the series at a place, from 0, if there is one.
     pub fn key(&self, place: usize) -> Option<&'a Key>
-        ensures { option_copied result ≡ option_map (λ series. series.key) (slice_get self.now place) }
+        ensures { option_copied result ≡ option_map (λ series. series.key)
+            (slice_get self.now place) }
     {
         let _series = self.series.get(place)?;
         let key = self.keys.get(place)?;
@@ -346,7 +356,8 @@ impl<'a, T> SeriesIter<'a, T> {
 
     /// The cell of the series at a place, from 0, if there is one.
     pub fn cell(&self, place: usize) -> Option<&'a T>
-        ensures { option_copied result ≡ option_map (λ series. series.cell) (slice_get self.now place) }
+        ensures { option_copied result ≡ option_map (λ series. series.cell)
+            (slice_get self.now place) }
     {
         let _key = self.keys.get(place)?;
         Some(&self.series.get(place)?.cell)

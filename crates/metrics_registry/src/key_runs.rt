@@ -83,8 +83,10 @@ impl KeyRun {
     /// Puts a key behind the others where they rise and its rank is greater than theirs; none is equal to it then. Elsewhere
     /// it comes back, as it does where memory is refused.
     pub(crate) fn push_greater(&mut self, key: Key) -> Result<Option<Key>, Key>
-        ensures pushed { IfOk result (λ held. IfNone held (self.new.keys ≡ self.old.keys ++ key ∷ [])) }
-        ensures new { IfOk result (λ held. IfNone held (list_any (key_eq key) self.old.keys ≡ false)) }
+        ensures pushed { IfOk result (λ held.
+            IfNone held (self.new.keys ≡ self.old.keys ++ key ∷ [])) }
+        ensures new { IfOk result (λ held.
+            IfNone held (list_any (key_eq key) self.old.keys ≡ false)) }
         ensures held { IfOk result (λ held. IfSome held (λ held. held ≡ key)) }
         ensures same { IfOk result (λ held. IfSome held (λ _. self.new.keys ≡ self.old.keys)) }
         ensures refused { OnErr result (self.new.keys ≡ self.old.keys) }

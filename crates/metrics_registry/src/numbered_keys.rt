@@ -78,9 +78,11 @@ impl NumberedKeys {
     pub(crate) fn enter(&mut self, key: Key) -> Result<Option<usize>, Key>
         ensures index { IfOk result (λ place. place ≡ position (key_eq key) self.old.keys) }
         ensures found { IfOk result (λ place. is_some place ≡ list_any (key_eq key) self.old.keys) }
-        ensures within { IfOk result (λ place. IfSome place (λ place. place < length self.old.keys)) }
+        ensures within { IfOk result (λ place. IfSome place (λ place. place < length self.old.keys))
+            }
         ensures kept { IfOk result (λ place. IfSome place (λ _. self.new.keys ≡ self.old.keys)) }
-        ensures added { IfOk result (λ place. IfNone place (self.new.keys ≡ self.old.keys ++ key ∷ [])) }
+        ensures added { IfOk result (λ place.
+            IfNone place (self.new.keys ≡ self.old.keys ++ key ∷ [])) }
         ensures absent { OnErr result (list_any (key_eq key) self.old.keys ≡ false) }
         ensures refused { OnErr result (self.new.keys ≡ self.old.keys) }
         ensures returned { IfErr result (λ returned. returned ≡ key) }
@@ -192,9 +194,11 @@ fn in_order(keys: &IndexMap<u64, Key>) -> &[Key]
 
 /// The place of the key that stands under a number, if it is equal to a key.
 fn place_under(keys: &IndexMap<u64, Key>, number: u64, key: &Key) -> Option<usize>
-    ensures index { (start : HashStart) (numbers : NumbersText) → number ≡ number_of start numbers key.now → AreNumbered start numbers keys.now.entries
+    ensures index { (start : HashStart) (numbers : NumbersText)
+        → number ≡ number_of start numbers key.now → AreNumbered start numbers keys.now.entries
         → result ≡ position (key_eq key.now) (values keys.now) }
-    ensures found { (start : HashStart) (numbers : NumbersText) → number ≡ number_of start numbers key.now → AreNumbered start numbers keys.now.entries
+    ensures found { (start : HashStart) (numbers : NumbersText)
+        → number ≡ number_of start numbers key.now → AreNumbered start numbers keys.now.entries
         → is_some result ≡ list_any (key_eq key.now) (values keys.now) }
     ensures within { IfSome result (λ place. place < length (values keys.now)) }
 {
@@ -215,7 +219,9 @@ fn push_numbered(
     key: Key,
 ) -> Result<(), Key>
     requires new { list_any (key_eq key) (values keys.old) ≡ false }
-    ensures numbered { (start : HashStart) → number ≡ number_of start numbers.old key → AreNumbered start numbers.old keys.old.entries → AreNumbered start numbers.new keys.new.entries }
+    ensures numbered { (start : HashStart) → number ≡ number_of start numbers.old key
+        → AreNumbered start numbers.old keys.old.entries
+        → AreNumbered start numbers.new keys.new.entries }
     ensures added { OnOk result (values keys.new ≡ values keys.old ++ key ∷ []) }
     ensures refused { OnErr result (values keys.new ≡ values keys.old) }
     ensures returned { IfErr result (λ returned. returned ≡ key) }
@@ -230,7 +236,8 @@ fn push_numbered(
 /// refused.
 fn put_under(keys: &mut IndexMap<u64, Key>, number: u64, key: Key) -> Result<Option<Key>, Key>
     ensures free { IfOk result (λ held. IfNone held (get nat_eq keys.old number ≡ None)) }
-    ensures put { IfOk result (λ held. IfNone held (keys.new.entries ≡ keys.old.entries ++ (number, key) ∷ [])) }
+    ensures put { IfOk result (λ held.
+        IfNone held (keys.new.entries ≡ keys.old.entries ++ (number, key) ∷ [])) }
     ensures held { IfOk result (λ held. IfSome held (λ held. held ≡ key)) }
     ensures same { IfOk result (λ held. IfSome held (λ _. keys.new.entries ≡ keys.old.entries)) }
     ensures refused { OnErr result (keys.new.entries ≡ keys.old.entries) }
@@ -264,7 +271,8 @@ fn push_apart(
     key: Key,
 ) -> Result<(), Key>
     requires new { list_any (key_eq key) (values keys.old) ≡ false }
-    ensures numbered { (start : HashStart) → AreNumbered start numbers.old keys.old.entries → AreNumbered start numbers.new keys.new.entries }
+    ensures numbered { (start : HashStart) → AreNumbered start numbers.old keys.old.entries
+        → AreNumbered start numbers.new keys.new.entries }
     ensures added { OnOk result (values keys.new ≡ values keys.old ++ key ∷ []) }
     ensures refused { OnErr result (values keys.new ≡ values keys.old) }
     ensures returned { IfErr result (λ returned. returned ≡ key) }

@@ -132,7 +132,8 @@ impl Recency {
         now: u64,
     ) -> bool
         ensures kept { result ≡ is_some (note_left self.now kind noted.old updates now) }
-        ensures note { noted.new ≡ unwrap_or (note_left self.now kind noted.old updates now) noted.old }
+        ensures note { noted.new ≡ unwrap_or
+            (note_left self.now kind noted.old updates now) noted.old }
     {
         let Some(timeout) = self.timeout else {
             return true;

@@ -97,7 +97,8 @@ impl<C: Drop, G: Drop, H: Drop> Registry<C, G, H> {
 
     /// How many series are live, of all kinds.
     pub fn count(&self) -> usize
-        ensures { result ≡ length self.now.counters + (length self.now.gauges + length self.now.histograms) }
+        ensures { result ≡ length self.now.counters +
+            (length self.now.gauges + length self.now.histograms) }
     {
         // That the sum is in range needs the slices, whose keys take room in memory.
         self.counter_keys.as_slice().len()
@@ -145,7 +146,8 @@ impl<C: Drop, G: Drop, H: Drop> Registry<C, G, H> {
     ) -> Result<SeriesId, Memory>
         requires room { self.old.made < 2 ^ 64 - 1 }
         requires callable { F.pre make }
-        ensures registered { IfOk result (λ id. RegistersCounter (λ cell. F.post make (Ok cell)) key id self.old self.new) }
+        ensures registered { IfOk result (λ id.
+            RegistersCounter (λ cell. F.post make (Ok cell)) key id self.old self.new) }
         ensures absent { OnErr result (id_of_key key self.old.counters ≡ None) }
         ensures refused { OnErr result (self.new ≡ self.old) }
     {
@@ -165,7 +167,8 @@ impl<C: Drop, G: Drop, H: Drop> Registry<C, G, H> {
     /// Takes the counter back that was made last, as if it had never been made.
     pub fn take_back_counter(&mut self)
         requires { (before : RegistryText C G H) × MadeCounterLast before self.old }
-        ensures { (before : RegistryText C G H) → MadeCounterLast before self.old → self.new ≡ before }
+        ensures { (before : RegistryText C G H) → MadeCounterLast before self.old
+            → self.new ≡ before }
     {
         self.counters.take_back(&mut self.counter_keys);
         self.made -= 1;
@@ -212,7 +215,8 @@ impl<C: Drop, G: Drop, H: Drop> Registry<C, G, H> {
     pub fn counter_at(&mut self, place: usize) -> &mut C
         requires { place < length self.old.counters }
         ensures* writes_back { sem 𝓛 (lends_counter_at C.row G.row H.row self.entry place result) }
-        ensures value { option_map (λ series. series.cell) (slice_get self.old.counters place) ≡ Some result.now }
+        ensures value { option_map (λ series. series.cell)
+            (slice_get self.old.counters place) ≡ Some result.now }
     {
         self.counters.cell_mut(place)
     }
@@ -229,7 +233,8 @@ impl<C: Drop, G: Drop, H: Drop> Registry<C, G, H> {
     /// Keeps the counters for which a test holds, in one pass and in their order. The test may change the cells.
     pub fn retain_counters<F: FnMut(SeriesId, &mut C) -> bool>(&mut self, keep: F)
         requires { F.IsAlwaysCallable keep }
-        ensures retained { (last : F) × Retains F.FnMut keep self.old.counters self.new.counters last }
+        ensures retained { (last : F) × Retains F.FnMut keep self.old.counters self.new.counters
+            last }
         ensures others { self.new ≡ record self.old { counters = self.new.counters } }
     {
         self.counters.retain(&mut self.counter_keys, keep);
@@ -282,7 +287,8 @@ impl<C: Drop, G: Drop, H: Drop> Registry<C, G, H> {
     ) -> Result<SeriesId, Memory>
         requires room { self.old.made < 2 ^ 64 - 1 }
         requires callable { F.pre make }
-        ensures registered { IfOk result (λ id. RegistersGauge (λ cell. F.post make (Ok cell)) key id self.old self.new) }
+        ensures registered { IfOk result (λ id.
+            RegistersGauge (λ cell. F.post make (Ok cell)) key id self.old self.new) }
         ensures absent { OnErr result (id_of_key key self.old.gauges ≡ None) }
         ensures refused { OnErr result (self.new ≡ self.old) }
     {
@@ -300,7 +306,8 @@ impl<C: Drop, G: Drop, H: Drop> Registry<C, G, H> {
     /// Takes the gauge back that was made last, as if it had never been made.
     pub fn take_back_gauge(&mut self)
         requires { (before : RegistryText C G H) × MadeGaugeLast before self.old }
-        ensures { (before : RegistryText C G H) → MadeGaugeLast before self.old → self.new ≡ before }
+        ensures { (before : RegistryText C G H) → MadeGaugeLast before self.old
+            → self.new ≡ before }
     {
         self.gauges.take_back(&mut self.gauge_keys);
         self.made -= 1;
@@ -344,7 +351,8 @@ impl<C: Drop, G: Drop, H: Drop> Registry<C, G, H> {
     pub fn gauge_at(&mut self, place: usize) -> &mut G
         requires { place < length self.old.gauges }
         ensures* writes_back { sem 𝓛 (lends_gauge_at C.row G.row H.row self.entry place result) }
-        ensures value { option_map (λ series. series.cell) (slice_get self.old.gauges place) ≡ Some result.now }
+        ensures value { option_map (λ series. series.cell)
+            (slice_get self.old.gauges place) ≡ Some result.now }
     {
         self.gauges.cell_mut(place)
     }
@@ -414,7 +422,8 @@ impl<C: Drop, G: Drop, H: Drop> Registry<C, G, H> {
     ) -> Result<SeriesId, Memory>
         requires room { self.old.made < 2 ^ 64 - 1 }
         requires callable { F.pre make }
-        ensures registered { IfOk result (λ id. RegistersHistogram (λ cell. F.post make (Ok cell)) key id self.old self.new) }
+        ensures registered { IfOk result (λ id.
+            RegistersHistogram (λ cell. F.post make (Ok cell)) key id self.old self.new) }
         ensures absent { OnErr result (id_of_key key self.old.histograms ≡ None) }
         ensures refused { OnErr result (self.new ≡ self.old) }
     {
@@ -434,7 +443,8 @@ impl<C: Drop, G: Drop, H: Drop> Registry<C, G, H> {
     /// Takes the histogram back that was made last, as if it had never been made.
     pub fn take_back_histogram(&mut self)
         requires { (before : RegistryText C G H) × MadeHistogramLast before self.old }
-        ensures { (before : RegistryText C G H) → MadeHistogramLast before self.old → self.new ≡ before }
+        ensures { (before : RegistryText C G H) → MadeHistogramLast before self.old
+            → self.new ≡ before }
     {
         self.histograms.take_back(&mut self.histogram_keys);
         self.made -= 1;
@@ -477,8 +487,10 @@ impl<C: Drop, G: Drop, H: Drop> Registry<C, G, H> {
     /// The cell of the histogram at a place, from 0, to write.
     pub fn histogram_at(&mut self, place: usize) -> &mut H
         requires { place < length self.old.histograms }
-        ensures* writes_back { sem 𝓛 (lends_histogram_at C.row G.row H.row self.entry place result) }
-        ensures value { option_map (λ series. series.cell) (slice_get self.old.histograms place) ≡ Some result.now }
+        ensures* writes_back { sem 𝓛 (lends_histogram_at C.row G.row H.row self.entry place result)
+            }
+        ensures value { option_map (λ series. series.cell)
+            (slice_get self.old.histograms place) ≡ Some result.now }
     {
         self.histograms.cell_mut(place)
     }
@@ -495,7 +507,8 @@ impl<C: Drop, G: Drop, H: Drop> Registry<C, G, H> {
     /// Keeps the histograms for which a test holds, in one pass and in their order. The test may change the cells.
     pub fn retain_histograms<F: FnMut(SeriesId, &mut H) -> bool>(&mut self, keep: F)
         requires { F.IsAlwaysCallable keep }
-        ensures retained { (last : F) × Retains F.FnMut keep self.old.histograms self.new.histograms last }
+        ensures retained { (last : F) × Retains F.FnMut keep self.old.histograms self.new.histograms
+            last }
         ensures others { self.new ≡ record self.old { histograms = self.new.histograms } }
     {
         self.histograms.retain(&mut self.histogram_keys, keep);

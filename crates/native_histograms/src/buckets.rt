@@ -30,7 +30,8 @@ impl Buckets {
 
     /// No buckets.
     pub fn new(alloc: Global, depth: u32) -> Buckets
-        ensures { buckets_text result ≡ record { depth = depth; positive = []; negative = []; zeros = 0 } }
+        ensures { buckets_text result
+            ≡ record { depth = depth; positive = []; negative = []; zeros = 0 } }
     {
         Buckets {
             depth,
@@ -49,7 +50,8 @@ impl Buckets {
         count: u32,
     ) -> Result<(), Memory>
         requires { 0 < count }
-        ensures added { OnOk result (Adds config.now (buckets_text self.old) (value.0, count) (buckets_text self.new)) }
+        ensures added { OnOk result (Adds config.now (buckets_text self.old) (value.0, count)
+            (buckets_text self.new)) }
         ensures depth { self.old.depth ≤ 4 → self.new.depth ≤ 4 }
         ensures refused { OnErr result (buckets_text self.new ≡ buckets_text self.old) }
         ensures opens { let old = buckets_text self.old in
@@ -199,7 +201,8 @@ fn is_full(
     index: i32,
 ) -> bool
     ensures absent { IsTrue result → lookup (int_eq index) side.now.entries ≡ None }
-    ensures full { result ≡ (nat_lt depth 4 && opens_over max_buckets side.now.entries other.now.entries index) }
+    ensures full { result ≡ (nat_lt depth 4 && opens_over max_buckets side.now.entries
+        other.now.entries index) }
 {
     depth < 4 && opens_too_many(side, other, max_buckets, index)
 }

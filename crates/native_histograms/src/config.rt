@@ -49,7 +49,8 @@ impl NativeHistogramConfig {
         max_buckets: u32,
         zero_threshold: Fixed,
     ) -> Result<NativeHistogramConfig, &'static str>
-        ensures refused { IfErr result (λ text. refusal bucket_factor.0 max_buckets zero_threshold.0 ≡ Some text.now) }
+        ensures refused { IfErr result (λ text.
+            refusal bucket_factor.0 max_buckets zero_threshold.0 ≡ Some text.now) }
         ensures accepted { IfOk result (Accepts bucket_factor.0 max_buckets zero_threshold.0) }
     {
         if bucket_factor.0 <= 1_000_000_000 {

@@ -43,7 +43,8 @@ impl<'a> Cursor<'a> {
 
     /// Takes a literal.
     pub(crate) fn literal(&mut self, literal: &[u8]) -> Option<()>
-        ensures taken { MatchOption result ((rest : List ℕ) → self.old.rest.now ≢ literal.now ++ rest)
+        ensures taken { MatchOption result
+            ((rest : List ℕ) → self.old.rest.now ≢ literal.now ++ rest)
             (λ _. self.old.rest.now ≡ literal.now ++ self.new.rest.now) }
         ensures stays { IfNone result (self.new ≡ self.old) }
     {
@@ -87,7 +88,8 @@ impl<'a> Cursor<'a> {
 
     /// Whether a text ends here.
     fn text_ends(&self, in_label: bool) -> bool
-        ensures { MatchBool result (TextEnds in_label self.now.rest.now) (¬ TextEnds in_label self.now.rest.now) }
+        ensures { MatchBool result (TextEnds in_label self.now.rest.now)
+            (¬ TextEnds in_label self.now.rest.now) }
     {
         match self.rest {
             [] => true,

@@ -60,7 +60,8 @@ impl Gathered {
 
     /// Adds a family of a page. Answers whether it has the type of the others and all sums fit.
     pub(crate) fn add(&mut self, alloc: Global, page: u64, family: &Family) -> Result<bool, Memory>
-        ensures { IfOk result (TakesMember self.old self.new (record { page = page; family = family_of family.now })) }
+        ensures { IfOk result (TakesMember self.old self.new
+            (record { page = page; family = family_of family.now })) }
     {
         if self.shape != family.shape {
             return Ok(false);
@@ -171,7 +172,8 @@ fn last_is_quantile(labels: &[(String, String)]) -> bool
 
 /// The row with the number of its page before its labels.
 fn row_with_page(alloc: Global, page: u64, row: &PageRow) -> Result<PageRow, Memory>
-    ensures { IfOk result (λ made. row_of made ≡ merged.with_page (record { page = page; row = row_of row.now })) }
+    ensures { IfOk result (λ made.
+        row_of made ≡ merged.with_page (record { page = page; row = row_of row.now })) }
 {
     let mut number = String::new(alloc);
     push_count(&mut number, page)?;
@@ -200,7 +202,8 @@ fn copy_of(alloc: Global, row: &PageRow) -> Result<PageRow, Memory>
 /// The name and the labels of the row.
 fn key_of(alloc: Global, row: &PageRow) -> Result<RowKey, Memory>
     ensures name { IfOk result (λ key. string_bytes key.0 ≡ string_bytes row.now.name) }
-    ensures labels { IfOk result (λ key. map label_of key.1.items ≡ map label_of row.now.labels.items) }
+    ensures labels { IfOk result (λ key.
+        map label_of key.1.items ≡ map label_of row.now.labels.items) }
 {
     let mut labels = Vec::new(alloc);
     add_labels(alloc, &mut labels, row.labels.as_slice())?;
@@ -213,7 +216,8 @@ fn add_labels(
     labels: &mut Vec<(String, String)>,
     more: &[(String, String)],
 ) -> Result<(), Memory>
-    ensures { OnOk result (map label_of labels.new.items ≡ map label_of labels.old.items ++ map label_of more.now) }
+    ensures { OnOk result (map label_of labels.new.items
+        ≡ map label_of labels.old.items ++ map label_of more.now) }
 {
     for label in more {
         labels.push((text_of(alloc, &label.0)?, text_of(alloc, &label.1)?))?;
@@ -234,7 +238,8 @@ fn take_help(alloc: Global, help: &mut Option<String>, other: &Option<String>) -
 
 /// A copy of the help, where there is any.
 fn help_of(alloc: Global, help: &Option<String>) -> Result<Option<String>, Memory>
-    ensures { IfOk result (λ made. option_map string_bytes made ≡ option_map string_bytes help.now) }
+    ensures { IfOk result (λ made. option_map string_bytes made ≡ option_map string_bytes help.now)
+        }
 {
     match help {
         Some(help) => Ok(Some(text_of(alloc, help)?)),

@@ -13,7 +13,8 @@ pub fn one_stream()
 
 /// Bytes have at most one first bad line, and those that have one are no stream.
 pub fn one_first_bad_line()
-    ensures same { (bytes : List ℕ) (k l : ℕ) → IsFirstBadLine bytes k → IsFirstBadLine bytes l → k ≡ l }
+    ensures same { (bytes : List ℕ) (k l : ℕ) → IsFirstBadLine bytes k → IsFirstBadLine bytes l
+        → k ≡ l }
     ensures no_stream { (bytes : List ℕ) (l : ℕ) (pages : List (List Family))
         → IsFirstBadLine bytes l → ¬ IsStream bytes pages }
 {}

@@ -17,7 +17,8 @@ const PLACES: usize = 9;
 
 /// The name and the text of a help line.
 pub(crate) fn read_help_line(alloc: Global, line: &[u8]) -> Result<Option<(String, String)>, Memory>
-    ensures { IfOk result (λ read. MatchOption read ((name text : List ℕ) → ¬ IsHelpLine line.now name text)
+    ensures { IfOk result (λ read.
+        MatchOption read ((name text : List ℕ) → ¬ IsHelpLine line.now name text)
         (λ read. IsHelpLine line.now (string_bytes read.0) (string_bytes read.1))) }
 {
     let mut cursor = Cursor::new(line);

@@ -53,7 +53,8 @@ impl Merging {
 
     /// Adds a family of a page. Answers whether it merges with those before it.
     fn add(&mut self, alloc: Global, page: u64, family: &Family) -> Result<bool, Memory>
-        ensures { IfOk result (TakesFamily self.old self.new (record { page = page; family = family_of family.now })) }
+        ensures { IfOk result (TakesFamily self.old self.new
+            (record { page = page; family = family_of family.now })) }
     {
         let place = self.place_in(alloc, family)?;
         let Some(same) = self.families.get_mut(place) else {

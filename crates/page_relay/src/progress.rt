@@ -68,7 +68,8 @@ impl PagesSoFar {
     pub(crate) fn into_pages(self) -> Option<Vec<Page>>
         ensures whole { MatchOption result (place_of (so_far self) ≢ Start)
             (λ pages. text_so_far (so_far self) ≡ flat_map page_text (map families_of pages.items)) }
-        ensures pages { MatchOption result (place_of (so_far self) ≢ Start) (λ pages. pages ≡ self.pages) }
+        ensures pages { MatchOption result (place_of (so_far self) ≢ Start)
+            (λ pages. pages ≡ self.pages) }
     {
         if !self.families.is_empty() {
             return None;
@@ -132,7 +133,8 @@ fn type_block(
     help: String,
     line: &[u8],
 ) -> Result<Option<PagesSoFar>, Memory>
-    ensures { IsUtf8 line.now → IsSound (parts_so_far pages.items families.items (opened.Helped name help))
+    ensures { IsUtf8 line.now
+        → IsSound (parts_so_far pages.items families.items (opened.Helped name help))
         → IfOk result (IsNext (Fits (Helped (string_bytes name)) line.now)
         (parts_so_far pages.items families.items (opened.Helped name help)) line.now) }
 {
@@ -163,7 +165,8 @@ fn grow_block(
     mut family: Family,
     line: &[u8],
 ) -> Result<Option<PagesSoFar>, Memory>
-    ensures { IsUtf8 line.now → IsSound (parts_so_far pages.items families.items (opened.Block family))
+    ensures { IsUtf8 line.now
+        → IsSound (parts_so_far pages.items families.items (opened.Block family))
         → IfOk result (IsNext (Fits (place_in_rows (family_of family).rows) line.now)
         (parts_so_far pages.items families.items (opened.Block family)) line.now) }
 {

@@ -59,7 +59,8 @@ fn push_block(alloc: Global, text: &mut Vec<u8>, family: &Family) -> Result<(), 
 
 /// Appends a help line, where there is help.
 fn push_help(text: &mut Vec<u8>, name: &str, help: &Option<String>) -> Result<(), Memory>
-    ensures { OnOk result (text.new.items ≡ text.old.items ++ help_text name.now (option_map string_bytes help.now)) }
+    ensures { OnOk result (text.new.items ≡ text.old.items ++ help_text name.now
+        (option_map string_bytes help.now)) }
 {
     let Some(help) = help else {
         return Ok(());
@@ -100,7 +101,8 @@ fn push_row(alloc: Global, text: &mut Vec<u8>, row: &PageRow) -> Result<(), Memo
 
 /// Appends labels in braces, where there are any.
 fn push_label_set(text: &mut Vec<u8>, labels: &[(String, String)]) -> Result<(), Memory>
-    ensures { OnOk result (text.new.items ≡ text.old.items ++ label_set_text (map label_of labels.now)) }
+    ensures { OnOk result (text.new.items ≡ text.old.items ++ label_set_text
+        (map label_of labels.now)) }
 {
     let mut before = b'{';
     for label in labels {
@@ -138,7 +140,8 @@ pub fn push_escaped(text: &mut Vec<u8>, plain: &str, in_label: bool) -> Result<(
 
 /// Appends a character with its escape.
 fn push_character(text: &mut Vec<u8>, character: u8, in_label: bool) -> Result<(), Memory>
-    ensures { OnOk result (text.new.items ≡ text.old.items ++ escaped_character in_label character) }
+    ensures { OnOk result (text.new.items ≡ text.old.items ++ escaped_character in_label character)
+        }
 {
     if character == b'\\' {
         text.extend_from_slice(b"\\\\")?;

@@ -22,7 +22,8 @@ pub trait Render {
     /// Makes the page step at a moment, in nanoseconds, and answers the page's body (Prometheus text exposition format, version
     /// 0.0.4).
     fn render<R: Wait>(&mut self, rt: &R, alloc: Global, moment: u64) -> Result<String, Memory>
-        ensures rendered { IfOk result (λ text. renders self.old moment self.new (string_bytes text)) };
+        ensures rendered { IfOk result (λ text.
+            renders self.old moment self.new (string_bytes text)) };
 }
 
 impl Render for PrometheusState {
@@ -31,10 +32,14 @@ impl Render for PrometheusState {
     /// The text that `render_to_write` writes. After `Memory` the page step was made, or histograms were drained in part and nothing
     /// else happened: no sample is lost, and none counts twice.
     fn render<R: Wait>(&mut self, rt: &R, alloc: Global, moment: u64) -> Result<String, Memory>
-        ensures rendered { IfOk result (λ text. IsRendered self.old moment self.new (string_bytes text)) }
-        ensures refused { OnErr result (Steps moment self.old self.new ⊎ DrainsEach DrainsInPart self.old self.new) }
+        ensures rendered { IfOk result (λ text.
+            IsRendered self.old moment self.new (string_bytes text)) }
+        ensures refused { OnErr result (Steps moment self.old self.new
+            ⊎ DrainsEach DrainsInPart self.old self.new) }
         ensures home { AllHome self.old → AllHome self.new }
-        ensures stepped { AllHome self.old → (state_of self.new ≡ page_step self.old.settings.idle moment (state_of self.old)) ⊎ (state_of self.new ≡ state_of self.old) }
+        ensures stepped { AllHome self.old
+            → (state_of self.new ≡ page_step self.old.settings.idle moment (state_of self.old))
+            ⊎ (state_of self.new ≡ state_of self.old) }
         ensures timely { (t : ℕ) → AllHome self.old → AreTimely t self.old → AreTimely t self.new }
     {
         let mut sink = TextSink::new(alloc);

@@ -23,10 +23,14 @@ impl PrometheusState {
         sink: &mut K,
     ) -> Result<(), BuildError>
         ensures same { self.new ≡ self.old }
-        ensures body { OnOk result (GrewBy (K.written sink.old) (K.written sink.new) (written_body moment self.old)) }
-        ensures prefix { OnErr result (GrewByPrefix (K.written sink.old) (K.written sink.new) (written_body moment self.old)) }
-        ensures errors { IfErr result (λ error. (error ≡ BuildError.WriteFault) ⊎ (error ≡ BuildError.Memory)) }
-        ensures cause { result ≡ Err BuildError.WriteFault → Rose (K.faults sink.old) (K.faults sink.new) }
+        ensures body { OnOk result (GrewBy (K.written sink.old) (K.written sink.new)
+            (written_body moment self.old)) }
+        ensures prefix { OnErr result (GrewByPrefix (K.written sink.old) (K.written sink.new)
+            (written_body moment self.old)) }
+        ensures errors { IfErr result (λ error. (error ≡ BuildError.WriteFault)
+            ⊎ (error ≡ BuildError.Memory)) }
+        ensures cause { result ≡ Err BuildError.WriteFault
+            → Rose (K.faults sink.old) (K.faults sink.new) }
         ensures never_falls { K.faults sink.old ≤ K.faults sink.new }
     {
         let (counter_count, gauge_count) = (self.series.counter_count(), self.series.gauge_count());

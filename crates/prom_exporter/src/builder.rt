@@ -112,7 +112,8 @@ impl PrometheusBuilder {
         alloc: Global,
         address: &str,
     ) -> Result<PrometheusBuilder, BuildError>
-        ensures added { IfOk result (λ builder. (network : NetworkText) × IsNetwork address.now network
+        ensures added { IfOk result (λ builder. (network : NetworkText)
+            × IsNetwork address.now network
             × (builder ≡ record self { allowed = allowed_with network self.allowed })) }
         ensures refused { IfErr result (RefusesAddress address.now) }
     {
@@ -136,7 +137,9 @@ impl PrometheusBuilder {
         alloc: Global,
         quantiles: &[Fixed],
     ) -> Result<PrometheusBuilder, BuildError>
-        ensures set { IfOk result (λ builder. builder ≡ record self { settings = record self.settings { quantiles = billionths_of quantiles.now } }) }
+        ensures set { IfOk result (λ builder.
+            builder ≡ record self
+            { settings = record self.settings { quantiles = billionths_of quantiles.now } }) }
         ensures empty { length quantiles.now ≡ 0 → result ≡ Err BuildError.EmptyBucketsOrQuantiles }
         ensures refused { 0 < length quantiles.now → OnErr result (result ≡ Err BuildError.Memory) }
     {
@@ -150,7 +153,9 @@ impl PrometheusBuilder {
         alloc: Global,
         values: &[Fixed],
     ) -> Result<PrometheusBuilder, BuildError>
-        ensures set { IfOk result (λ builder. builder ≡ record self { settings = record self.settings { buckets = Some (billionths_of values.now) } }) }
+        ensures set { IfOk result (λ builder.
+            builder ≡ record self
+            { settings = record self.settings { buckets = Some (billionths_of values.now) } }) }
         ensures empty { length values.now ≡ 0 → result ≡ Err BuildError.EmptyBucketsOrQuantiles }
         ensures refused { 0 < length values.now → OnErr result (result ≡ Err BuildError.Memory) }
     {
@@ -199,7 +204,8 @@ impl PrometheusBuilder {
 
     /// Sets how long a bucket of a summary's window lasts, in nanoseconds. It is refused exactly at 0.
     pub fn set_bucket_duration(mut self, value: u64) -> Result<PrometheusBuilder, BuildError>
-        ensures set { IfOk result (λ builder. builder ≡ record self { settings = record self.settings { bucket_duration = value } }) }
+        ensures set { IfOk result (λ builder.
+            builder ≡ record self { settings = record self.settings { bucket_duration = value } }) }
         ensures zero { value ≡ 0 → result ≡ Err BuildError.ZeroBucketDuration }
         ensures others { 0 < value → IsOk result }
     {
@@ -209,7 +215,8 @@ impl PrometheusBuilder {
 
     /// Sets how many buckets a summary's window has.
     pub fn set_bucket_count(mut self, count: NonZeroU32) -> PrometheusBuilder
-        ensures { result ≡ record self { settings = record self.settings { bucket_count = non_zero_u32_get count } } }
+        ensures { result ≡ record self
+            { settings = record self.settings { bucket_count = non_zero_u32_get count } } }
     {
         self.settings.set_bucket_count(count);
         self
@@ -231,7 +238,10 @@ impl PrometheusBuilder {
     /// Sets whether names are as Prometheus recommends: they end with the units of their descriptions, and those of counters
     /// with `total`.
     pub fn with_recommended_naming(mut self, enabled: bool) -> PrometheusBuilder
-        ensures { result ≡ record self { settings = record self.settings { units = enabled || self.unit_suffix; total_suffix = enabled } } }
+        ensures { result ≡ record self {
+          settings = record self.settings
+              { units = enabled || self.unit_suffix; total_suffix = enabled };
+        } }
     {
         self.settings
             .set_suffixes(enabled || self.unit_suffix, enabled);
@@ -249,7 +259,8 @@ impl PrometheusBuilder {
     /// Sets which kinds of series a page removes, and after how many nanoseconds without an update; none where there is no
     /// timeout.
     pub fn idle_timeout(mut self, mask: MetricKindMask, timeout: Option<u64>) -> PrometheusBuilder
-        ensures { result ≡ record self { settings = record self.settings { idle = idle_of mask timeout } } }
+        ensures { result ≡ record self
+            { settings = record self.settings { idle = idle_of mask timeout } } }
     {
         self.settings.set_idle_timeout(mask, timeout);
         self
@@ -277,9 +288,12 @@ impl PrometheusBuilder {
     /// An exporter with these settings and no series. It is refused exactly where the buckets of a summary's window together
     /// are longer than 64 bits of nanoseconds.
     pub fn build_state(self, alloc: Global) -> Result<PrometheusState, BuildError>
-        ensures built { IfOk result (λ exporter. exporter ≡ record { settings = self.settings; series = no_cells; said = nothing_described }) }
+        ensures built { IfOk result (λ exporter.
+            exporter ≡ record
+            { settings = self.settings; series = no_cells; said = nothing_described }) }
         ensures too_long { SpanIsTooLong self.settings → result ≡ Err BuildError.SpanTooLong }
-        ensures refused { (SpanIsTooLong self.settings → ⊥) → OnErr result (result ≡ Err BuildError.Memory) }
+        ensures refused { (SpanIsTooLong self.settings → ⊥)
+            → OnErr result (result ≡ Err BuildError.Memory) }
     {
         let PrometheusBuilder {
             globals,

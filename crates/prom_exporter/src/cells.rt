@@ -34,7 +34,8 @@ pub(crate) trait Shown {
 
     /// Appends the value in its page spelling.
     fn push_value(&self, buffer: &mut String) -> Result<(), Memory>
-        ensures { OnOk result (string_bytes buffer.new ≡ string_bytes buffer.old ++ page_number (shown self.now)) };
+        ensures { OnOk result (string_bytes buffer.new ≡ string_bytes buffer.old ++ page_number
+            (shown self.now)) };
 }
 
 /// A cell that the exporter makes when it lends it for the first time.
@@ -136,7 +137,8 @@ impl<C: MadeCell<Call = SeriesCall, Entry = SeriesCall>> KeptCell<C> {
 
     /// Lends the cell and a new pass of it. The cell is made where there is none yet.
     pub(crate) fn lend(&mut self, alloc: Global) -> Result<(Arc<C>, C::Pass), Memory>
-        ensures lent { IfOk result (λ lent. Makes self.old.cell (arc_value lent.0) × C.is_pass (arc_value lent.0) lent.1 × (C.view lent.1 ≡ child self.old.root)) }
+        ensures lent { IfOk result (λ lent. Makes self.old.cell (arc_value lent.0)
+            × C.is_pass (arc_value lent.0) lent.1 × (C.view lent.1 ≡ child self.old.root)) }
         ensures out { IfOk result (λ lent. self.new ≡ with_lent (arc_value lent.0) self.old) }
         ensures refused { OnErr result (self.new ≡ self.old) }
     {
@@ -151,7 +153,8 @@ impl<C: MadeCell<Call = SeriesCall, Entry = SeriesCall>> KeptCell<C> {
 
     /// Lends a new pass of the cell to a lane. The cell is made where there is none yet.
     pub(crate) fn lend_to_lane(&mut self, alloc: Global) -> Result<LentCell<C>, Memory>
-        ensures lent { IfOk result (λ lent. Makes self.old.cell lent.cell × (lent.knows ≡ child self.old.root)) }
+        ensures lent { IfOk result (λ lent. Makes self.old.cell lent.cell
+            × (lent.knows ≡ child self.old.root)) }
         ensures out { IfOk result (λ lent. self.new ≡ with_lent lent.cell self.old) }
         ensures refused { OnErr result (self.new ≡ self.old) }
     {

@@ -31,7 +31,8 @@ impl PrometheusState {
         unit: Option<Unit>,
         description: SharedString,
     ) -> Result<(), Memory>
-        ensures described { OnOk result (state_of self.new ≡ describe name unit (cow_text description.entry) (state_of self.old)) }
+        ensures described { OnOk result (state_of self.new ≡ describe name unit
+            (cow_text description.entry) (state_of self.old)) }
         ensures others { self.new ≡ record self.old { said = self.new.said } }
         ensures refused { OnErr result (self.new ≡ self.old) }
     {
@@ -47,7 +48,8 @@ impl PrometheusState {
         unit: Option<Unit>,
         description: SharedString,
     ) -> Result<(), Memory>
-        ensures described { OnOk result (state_of self.new ≡ describe name unit (cow_text description.entry) (state_of self.old)) }
+        ensures described { OnOk result (state_of self.new ≡ describe name unit
+            (cow_text description.entry) (state_of self.old)) }
         ensures others { self.new ≡ record self.old { said = self.new.said } }
         ensures refused { OnErr result (self.new ≡ self.old) }
     {
@@ -63,7 +65,8 @@ impl PrometheusState {
         unit: Option<Unit>,
         description: SharedString,
     ) -> Result<(), Memory>
-        ensures described { OnOk result (state_of self.new ≡ describe name unit (cow_text description.entry) (state_of self.old)) }
+        ensures described { OnOk result (state_of self.new ≡ describe name unit
+            (cow_text description.entry) (state_of self.old)) }
         ensures others { self.new ≡ record self.old { said = self.new.said } }
         ensures refused { OnErr result (self.new ≡ self.old) }
     {
@@ -79,7 +82,8 @@ impl PrometheusState {
         unit: Option<Unit>,
         description: SharedString,
     ) -> Result<(), Memory>
-        ensures described { OnOk result (state_of self.new ≡ describe name unit (cow_text description.entry) (state_of self.old)) }
+        ensures described { OnOk result (state_of self.new ≡ describe name unit
+            (cow_text description.entry) (state_of self.old)) }
         ensures others { self.new ≡ record self.old { said = self.new.said } }
         ensures refused { OnErr result (self.new ≡ self.old) }
     {
@@ -95,7 +99,8 @@ impl PrometheusState {
         ensures kept_up { OnOk result (KeepsUp self.old self.new) }
         ensures refused { OnErr result (DrainsEach DrainsInPart self.old self.new) }
         ensures home { AllHome self.old → AllHome self.new }
-        ensures published { OnOk result (AllHome self.old → state_of self.new ≡ publish (state_of self.old)) }
+        ensures published { OnOk result (AllHome self.old
+            → state_of self.new ≡ publish (state_of self.old)) }
         ensures same { OnErr result (AllHome self.old → state_of self.new ≡ state_of self.old) }
         ensures timely { (t : ℕ) → AllHome self.old → AreTimely t self.old → AreTimely t self.new }
     {
@@ -111,7 +116,9 @@ impl PrometheusState {
         alloc: Global,
     ) -> Result<DescriptionReader, EvmapFault>
         ensures same { self.new ≡ self.old }
-        ensures told { IfOk result (λ reader. IsToldOf (after ⟦<String as KeyClone>⟧.same ⟦<(SharedString, Option<Unit>) as PartialEq>⟧.eq ⟦<KeepAll as Keep<(SharedString, Option<Unit>)>>⟧.keeps) self.old.said.published (known reader)) }
+        ensures told { IfOk result (λ reader.
+            IsToldOf (after ⟦<String as KeyClone>⟧.same ⟦<(SharedString, Option<Unit>) as PartialEq>⟧.eq ⟦<KeepAll as Keep<(SharedString, Option<Unit>)>>⟧.keeps)
+            self.old.said.published (known reader)) }
     {
         self.descriptions.reader(rt, alloc)
     }

@@ -36,11 +36,14 @@ pub(crate) fn write_distributions<K: Sink>(
     ensures sent { OnOk result ((globals : List LabelText) → HasRowsOf globals series.now rows.now
         → SendsMore (K.written sink.old) (K.written sink.new) (string_bytes buffer.old) (string_bytes buffer.new)
         (flat_map (sampled_block naming.now globals moment series.now distributions.now) rows.now.families)) }
-    ensures prefix { OnErr result ((globals : List LabelText) → HasRowsOf globals series.now rows.now
+    ensures prefix { OnErr result ((globals : List LabelText)
+        → HasRowsOf globals series.now rows.now
         → SendsPrefix (K.written sink.old) (K.written sink.new) (string_bytes buffer.old)
         (flat_map (sampled_block naming.now globals moment series.now distributions.now) rows.now.families)) }
-    ensures errors { IfErr result (λ error. (error ≡ BuildError.WriteFault) ⊎ (error ≡ BuildError.Memory)) }
-    ensures cause { result ≡ Err BuildError.WriteFault → Rose (K.faults sink.old) (K.faults sink.new) }
+    ensures errors { IfErr result (λ error. (error ≡ BuildError.WriteFault)
+        ⊎ (error ≡ BuildError.Memory)) }
+    ensures cause { result ≡ Err BuildError.WriteFault
+        → Rose (K.faults sink.old) (K.faults sink.new) }
     ensures never_falls { K.faults sink.old ≤ K.faults sink.new }
 {
     for (name, places) in rows.families.iter() {
@@ -81,11 +84,14 @@ fn write_family<K: Sink>(
     ensures sent { OnOk result ((globals : List LabelText) → HasRowsOf globals series.now rows.now
         → SendsMore (K.written sink.old) (K.written sink.new) (string_bytes buffer.old) (string_bytes buffer.new)
         (block_under naming.now globals moment series.now (option_copied word.entry) (string_bytes name.now, places.now))) }
-    ensures prefix { OnErr result ((globals : List LabelText) → HasRowsOf globals series.now rows.now
+    ensures prefix { OnErr result ((globals : List LabelText)
+        → HasRowsOf globals series.now rows.now
         → SendsPrefix (K.written sink.old) (K.written sink.new) (string_bytes buffer.old)
         (block_under naming.now globals moment series.now (option_copied word.entry) (string_bytes name.now, places.now))) }
-    ensures errors { IfErr result (λ error. (error ≡ BuildError.WriteFault) ⊎ (error ≡ BuildError.Memory)) }
-    ensures cause { result ≡ Err BuildError.WriteFault → Rose (K.faults sink.old) (K.faults sink.new) }
+    ensures errors { IfErr result (λ error. (error ≡ BuildError.WriteFault)
+        ⊎ (error ≡ BuildError.Memory)) }
+    ensures cause { result ≡ Err BuildError.WriteFault
+        → Rose (K.faults sink.old) (K.faults sink.new) }
     ensures never_falls { K.faults sink.old ≤ K.faults sink.new }
 {
     let Some(word) = word else {
@@ -112,11 +118,14 @@ fn write_series<K: Sink>(
     ensures sent { OnOk result ((globals : List LabelText) → HasRowsOf globals series.now rows.now
         → SendsMore (K.written sink.old) (K.written sink.new) (string_bytes buffer.old) (string_bytes buffer.new)
         (flat_map (lines_at globals moment series.now name.now) places.now)) }
-    ensures prefix { OnErr result ((globals : List LabelText) → HasRowsOf globals series.now rows.now
+    ensures prefix { OnErr result ((globals : List LabelText)
+        → HasRowsOf globals series.now rows.now
         → SendsPrefix (K.written sink.old) (K.written sink.new) (string_bytes buffer.old)
         (flat_map (lines_at globals moment series.now name.now) places.now)) }
-    ensures errors { IfErr result (λ error. (error ≡ BuildError.WriteFault) ⊎ (error ≡ BuildError.Memory)) }
-    ensures cause { result ≡ Err BuildError.WriteFault → Rose (K.faults sink.old) (K.faults sink.new) }
+    ensures errors { IfErr result (λ error. (error ≡ BuildError.WriteFault)
+        ⊎ (error ≡ BuildError.Memory)) }
+    ensures cause { result ≡ Err BuildError.WriteFault
+        → Rose (K.faults sink.old) (K.faults sink.new) }
     ensures never_falls { K.faults sink.old ≤ K.faults sink.new }
 {
     for place in places {

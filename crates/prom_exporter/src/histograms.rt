@@ -28,11 +28,18 @@ impl PrometheusState {
     /// Registers a histogram. Where one with an equal key is live its id is given, no memory is taken, and nothing changes;
     /// otherwise a new one of no samples goes last. Past 2^64 - 1 series none is made, and the id names none.
     pub fn register_histogram(&mut self, alloc: Global, key: &Key) -> Result<SeriesId, Memory>
-        ensures registered { OnOk result (state_of self.new ≡ register Histogram key.now (state_of self.old)) }
-        ensures cells { OnOk result ((self.new ≡ self.old) ⊎ AddsHistogram key.now self.old self.new) }
+        ensures registered { OnOk result (state_of self.new ≡ register Histogram key.now
+            (state_of self.old)) }
+        ensures cells { OnOk result ((self.new ≡ self.old)
+            ⊎ AddsHistogram key.now self.old self.new) }
         ensures home { AllHome self.old → AllHome self.new }
         ensures settings { self.new.settings ≡ self.old.settings }
-        ensures id { IfOk result (λ id. id ≡ record { kind = Histogram; number = number_given Histogram key.now (state_of self.old) }) }
+        ensures id { IfOk result (λ id.
+            id ≡ record {
+              kind = Histogram;
+              number = number_given Histogram key.now
+                  (state_of self.old);
+            }) }
         ensures absent { OnErr result (live_series Histogram key.now (state_of self.old) ≡ None) }
         ensures refused { OnErr result (self.new ≡ self.old) }
     {
@@ -47,11 +54,17 @@ impl PrometheusState {
     /// Registers a histogram as `register_histogram` does, under a key that the exporter then keeps: it is not copied. A key that
     /// is live takes no memory.
     pub fn register_owned_histogram(&mut self, alloc: Global, key: Key) -> Result<SeriesId, Memory>
-        ensures registered { OnOk result (state_of self.new ≡ register Histogram key (state_of self.old)) }
+        ensures registered { OnOk result (state_of self.new ≡ register Histogram key
+            (state_of self.old)) }
         ensures cells { OnOk result ((self.new ≡ self.old) ⊎ AddsHistogram key self.old self.new) }
         ensures home { AllHome self.old → AllHome self.new }
         ensures settings { self.new.settings ≡ self.old.settings }
-        ensures id { IfOk result (λ id. id ≡ record { kind = Histogram; number = number_given Histogram key (state_of self.old) }) }
+        ensures id { IfOk result (λ id.
+            id ≡ record {
+              kind = Histogram;
+              number = number_given Histogram key
+                  (state_of self.old);
+            }) }
         ensures absent { OnErr result (live_series Histogram key (state_of self.old) ≡ None) }
         ensures refused { OnErr result (self.new ≡ self.old) }
     {
@@ -74,14 +87,18 @@ impl PrometheusState {
 
     /// A histogram of no samples, of the kind that follows from the metric name that is made of its key's name.
     fn new_histogram(&self, alloc: Global, key: &Key) -> Result<HistogramCell, Memory>
-        ensures { IfOk result (λ made. made ≡ unsampled (distribution_of self.now.settings (sanitized_metric_name key.now.name)) made.series.cell) }
+        ensures { IfOk result (λ made.
+            made ≡ unsampled
+            (distribution_of self.now.settings (sanitized_metric_name key.now.name))
+            made.series.cell) }
     {
         HistogramCell::new(alloc, self.empty_distribution(alloc, key.name())?)
     }
 
     /// A distribution of no samples, of the kind that follows from the metric name that is made of a name.
     fn empty_distribution(&self, alloc: Global, name: &str) -> Result<Distribution, Memory>
-        ensures { IfOk result (StandsFor (distribution_of self.now.settings (sanitized_metric_name name.now)) []) }
+        ensures { IfOk result (StandsFor
+            (distribution_of self.now.settings (sanitized_metric_name name.now)) []) }
     {
         if is_metric_name(name) {
             return self.distributions.get_distribution(alloc, name);
@@ -145,14 +162,17 @@ impl PrometheusState {
 
     /// Makes the page step of the histograms, which were drained.
     pub(crate) fn step_histograms(&mut self, moment: u64)
-        ensures counted { AreCounted self.old.settings.idle moment self.old.series.histograms self.new.series.histograms }
-        ensures others { self.new ≡ record self.old { series = record self.old.series { histograms = self.new.series.histograms } } }
+        ensures counted { AreCounted self.old.settings.idle moment self.old.series.histograms
+            self.new.series.histograms }
+        ensures others { self.new ≡ record self.old
+            { series = record self.old.series { histograms = self.new.series.histograms } } }
     {
         let recency = self.settings.recency_of(MetricKind::Histogram);
         let count = self.series.histogram_count();
         self.series.retain_histograms(
             move |_: SeriesId, cell: &mut HistogramCell| -> bool
-                ensures { IsCounted (unwrap_or recency None) moment cell.entry.now result cell.exit.now }
+                ensures { IsCounted (unwrap_or recency None) moment cell.entry.now result
+                    cell.exit.now }
             { cell.stays(&recency, moment) },
         );
         if self.series.histogram_count() < count {

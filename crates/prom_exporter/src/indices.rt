@@ -127,7 +127,8 @@ impl PrometheusState {
     /// Lends a new pass of the series with this index to a lane. A counter's cell, and a gauge's, is made where it wasn't lent before.
     pub(crate) fn lend_to_lane(&mut self, alloc: Global, index: usize) -> Result<LanePass, Memory>
         requires here { index < length (things_of self.old) }
-        ensures lent { IfOk result (λ lent. (t : Thing SeriesEntry SeriesCell) → get_elem? (things_of self.old) index ≡ some t
+        ensures lent { IfOk result (λ lent. (t : Thing SeriesEntry SeriesCell)
+            → get_elem? (things_of self.old) index ≡ some t
             → (u : Thing SeriesEntry SeriesCell) × (u.root ≡ lender t.root) × Lasts t.fixed u.fixed × IsPassOf u.fixed lent × (pass_known lent ≡ child t.root)
             × (things_of self.new ≡ set (things_of self.old) index u)) }
         ensures refused { OnErr result (things_of self.new ≡ things_of self.old) }
@@ -152,8 +153,10 @@ impl PrometheusState {
     /// Takes a lane's pass of the series with this index back, and reads a counter and a gauge.
     pub(crate) fn take_from_lane(&mut self, index: usize, lent: LanePass)
         requires here { index < length (things_of self.old) }
-        requires lent { (t : Thing SeriesEntry SeriesCell) → get_elem? (things_of self.old) index ≡ some t → IsPassOf t.fixed lent }
-        ensures taken { (t : Thing SeriesEntry SeriesCell) → get_elem? (things_of self.old) index ≡ some t
+        requires lent { (t : Thing SeriesEntry SeriesCell)
+            → get_elem? (things_of self.old) index ≡ some t → IsPassOf t.fixed lent }
+        ensures taken { (t : Thing SeriesEntry SeriesCell)
+            → get_elem? (things_of self.old) index ≡ some t
             → (u : Thing SeriesEntry SeriesCell) × TookBack t.root (pass_known lent) u.root × (u.fixed ≡ t.fixed) × (things_of self.new ≡ set (things_of self.old) index u) }
         ensures frame { frame_of self.new ≡ frame_of self.old }
     {
@@ -176,7 +179,9 @@ impl PrometheusState {
     /// of its history, so nothing changes.
     pub(crate) fn read_one<R: Wait>(&mut self, rt: &R, index: usize)
         requires here { index < length (things_of self.old) }
-        requires home { (t : Thing SeriesEntry SeriesCell) → get_elem? (things_of self.old) index ≡ some t → (t.root.number ≡ 0) × (t.root.out ≡ 0) }
+        requires home { (t : Thing SeriesEntry SeriesCell)
+            → get_elem? (things_of self.old) index ≡ some t → (t.root.number ≡ 0)
+            × (t.root.out ≡ 0) }
         ensures same { things_of self.new ≡ things_of self.old }
         ensures settled { SettledAt root_of (things_of self.old) index }
         ensures frame { frame_of self.new ≡ frame_of self.old }

@@ -47,7 +47,8 @@ impl LabelSets {
         key: &Key,
         globals: &IndexMap<String, String, HashStart>,
     ) -> Result<(), Memory>
-        ensures pushed { OnOk result (self.new ≡ self.old ++ label_set_of (labels_of globals.now.entries) key.now ∷ []) }
+        ensures pushed { OnOk result (self.new ≡ self.old ++ label_set_of
+            (labels_of globals.now.entries) key.now ∷ []) }
         ensures refused { OnErr result (self.new ≡ self.old) }
     {
         let begin = self.text.len();

@@ -26,11 +26,13 @@ pub fn an_id_has_one_index()
 /// After a round the history of each counter and of each gauge has grown by the calls of all lanes on it, in one order in which
 /// each lane's calls stand as the lane has them.
 pub fn a_round_leaves_the_calls_of_a_value()
-    ensures { (lanes : List (Lane SeriesCall)) (old new : Exporter) → IsRound lanes old new → LeavesValues lanes old new }
+    ensures { (lanes : List (Lane SeriesCall)) (old new : Exporter) → IsRound lanes old new
+        → LeavesValues lanes old new }
 {}
 
 /// After a round all calls that the exporter knows of a histogram have grown by the records of all lanes on it, in one order in
 /// which each lane's records stand as the lane has them. A record of no sample is none.
 pub fn a_round_leaves_the_pushes_of_a_histogram()
-    ensures { (lanes : List (Lane SeriesCall)) (old new : Exporter) → IsRound lanes old new → LeavesRecords lanes old new }
+    ensures { (lanes : List (Lane SeriesCall)) (old new : Exporter) → IsRound lanes old new
+        → LeavesRecords lanes old new }
 {}

@@ -23,9 +23,12 @@ pub fn pages_are_read()
 
 /// The values of the families of a state have 128 bits, where those of its calls have 64. So its page has one reading.
 pub fn pages_have_one_reading()
-    ensures in_range { (settings : ExporterSettings) (t : ℕ) (s : PrometheusState) → IsFixed s → AreInRange (families_at settings t s) }
-    ensures written_in_range { (settings : ExporterSettings) (t : ℕ) (s : PrometheusState) → IsFixed s → AreInRange (families_written settings t s) }
-    ensures reading { (settings : ExporterSettings) (t : ℕ) (s : PrometheusState) (families : List Family) → IsFixed s → AreInRange families
+    ensures in_range { (settings : ExporterSettings) (t : ℕ) (s : PrometheusState) → IsFixed s
+        → AreInRange (families_at settings t s) }
+    ensures written_in_range { (settings : ExporterSettings) (t : ℕ) (s : PrometheusState)
+        → IsFixed s → AreInRange (families_written settings t s) }
+    ensures reading { (settings : ExporterSettings) (t : ℕ) (s : PrometheusState)
+        (families : List Family) → IsFixed s → AreInRange families
         → IsPage (page_text (families_at settings t s)) families → families ≡ families_at settings t s }
 {}
 
@@ -46,8 +49,10 @@ pub fn families_hang_on_quantiles()
 /// Where of each summary the moments of samples never fall, and none is after the page's, what is written are the families of the
 /// samples.
 pub fn timely_pages_show_their_samples()
-    ensures body { (moment : ℕ) (exporter : Exporter) → AreSummariesTimely moment exporter → written_body moment exporter ≡ shown_body moment exporter }
-    ensures page { (moment : ℕ) (exporter : Exporter) → AreSummariesTimely moment exporter → written_page moment exporter ≡ page_body moment exporter }
+    ensures body { (moment : ℕ) (exporter : Exporter) → AreSummariesTimely moment exporter
+        → written_body moment exporter ≡ shown_body moment exporter }
+    ensures page { (moment : ℕ) (exporter : Exporter) → AreSummariesTimely moment exporter
+        → written_page moment exporter ≡ page_body moment exporter }
 {}
 
 /// The body of the page of one counter, `basic_counter` at 42, is its type line, its row and an empty line.
@@ -63,5 +68,6 @@ pub fn looking_forgets_nothing<F>()
 /// After a pass was given back, what the exporter sees begins with all that the pass had seen, and has exactly the calls
 /// that the pass had made.
 pub fn given_back_is_seen<F>()
-    ensures { (s t : Shared F) (known : View SeriesCall) → TakesBack known s t → IsPrefix known.seen t.root.seen × (calls_by known.number t.root.seen ≡ known.mine) }
+    ensures { (s t : Shared F) (known : View SeriesCall) → TakesBack known s t
+        → IsPrefix known.seen t.root.seen × (calls_by known.number t.root.seen ≡ known.mine) }
 {}

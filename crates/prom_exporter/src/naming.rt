@@ -40,7 +40,8 @@ impl<'a> Naming<'a> {
     ) -> Result<(), Memory>
         ensures title { OnOk result (string_bytes buffer.new
             ≡ string_bytes buffer.old ++ title_text self.now (option_copied suffix.entry) metric_type.now (string_bytes name.now)) }
-        ensures named { OnOk result (string_bytes full.new ≡ shown_name self.now (option_copied suffix.entry) (string_bytes name.now)) }
+        ensures named { OnOk result (string_bytes full.new ≡ shown_name self.now
+            (option_copied suffix.entry) (string_bytes name.now)) }
     {
         let described = self.descriptions.of(name);
         let unit = self.shown_unit(&described);
@@ -54,7 +55,8 @@ impl<'a> Naming<'a> {
 
     /// The unit that stands in the name of a family that is described so: none where units are off.
     fn shown_unit(&self, described: &Option<Described<'_>>) -> Option<Unit>
-        ensures { result ≡ if self.now.units then option_and_then (λ d. d.1) (option_map said described.now) else None }
+        ensures { result ≡ if self.now.units then option_and_then (λ d. d.1)
+            (option_map said described.now) else None }
     {
         match described {
             Some(described) if self.units => described.unit,

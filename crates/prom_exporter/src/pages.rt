@@ -35,7 +35,8 @@ pub(crate) fn write_families<C: Shown, K: Sink>(
     sink: &mut K,
 ) -> Result<(), BuildError>
     ensures same { rows.new ≡ rows.old }
-    ensures sends { Sends result (K.written sink.old) (K.written sink.new) (string_bytes buffer.old) (string_bytes buffer.new)
+    ensures sends { Sends result (K.written sink.old) (K.written sink.new) (string_bytes buffer.old)
+        (string_bytes buffer.new)
         (flat_map (kept_block C.shown naming.now (option_copied suffix.entry) family_type rows.old.label_sets series.now) rows.old.families) }
     ensures fails { FailsOnly result (K.faults sink.old) (K.faults sink.new) }
 {
@@ -64,9 +65,12 @@ fn write_blocks<C: Shown, K: Sink>(
     buffer: &mut String,
     sink: &mut K,
 ) -> Result<(), BuildError>
-    requires printed { ArePrinted label_sets.now (map family_kept families.now.entries) printed.old.items }
-    ensures printed { ArePrinted label_sets.now (map family_kept families.now.entries) printed.new.items }
-    ensures sends { Sends result (K.written sink.old) (K.written sink.new) (string_bytes buffer.old) (string_bytes buffer.new)
+    requires printed { ArePrinted label_sets.now
+        (map family_kept families.now.entries) printed.old.items }
+    ensures printed { ArePrinted label_sets.now
+        (map family_kept families.now.entries) printed.new.items }
+    ensures sends { Sends result (K.written sink.old) (K.written sink.new) (string_bytes buffer.old)
+        (string_bytes buffer.new)
         (flat_map (kept_block C.shown naming.now (option_copied suffix.entry) family_type label_sets.now series.now) (map family_kept families.now.entries)) }
     ensures fails { FailsOnly result (K.faults sink.old) (K.faults sink.new) }
 {
@@ -111,9 +115,11 @@ fn write_family<C: Shown, K: Sink>(
     buffer: &mut String,
     sink: &mut K,
 ) -> Result<(), BuildError>
-    ensures printed { (families : List (List ℕ × List ℕ)) (family : List ℕ) → slice_get families index ≡ Some (family, places.now)
+    ensures printed { (families : List (List ℕ × List ℕ)) (family : List ℕ)
+        → slice_get families index ≡ Some (family, places.now)
         → ArePrinted label_sets.now families printed.old.items → ArePrinted label_sets.now families printed.new.items }
-    ensures sends { (families : List (List ℕ × List ℕ)) (family : List ℕ) → slice_get families index ≡ Some (family, places.now)
+    ensures sends { (families : List (List ℕ × List ℕ)) (family : List ℕ)
+        → slice_get families index ≡ Some (family, places.now)
         → ArePrinted label_sets.now families printed.old.items
         → Sends result (K.written sink.old) (K.written sink.new) (string_bytes buffer.old) (string_bytes buffer.new)
         (flat_map (row_at C.shown name.now label_sets.now series.now) places.now) }
@@ -138,9 +144,11 @@ fn write_rows<C: Shown, K: Sink>(
     buffer: &mut String,
     sink: &mut K,
 ) -> Result<(), BuildError>
-    ensures kept { AreKept (string_bytes printed.old.name) label_sets.now places.now printed.old.rows.items
+    ensures kept { AreKept (string_bytes printed.old.name) label_sets.now places.now
+        printed.old.rows.items
         → AreKept (string_bytes printed.new.name) label_sets.now places.now printed.new.rows.items }
-    ensures sends { AreKept (string_bytes printed.old.name) label_sets.now places.now printed.old.rows.items
+    ensures sends { AreKept (string_bytes printed.old.name) label_sets.now places.now
+        printed.old.rows.items
         → Sends result (K.written sink.old) (K.written sink.new) (string_bytes buffer.old) (string_bytes buffer.new)
         (flat_map (row_at C.shown name.now label_sets.now series.now) places.now) }
     ensures fails { FailsOnly result (K.faults sink.old) (K.faults sink.new) }
@@ -163,9 +171,11 @@ fn write_kept_rows<C: Shown, K: Sink>(
     sink: &mut K,
 ) -> Result<(), BuildError>
     requires name { string_bytes printed.old.name ≡ name.now }
-    ensures kept { AreKept (string_bytes printed.old.name) label_sets.now places.now printed.old.rows.items
+    ensures kept { AreKept (string_bytes printed.old.name) label_sets.now places.now
+        printed.old.rows.items
         → AreKept (string_bytes printed.new.name) label_sets.now places.now printed.new.rows.items }
-    ensures sends { AreKept (string_bytes printed.old.name) label_sets.now places.now printed.old.rows.items
+    ensures sends { AreKept (string_bytes printed.old.name) label_sets.now places.now
+        printed.old.rows.items
         → Sends result (K.written sink.old) (K.written sink.new) (string_bytes buffer.old) (string_bytes buffer.new)
         (flat_map (row_at C.shown name.now label_sets.now series.now) places.now) }
     ensures fails { FailsOnly result (K.faults sink.old) (K.faults sink.new) }
@@ -189,7 +199,8 @@ fn write_new_rows<C: Shown, K: Sink>(
     buffer: &mut String,
     sink: &mut K,
 ) -> Result<(), BuildError>
-    ensures sends { Sends result (K.written sink.old) (K.written sink.new) (string_bytes buffer.old) (string_bytes buffer.new)
+    ensures sends { Sends result (K.written sink.old) (K.written sink.new) (string_bytes buffer.old)
+        (string_bytes buffer.new)
         (flat_map (row_at C.shown name.now label_sets.now series.now) places.now) }
     ensures fails { FailsOnly result (K.faults sink.old) (K.faults sink.new) }
 {
@@ -208,7 +219,8 @@ pub(crate) fn push_rows<C: Shown>(
     places: &[usize],
     buffer: &mut String,
 ) -> Result<(), Memory>
-    ensures { OnOk result (string_bytes buffer.new ≡ string_bytes buffer.old ++ flat_map (row_at C.shown name.now label_sets.now series.now) places.now) }
+    ensures { OnOk result (string_bytes buffer.new ≡ string_bytes buffer.old ++ flat_map
+        (row_at C.shown name.now label_sets.now series.now) places.now) }
 {
     for place in places {
         push_row(name, label_sets, series, *place, buffer)?;
@@ -224,7 +236,8 @@ fn push_row<C: Shown>(
     place: usize,
     buffer: &mut String,
 ) -> Result<(), Memory>
-    ensures { OnOk result (string_bytes buffer.new ≡ string_bytes buffer.old ++ row_at C.shown name.now label_sets.now series.now place) }
+    ensures { OnOk result (string_bytes buffer.new
+        ≡ string_bytes buffer.old ++ row_at C.shown name.now label_sets.now series.now place) }
 {
     let Some(labels) = label_sets.get(place) else {
         return Ok(());
@@ -242,7 +255,8 @@ pub(crate) fn push_line<C: Shown>(
     cell: &C,
     buffer: &mut String,
 ) -> Result<(), Memory>
-    ensures { OnOk result (string_bytes buffer.new ≡ string_bytes buffer.old ++ kept_row C.shown name.now labels.now cell.now) }
+    ensures { OnOk result (string_bytes buffer.new
+        ≡ string_bytes buffer.old ++ kept_row C.shown name.now labels.now cell.now) }
 {
     buffer.push_str(name)?;
     buffer.push_str(labels)?;
@@ -254,9 +268,11 @@ pub(crate) fn push_line<C: Shown>(
 
 /// Sends what waits, where it fills a piece.
 pub(crate) fn send_full<K: Sink>(buffer: &mut String, sink: &mut K) -> Result<(), BuildError>
-    ensures sent { (start : Option (List ℕ)) (bytes : List ℕ) → IsSent start (K.written sink.old) (string_bytes buffer.old) bytes
+    ensures sent { (start : Option (List ℕ)) (bytes : List ℕ)
+        → IsSent start (K.written sink.old) (string_bytes buffer.old) bytes
         → OnOk result (IsSent start (K.written sink.new) (string_bytes buffer.new) bytes) }
-    ensures prefix { (start : Option (List ℕ)) (bytes : List ℕ) → IsSent start (K.written sink.old) (string_bytes buffer.old) bytes
+    ensures prefix { (start : Option (List ℕ)) (bytes : List ℕ)
+        → IsSent start (K.written sink.old) (string_bytes buffer.old) bytes
         → OnErr result (GrewByPrefix start (K.written sink.new) bytes) }
     ensures fails { FailsOnly result (K.faults sink.old) (K.faults sink.new) }
 {

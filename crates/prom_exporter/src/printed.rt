@@ -72,7 +72,8 @@ impl PrintedRows {
     ) -> Result<(), Memory>
         requires values { self.old.values.items ≡ [] }
         requires text { string_bytes self.old.text ≡ [] }
-        ensures rows { OnOk result (AreRows name.now label_sets.now places.now self.new.values.items (string_bytes self.new.text)) }
+        ensures rows { OnOk result (AreRows name.now label_sets.now places.now self.new.values.items
+            (string_bytes self.new.text)) }
         ensures shown { OnOk result (ShowValues C.shown series.now places.now self.new.values.items) }
     {
         for place in places {
@@ -96,7 +97,8 @@ impl PrintedRows {
         series: &SeriesIter<'_, C>,
         places: &[usize],
     )
-        ensures rows { AreRows name.now label_sets.now places.now self.old.values.items (string_bytes self.old.text)
+        ensures rows { AreRows name.now label_sets.now places.now self.old.values.items
+            (string_bytes self.old.text)
             → AreRows name.now label_sets.now places.now self.new.values.items (string_bytes self.new.text) }
         ensures shown { ShowValues C.shown series.now places.now self.new.values.items }
     {
@@ -118,9 +120,11 @@ impl PrintedRows {
         places: &[usize],
         buffer: &mut String,
     ) -> Result<(), Memory>
-        ensures rows { AreRows name.now label_sets.now places.now self.old.values.items (string_bytes self.old.text)
+        ensures rows { AreRows name.now label_sets.now places.now self.old.values.items
+            (string_bytes self.old.text)
             → AreRows name.now label_sets.now places.now self.new.values.items (string_bytes self.new.text) }
-        ensures pushed { AreRows name.now label_sets.now places.now self.old.values.items (string_bytes self.old.text)
+        ensures pushed { AreRows name.now label_sets.now places.now self.old.values.items
+            (string_bytes self.old.text)
             → OnOk result (string_bytes buffer.new ≡ string_bytes buffer.old
             ++ flat_map (row_at C.shown name.now label_sets.now series.now) places.now) }
     {
@@ -155,7 +159,8 @@ impl PrintedFamily {
     /// Begins a page that shows so many rows under a full name, and lets go what was kept under another name. Answers whether rows
     /// are to be kept on this page: from the second page on that shows as many.
     pub(crate) fn begin_page(&mut self, name: &str, count: usize) -> bool
-        ensures rows { (label_sets : List (List ℕ)) (places : List ℕ) → AreKept (string_bytes self.old.name) label_sets places self.old.rows.items
+        ensures rows { (label_sets : List (List ℕ)) (places : List ℕ)
+            → AreKept (string_bytes self.old.name) label_sets places self.old.rows.items
             → AreKept (string_bytes self.new.name) label_sets places self.new.rows.items }
         ensures named { IsTrue result → string_bytes self.new.name ≡ name.now }
     {
@@ -204,7 +209,8 @@ pub(crate) fn begin_family(
     alloc: Global,
 ) -> Result<(), Memory>
     ensures index { OnOk result (index < length printed.new.items) }
-    ensures printed { (label_sets : List (List ℕ)) (families : List (List ℕ × List ℕ)) → index < length families
+    ensures printed { (label_sets : List (List ℕ)) (families : List (List ℕ × List ℕ))
+        → index < length families
         → ArePrinted label_sets families printed.old.items → ArePrinted label_sets families printed.new.items }
 {
     while printed.len() <= index {

@@ -64,7 +64,8 @@ impl Rows {
     ) -> Result<(), Memory>
         requires count { count ≡ length series.now }
         requires first { KeepsFirst (labels_of globals.now.entries) series.now self.old }
-        ensures all { OnOk result (self.new ≡ rows_of (labels_of globals.now.entries) (keys_of series.now)) }
+        ensures all { OnOk result (self.new ≡ rows_of (labels_of globals.now.entries)
+            (keys_of series.now)) }
         ensures first { KeepsFirst (labels_of globals.now.entries) series.now self.new }
     {
         for place in self.label_sets.len()..count {
@@ -91,7 +92,8 @@ impl Rows {
         key: &Key,
         globals: &IndexMap<String, String, HashStart>,
     ) -> Result<(), Memory>
-        ensures added { OnOk result ((keys : List KeyText) → self.old ≡ rows_of (labels_of globals.now.entries) keys
+        ensures added { OnOk result ((keys : List KeyText)
+            → self.old ≡ rows_of (labels_of globals.now.entries) keys
             → self.new ≡ rows_of (labels_of globals.now.entries) (keys ++ key.now ∷ [])) }
         ensures refused { OnErr result (self.new ≡ self.old) }
     {
@@ -114,7 +116,8 @@ fn add_place(
 ) -> Result<(), Memory>
     ensures added { OnOk result (map family_kept families.new.entries
         ≡ with_member (map family_kept families.old.entries) (sanitized_metric_name name.now) place) }
-    ensures refused { OnErr result (map family_kept families.new.entries ≡ map family_kept families.old.entries) }
+    ensures refused { OnErr result (map family_kept families.new.entries
+        ≡ map family_kept families.old.entries) }
 {
     if is_metric_name(name) {
         return put_place(alloc, families, name, place);
@@ -132,7 +135,8 @@ fn put_place(
 ) -> Result<(), Memory>
     ensures added { OnOk result (map family_kept families.new.entries
         ≡ with_member (map family_kept families.old.entries) name.now place) }
-    ensures refused { OnErr result (map family_kept families.new.entries ≡ map family_kept families.old.entries) }
+    ensures refused { OnErr result (map family_kept families.new.entries
+        ≡ map family_kept families.old.entries) }
 {
     match last_named(families, name) {
         Some(last) => put_at(families, last, place),
@@ -149,7 +153,8 @@ fn put_at(
     requires { index < length families.old.entries }
     ensures added { OnOk result ((name : List ℕ) → HasNameAt name families.old.entries index
         → map family_kept families.new.entries ≡ with_member (map family_kept families.old.entries) name place) }
-    ensures refused { OnErr result (map family_kept families.new.entries ≡ map family_kept families.old.entries) }
+    ensures refused { OnErr result (map family_kept families.new.entries
+        ≡ map family_kept families.old.entries) }
 {
     let Some(places) = families.get_index_mut(index) else {
         unreachable!()
@@ -180,7 +185,8 @@ fn add_family(
 ) -> Result<(), Memory>
     ensures added { OnOk result (map family_kept families.new.entries
         ≡ with_member (map family_kept families.old.entries) (string_bytes name) place) }
-    ensures refused { OnErr result (map family_kept families.new.entries ≡ map family_kept families.old.entries) }
+    ensures refused { OnErr result (map family_kept families.new.entries
+        ≡ map family_kept families.old.entries) }
 {
     // A new family has room for its first place, so that it never stays empty.
     let room = Vec::with_capacity(*families.allocator(), 1)?;

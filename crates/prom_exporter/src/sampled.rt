@@ -40,7 +40,8 @@ impl HistogramCell {
     /// A histogram that nobody has called, with a distribution of no samples.
     pub(crate) fn new(alloc: Global, distribution: Distribution) -> Result<HistogramCell, Memory>
         requires { (kind : DistributionKind) × StandsFor kind [] distribution }
-        ensures { IfOk result (λ made. (kind : DistributionKind) → StandsFor kind [] distribution → made ≡ unsampled kind made.series.cell) }
+        ensures { IfOk result (λ made. (kind : DistributionKind) → StandsFor kind [] distribution
+            → made ≡ unsampled kind made.series.cell) }
     {
         Ok(HistogramCell {
             series: HistogramSeries::new(alloc, distribution)?,
@@ -53,7 +54,9 @@ impl HistogramCell {
         &mut self,
         alloc: Global,
     ) -> Result<(Arc<PromHistogram>, SamplePass<(Fixed, u64)>), Memory>
-        ensures lent { IfOk result (λ lent. (arc_value lent.0 ≡ self.old.series.cell) × IsSamplePass self.old.series.cell lent.1 × (view_of lent.1 ≡ child self.old.series.root)) }
+        ensures lent { IfOk result (λ lent. (arc_value lent.0 ≡ self.old.series.cell)
+            × IsSamplePass self.old.series.cell lent.1
+            × (view_of lent.1 ≡ child self.old.series.root)) }
         ensures out { OnOk result (self.new ≡ with_pass_out self.old) }
         ensures refused { OnErr result (self.new ≡ self.old) }
     {
@@ -63,14 +66,16 @@ impl HistogramCell {
     /// Takes a pass back.
     pub(crate) fn take_back(&mut self, pass: SamplePass<(Fixed, u64)>)
         requires { IsSamplePass self.old.series.cell pass }
-        ensures { self.new ≡ record self.old { series = with_one_back (view_of pass) self.old.series } }
+        ensures { self.new ≡ record self.old
+            { series = with_one_back (view_of pass) self.old.series } }
     {
         self.series.take_back(pass);
     }
 
     /// Lends a new pass of the queue to a lane.
     pub(crate) fn lend_to_lane(&mut self, alloc: Global) -> Result<LentCell<PromHistogram>, Memory>
-        ensures lent { IfOk result (λ lent. (lent.cell ≡ self.old.series.cell) × (lent.knows ≡ child self.old.series.root)) }
+        ensures lent { IfOk result (λ lent. (lent.cell ≡ self.old.series.cell)
+            × (lent.knows ≡ child self.old.series.root)) }
         ensures out { OnOk result (self.new ≡ with_pass_out self.old) }
         ensures refused { OnErr result (self.new ≡ self.old) }
     {

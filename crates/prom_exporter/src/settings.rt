@@ -105,7 +105,8 @@ impl Settings {
         alloc: Global,
         quantiles: &[Fixed],
     ) -> Result<(), BuildError>
-        ensures set { OnOk result (self.new ≡ record self.old { quantiles = billionths_of quantiles.now }) }
+        ensures set { OnOk result (self.new
+            ≡ record self.old { quantiles = billionths_of quantiles.now }) }
         ensures empty { length quantiles.now ≡ 0 → result ≡ Err BuildError.EmptyBucketsOrQuantiles }
         ensures refused { 0 < length quantiles.now → OnErr result (result ≡ Err BuildError.Memory) }
     {
@@ -115,7 +116,8 @@ impl Settings {
 
     /// Sets the bounds of the histograms that no rule fits.
     pub(crate) fn set_buckets(&mut self, alloc: Global, bounds: &[Fixed]) -> Result<(), BuildError>
-        ensures set { OnOk result (self.new ≡ record self.old { buckets = Some (billionths_of bounds.now) }) }
+        ensures set { OnOk result (self.new
+            ≡ record self.old { buckets = Some (billionths_of bounds.now) }) }
         ensures empty { length bounds.now ≡ 0 → result ≡ Err BuildError.EmptyBucketsOrQuantiles }
         ensures refused { 0 < length bounds.now → OnErr result (result ≡ Err BuildError.Memory) }
     {
@@ -131,7 +133,11 @@ impl Settings {
         matcher: Matcher,
         bounds: &[Fixed],
     ) -> Result<(), BuildError>
-        ensures set { OnOk result (self.new ≡ record self.old { buckets_for = self.old.buckets_for ++ (sanitized_matcher (matcher_text matcher), billionths_of bounds.now) ∷ [] }) }
+        ensures set { OnOk result (self.new
+            ≡ record self.old {
+              buckets_for = self.old.buckets_for ++
+                  (sanitized_matcher (matcher_text matcher), billionths_of bounds.now) ∷ [];
+            }) }
         ensures empty { length bounds.now ≡ 0 → result ≡ Err BuildError.EmptyBucketsOrQuantiles }
         ensures refused { 0 < length bounds.now → OnErr result (result ≡ Err BuildError.Memory) }
     {
@@ -151,7 +157,11 @@ impl Settings {
         matcher: Matcher,
         config: NativeHistogramConfig,
     ) -> Result<(), Memory>
-        ensures { OnOk result (self.new ≡ record self.old { native_for = self.old.native_for ++ (sanitized_matcher (matcher_text matcher), config) ∷ [] }) }
+        ensures { OnOk result (self.new
+            ≡ record self.old {
+              native_for = self.old.native_for ++
+                  (sanitized_matcher (matcher_text matcher), config) ∷ [];
+            }) }
     {
         let matcher = matcher.sanitized(alloc)?;
         self.native_for.push((matcher, config))?;
@@ -245,7 +255,8 @@ impl Settings {
     /// What makes distributions of the kinds that follow from these settings.
     pub(crate) fn distributions(&self, alloc: Global) -> Result<DistributionBuilder, Memory>
         requires { SpanIsTooLong self.now → ⊥ }
-        ensures { IfOk result (λ builder. (name : List ℕ) → kind_for builder name ≡ distribution_of self.now name) }
+        ensures { IfOk result (λ builder. (name : List ℕ)
+            → kind_for builder name ≡ distribution_of self.now name) }
     {
         let buckets = match &self.buckets {
             Some(bounds) => Some(Vec::from_slice(alloc, bounds.as_slice())?),

@@ -68,7 +68,13 @@ impl PrometheusState {
         settings: Settings,
     ) -> Result<PrometheusState, Memory>
         requires span { SpanIsTooLong settings → ⊥ }
-        ensures made { IfOk result (λ exporter. exporter ≡ record { settings = with_globals settings (labels_of globals.entries); series = no_cells; said = nothing_described }) }
+        ensures made { IfOk result (λ exporter.
+            exporter ≡ record {
+              settings = with_globals settings
+                  (labels_of globals.entries);
+              series = no_cells;
+              said = nothing_described;
+            }) }
     {
         let distributions = settings.distributions(alloc)?;
         let start = *globals.hasher();
@@ -98,11 +104,17 @@ impl PrometheusState {
     /// otherwise a new one at 0 goes last, whose cell is made when it is first lent. Past 2^64 - 1 series none is made, and the id
     /// names none.
     pub fn register_counter(&mut self, alloc: Global, key: &Key) -> Result<SeriesId, Memory>
-        ensures registered { OnOk result (state_of self.new ≡ register Counter key.now (state_of self.old)) }
+        ensures registered { OnOk result (state_of self.new ≡ register Counter key.now
+            (state_of self.old)) }
         ensures cells { OnOk result ((self.new ≡ self.old) ⊎ AddsCounter key.now self.old self.new) }
         ensures home { AllHome self.old → AllHome self.new }
         ensures settings { self.new.settings ≡ self.old.settings }
-        ensures id { IfOk result (λ id. id ≡ record { kind = Counter; number = number_given Counter key.now (state_of self.old) }) }
+        ensures id { IfOk result (λ id.
+            id ≡ record {
+              kind = Counter;
+              number = number_given Counter key.now
+                  (state_of self.old);
+            }) }
         ensures absent { OnErr result (live_series Counter key.now (state_of self.old) ≡ None) }
         ensures refused { OnErr result (self.new ≡ self.old) }
     {
@@ -117,11 +129,13 @@ impl PrometheusState {
     /// Registers a counter as `register_counter` does, under a key that the exporter then keeps: it is not copied. A key that is
     /// live takes no memory.
     pub fn register_owned_counter(&mut self, alloc: Global, key: Key) -> Result<SeriesId, Memory>
-        ensures registered { OnOk result (state_of self.new ≡ register Counter key (state_of self.old)) }
+        ensures registered { OnOk result (state_of self.new ≡ register Counter key
+            (state_of self.old)) }
         ensures cells { OnOk result ((self.new ≡ self.old) ⊎ AddsCounter key self.old self.new) }
         ensures home { AllHome self.old → AllHome self.new }
         ensures settings { self.new.settings ≡ self.old.settings }
-        ensures id { IfOk result (λ id. id ≡ record { kind = Counter; number = number_given Counter key (state_of self.old) }) }
+        ensures id { IfOk result (λ id.
+            id ≡ record { kind = Counter; number = number_given Counter key (state_of self.old) }) }
         ensures absent { OnErr result (live_series Counter key (state_of self.old) ≡ None) }
         ensures refused { OnErr result (self.new ≡ self.old) }
     {
@@ -140,11 +154,13 @@ impl PrometheusState {
 
     /// Registers a gauge, as `register_counter` does a counter: a key that is live takes no memory.
     pub fn register_gauge(&mut self, alloc: Global, key: &Key) -> Result<SeriesId, Memory>
-        ensures registered { OnOk result (state_of self.new ≡ register Gauge key.now (state_of self.old)) }
+        ensures registered { OnOk result (state_of self.new ≡ register Gauge key.now
+            (state_of self.old)) }
         ensures cells { OnOk result ((self.new ≡ self.old) ⊎ AddsGauge key.now self.old self.new) }
         ensures home { AllHome self.old → AllHome self.new }
         ensures settings { self.new.settings ≡ self.old.settings }
-        ensures id { IfOk result (λ id. id ≡ record { kind = Gauge; number = number_given Gauge key.now (state_of self.old) }) }
+        ensures id { IfOk result (λ id.
+            id ≡ record { kind = Gauge; number = number_given Gauge key.now (state_of self.old) }) }
         ensures absent { OnErr result (live_series Gauge key.now (state_of self.old) ≡ None) }
         ensures refused { OnErr result (self.new ≡ self.old) }
     {
@@ -159,11 +175,13 @@ impl PrometheusState {
     /// Registers a gauge as `register_gauge` does, under a key that the exporter then keeps: it is not copied. A key that is
     /// live takes no memory.
     pub fn register_owned_gauge(&mut self, alloc: Global, key: Key) -> Result<SeriesId, Memory>
-        ensures registered { OnOk result (state_of self.new ≡ register Gauge key (state_of self.old)) }
+        ensures registered { OnOk result (state_of self.new ≡ register Gauge key
+            (state_of self.old)) }
         ensures cells { OnOk result ((self.new ≡ self.old) ⊎ AddsGauge key self.old self.new) }
         ensures home { AllHome self.old → AllHome self.new }
         ensures settings { self.new.settings ≡ self.old.settings }
-        ensures id { IfOk result (λ id. id ≡ record { kind = Gauge; number = number_given Gauge key (state_of self.old) }) }
+        ensures id { IfOk result (λ id.
+            id ≡ record { kind = Gauge; number = number_given Gauge key (state_of self.old) }) }
         ensures absent { OnErr result (live_series Gauge key (state_of self.old) ≡ None) }
         ensures refused { OnErr result (self.new ≡ self.old) }
     {
@@ -225,7 +243,8 @@ impl PrometheusState {
     /// isn't live the pass is dropped.
     pub fn give_back_counter(&mut self, lent: Lent<facade::Counter<PromCounter>, CellPass>)
         requires lent { LentCounter self.old lent }
-        ensures taken { (HasNoCounter lent.id self.old × (self.new ≡ self.old)) ⊎ ChangesCounter lent.id (TakesBack (view_of lent.pass)) self.old self.new }
+        ensures taken { (HasNoCounter lent.id self.old × (self.new ≡ self.old))
+            ⊎ ChangesCounter lent.id (TakesBack (view_of lent.pass)) self.old self.new }
     {
         let Lent {
             handle: _,
@@ -240,7 +259,8 @@ impl PrometheusState {
     /// Takes back a gauge that this exporter lent, as `give_back_counter` does a counter.
     pub fn give_back_gauge(&mut self, lent: Lent<facade::Gauge<PromGauge>, CellPass>)
         requires lent { LentGauge self.old lent }
-        ensures taken { (HasNoGauge lent.id self.old × (self.new ≡ self.old)) ⊎ ChangesGauge lent.id (TakesBack (view_of lent.pass)) self.old self.new }
+        ensures taken { (HasNoGauge lent.id self.old × (self.new ≡ self.old))
+            ⊎ ChangesGauge lent.id (TakesBack (view_of lent.pass)) self.old self.new }
     {
         let Lent {
             handle: _,
@@ -268,14 +288,17 @@ impl PrometheusState {
 
     /// Makes the page step of the counters.
     fn step_counters(&mut self, moment: u64)
-        ensures noted { AreNoted self.old.settings.idle moment Counter self.old.series.counters self.new.series.counters }
-        ensures others { self.new ≡ record self.old { series = record self.old.series { counters = self.new.series.counters } } }
+        ensures noted { AreNoted self.old.settings.idle moment Counter self.old.series.counters
+            self.new.series.counters }
+        ensures others { self.new ≡ record self.old
+            { series = record self.old.series { counters = self.new.series.counters } } }
     {
         let recency = self.settings.recency_of(MetricKind::Counter);
         let count = self.series.counter_count();
         self.series.retain_counters(
             move |_: SeriesId, cell: &mut CounterCell| -> bool
-                ensures { IsNoted (unwrap_or recency None) moment Counter cell.entry.now result cell.exit.now }
+                ensures { IsNoted (unwrap_or recency None) moment Counter cell.entry.now result
+                    cell.exit.now }
             { cell.stays(&recency, MetricKind::Counter, moment) },
         );
         if self.series.counter_count() < count {
@@ -285,14 +308,17 @@ impl PrometheusState {
 
     /// Makes the page step of the gauges.
     fn step_gauges(&mut self, moment: u64)
-        ensures noted { AreNoted self.old.settings.idle moment Gauge self.old.series.gauges self.new.series.gauges }
-        ensures others { self.new ≡ record self.old { series = record self.old.series { gauges = self.new.series.gauges } } }
+        ensures noted { AreNoted self.old.settings.idle moment Gauge self.old.series.gauges
+            self.new.series.gauges }
+        ensures others { self.new ≡ record self.old
+            { series = record self.old.series { gauges = self.new.series.gauges } } }
     {
         let recency = self.settings.recency_of(MetricKind::Gauge);
         let count = self.series.gauge_count();
         self.series.retain_gauges(
             move |_: SeriesId, cell: &mut GaugeCell| -> bool
-                ensures { IsNoted (unwrap_or recency None) moment Gauge cell.entry.now result cell.exit.now }
+                ensures { IsNoted (unwrap_or recency None) moment Gauge cell.entry.now result
+                    cell.exit.now }
             { cell.stays(&recency, MetricKind::Gauge, moment) },
         );
         if self.series.gauge_count() < count {
@@ -317,18 +343,25 @@ impl PrometheusState {
         ensures steps { Steps moment self.old self.new
             ⊎ ((result ≡ Err BuildError.Memory) × DrainsEach DrainsInPart self.old self.new × (K.written sink.new ≡ K.written sink.old)) }
         ensures home { AllHome self.old → AllHome self.new }
-        ensures stepped { AllHome self.old → (state_of self.new ≡ page_step self.old.settings.idle moment (state_of self.old))
+        ensures stepped { AllHome self.old
+            → (state_of self.new ≡ page_step self.old.settings.idle moment (state_of self.old))
             ⊎ ((result ≡ Err BuildError.Memory) × (state_of self.new ≡ state_of self.old)) }
         ensures timely { (t : ℕ) → AllHome self.old → AreTimely t self.old → AreTimely t self.new }
 
         // Of a summary the values of quantiles are those of what its rolling summary keeps, whatever the moments; all else hangs on no moment.
-        ensures body { OnOk result (GrewBy (K.written sink.old) (K.written sink.new) (written_body moment self.new)) }
-        ensures prefix { OnErr result (GrewByPrefix (K.written sink.old) (K.written sink.new) (written_body moment self.new)) }
-        ensures page { OnOk result (AllHome self.old → GrewBy (K.written sink.old) (K.written sink.new) (written_page moment self.old)) }
-        ensures page_prefix { OnErr result (AllHome self.old → GrewByPrefix (K.written sink.old) (K.written sink.new) (written_page moment self.old)) }
+        ensures body { OnOk result (GrewBy (K.written sink.old) (K.written sink.new)
+            (written_body moment self.new)) }
+        ensures prefix { OnErr result (GrewByPrefix (K.written sink.old) (K.written sink.new)
+            (written_body moment self.new)) }
+        ensures page { OnOk result (AllHome self.old
+            → GrewBy (K.written sink.old) (K.written sink.new) (written_page moment self.old)) }
+        ensures page_prefix { OnErr result (AllHome self.old
+            → GrewByPrefix (K.written sink.old) (K.written sink.new) (written_page moment self.old)) }
 
-        ensures errors { IfErr result (λ error. (error ≡ BuildError.WriteFault) ⊎ (error ≡ BuildError.Memory)) }
-        ensures cause { result ≡ Err BuildError.WriteFault → Rose (K.faults sink.old) (K.faults sink.new) }
+        ensures errors { IfErr result (λ error. (error ≡ BuildError.WriteFault)
+            ⊎ (error ≡ BuildError.Memory)) }
+        ensures cause { result ≡ Err BuildError.WriteFault
+            → Rose (K.faults sink.old) (K.faults sink.new) }
         ensures never_falls { K.faults sink.old ≤ K.faults sink.new }
     {
         self.step(rt, alloc, moment)?;

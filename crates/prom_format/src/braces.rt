@@ -21,7 +21,8 @@ pub(crate) fn push_entries(
 ) -> Result<bool, Memory>
     ensures ok { OnOk result (string_bytes buffer.new
         ≡ string_bytes buffer.old ++ separated any (label_texts (labels_of labels.now.entries))) }
-    ensures any { IfOk result (λ now. now ≡ any_behind any (label_texts (labels_of labels.now.entries))) }
+    ensures any { IfOk result (λ now.
+        now ≡ any_behind any (label_texts (labels_of labels.now.entries))) }
     ensures kept { Begins (string_bytes buffer.old) (string_bytes buffer.new) }
 {
     for (key, value) in labels {
@@ -39,7 +40,8 @@ pub(crate) fn push_lent_entries(
 ) -> Result<bool, Memory>
     ensures ok { OnOk result (string_bytes buffer.new
         ≡ string_bytes buffer.old ++ separated any (label_texts (labels_of_lent labels.now.entries))) }
-    ensures any { IfOk result (λ now. now ≡ any_behind any (label_texts (labels_of_lent labels.now.entries))) }
+    ensures any { IfOk result (λ now.
+        now ≡ any_behind any (label_texts (labels_of_lent labels.now.entries))) }
     ensures kept { Begins (string_bytes buffer.old) (string_bytes buffer.new) }
 {
     for (key, value) in labels {
@@ -55,7 +57,8 @@ pub(crate) fn push_labels(
     mut any: bool,
     labels: &[Label],
 ) -> Result<bool, Memory>
-    ensures ok { OnOk result (string_bytes buffer.new ≡ string_bytes buffer.old ++ separated any (label_texts labels.now)) }
+    ensures ok { OnOk result (string_bytes buffer.new ≡ string_bytes buffer.old ++ separated any
+        (label_texts labels.now)) }
     ensures any { IfOk result (λ now. now ≡ any_behind any (label_texts labels.now)) }
     ensures kept { Begins (string_bytes buffer.old) (string_bytes buffer.new) }
 {
@@ -90,7 +93,8 @@ pub(crate) fn push_additional(
 ) -> Result<bool, Memory>
     ensures ok { OnOk result (string_bytes buffer.new
         ≡ string_bytes buffer.old ++ separated any (additional_text (lent_label label.entry))) }
-    ensures any { IfOk result (λ now. now ≡ any_behind any (additional_text (lent_label label.entry))) }
+    ensures any { IfOk result (λ now.
+        now ≡ any_behind any (additional_text (lent_label label.entry))) }
     ensures kept { Begins (string_bytes buffer.old) (string_bytes buffer.new) }
 {
     let Some((name, value)) = label else {

@@ -49,8 +49,10 @@ pub fn push_row_head(
         ++ head_text (sanitized_metric_name key.now.name) (shown_label_set (labels_of globals.now.entries) key.now.labels)) }
     ensures name { let start = length (string_bytes buffer.old) in
         IfOk result (λ count. slice_range (string_bytes buffer.new) start (start + count) ≡ sanitized_metric_name key.now.name) }
-    ensures name_length { IfOk result (λ count. count ≡ length (sanitized_metric_name key.now.name)) }
-    ensures name_begins { OnOk result (IsCharBoundary (string_bytes buffer.new) (length (string_bytes buffer.old))) }
+    ensures name_length { IfOk result (λ count. count ≡ length (sanitized_metric_name key.now.name))
+        }
+    ensures name_begins { OnOk result (IsCharBoundary (string_bytes buffer.new)
+        (length (string_bytes buffer.old))) }
     ensures name_ends { let start = length (string_bytes buffer.old) in
         IfOk result (λ count. IsCharBoundary (string_bytes buffer.new) (start + count)) }
     ensures err { OnErr result (string_bytes buffer.new ≡ string_bytes buffer.old) }
@@ -69,7 +71,8 @@ fn push_head(
 ) -> Result<usize, Memory>
     ensures head { OnOk result (string_bytes buffer.new ≡ string_bytes buffer.old
         ++ head_text (sanitized_metric_name key.now.name) (shown_label_set (labels_of globals.now.entries) key.now.labels)) }
-    ensures name_length { IfOk result (λ count. count ≡ length (sanitized_metric_name key.now.name)) }
+    ensures name_length { IfOk result (λ count. count ≡ length (sanitized_metric_name key.now.name))
+        }
     ensures name_ends { let start = length (string_bytes buffer.old) in
         IfOk result (λ count. IsCharBoundary (string_bytes buffer.new) (start + count)) }
     ensures kept { Begins (string_bytes buffer.old) (string_bytes buffer.new) }
@@ -90,7 +93,8 @@ pub fn push_row_labels(
 ) -> Result<(), Memory>
     ensures labels { OnOk result (string_bytes buffer.new ≡ string_bytes buffer.old
         ++ label_set_text (shown_label_set (labels_of globals.now.entries) key.now.labels)) }
-    ensures begins { OnOk result (IsCharBoundary (string_bytes buffer.new) (length (string_bytes buffer.old))) }
+    ensures begins { OnOk result (IsCharBoundary (string_bytes buffer.new)
+        (length (string_bytes buffer.old))) }
     ensures err { OnErr result (string_bytes buffer.new ≡ string_bytes buffer.old) }
 {
     let length = buffer.len();

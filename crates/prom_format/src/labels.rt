@@ -54,7 +54,8 @@ impl LabelSet {
         key: &Key,
         global: &IndexMap<String, String, HashStart>,
     ) -> Result<LabelSet, Memory>
-        ensures labels { IfOk result (λ set. set ≡ label_set (labels_of global.now.entries) key.now.labels) }
+        ensures labels { IfOk result (λ set.
+            set ≡ label_set (labels_of global.now.entries) key.now.labels) }
     {
         let mut labels = IndexMap::with_hasher(alloc, *global.hasher());
         for (name, value) in global {

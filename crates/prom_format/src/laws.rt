@@ -25,7 +25,8 @@ pub fn names_stay()
 pub fn full_names_are_metric_names()
     ensures full { (name : List ℕ) (unit : Option UnitOf) (suffix : Option (List ℕ))
         → IsMetricName name → IfSome suffix IsMetricName → IsMetricName (full_name name unit suffix) }
-    ensures suffixes { All IsMetricName (codes "total" ∷ codes "sum" ∷ codes "count" ∷ codes "bucket" ∷ []) }
+    ensures suffixes { All IsMetricName
+        (codes "total" ∷ codes "sum" ∷ codes "count" ∷ codes "bucket" ∷ []) }
 {}
 
 /// Escapes tell the text that they stand for.
@@ -51,7 +52,8 @@ pub fn heads_tell_names_and_labels()
 
 /// Keys that print plainly under the same global labels are told by what their rows begin with.
 pub fn plain_keys_are_told_by_their_heads()
-    ensures { (globals : List LabelText) (x y : KeyText) → PrintsPlainly globals x → PrintsPlainly globals y
+    ensures { (globals : List LabelText) (x y : KeyText) → PrintsPlainly globals x
+        → PrintsPlainly globals y
         → sanitized_metric_name x.name ≡ sanitized_metric_name y.name
         → shown_label_set globals x.labels ≡ shown_label_set globals y.labels → x ≡ y }
 {}
@@ -59,17 +61,23 @@ pub fn plain_keys_are_told_by_their_heads()
 /// Families have one text, as a body and as a page: what the grammar reads as these families is that text, and where the
 /// families can stand on a page, the grammar reads the text so.
 pub fn one_text()
-    ensures body { (bytes : List ℕ) (families : List Family) → IsBody bytes families → bytes ≡ body_text families }
-    ensures body_read { (families : List Family) → All IsPrintable families → IsBody (body_text families) families }
-    ensures page { (bytes : List ℕ) (families : List Family) → IsPage bytes families → bytes ≡ page_text families }
-    ensures page_read { (families : List Family) → All IsPrintable families → IsPage (page_text families) families }
+    ensures body { (bytes : List ℕ) (families : List Family) → IsBody bytes families
+        → bytes ≡ body_text families }
+    ensures body_read { (families : List Family) → All IsPrintable families
+        → IsBody (body_text families) families }
+    ensures page { (bytes : List ℕ) (families : List Family) → IsPage bytes families
+        → bytes ≡ page_text families }
+    ensures page_read { (families : List Family) → All IsPrintable families
+        → IsPage (page_text families) families }
 {}
 
 /// A page is read in one way, and a body too: bytes are a page of one list of families at most, and a body of one at
 /// most, where the values have 128 bits.
 pub fn one_reading()
-    ensures page { (bytes : List ℕ) (families others : List Family) → AreInRange families → AreInRange others
+    ensures page { (bytes : List ℕ) (families others : List Family) → AreInRange families
+        → AreInRange others
         → IsPage bytes families → IsPage bytes others → families ≡ others }
-    ensures body { (bytes : List ℕ) (families others : List Family) → AreInRange families → AreInRange others
+    ensures body { (bytes : List ℕ) (families others : List Family) → AreInRange families
+        → AreInRange others
         → IsBody bytes families → IsBody bytes others → families ≡ others }
 {}

@@ -16,7 +16,8 @@ pub(crate) fn lend_labels<'a>(
     key: &'a Key,
     globals: &'a IndexMap<String, String, HashStart>,
 ) -> Result<IndexMap<&'a str, &'a str, HashStart>, Memory>
-    ensures labels { IfOk result (λ set. labels_of_lent set.entries ≡ label_set (labels_of globals.now.entries) key.now.labels) }
+    ensures labels { IfOk result (λ set.
+        labels_of_lent set.entries ≡ label_set (labels_of globals.now.entries) key.now.labels) }
 {
     let mut labels = IndexMap::with_hasher(alloc, *globals.hasher());
     for (name, value) in globals {

@@ -35,7 +35,8 @@ impl Matcher {
 
     /// The matcher with its text made a metric name. The empty text stays empty, so that it still matches all.
     pub fn sanitized(self, alloc: Global) -> Result<Matcher, Memory>
-        ensures { IfOk result (λ matcher. matcher_text matcher ≡ sanitized_matcher (matcher_text self)) }
+        ensures { IfOk result (λ matcher.
+            matcher_text matcher ≡ sanitized_matcher (matcher_text self)) }
     {
         Ok(match self {
             Matcher::Full(text) => Matcher::Full(sanitized_text(alloc, text)?),
@@ -58,6 +59,8 @@ fn sanitized_text(alloc: Global, text: String) -> Result<String, Memory>
 /// Matchers are ordered by their kind, whole names before prefixes before suffixes, and then by the bytes of their text; two
 /// are equal exactly where kind and text are.
 pub fn matchers_are_ordered()
-    ensures order { (a b : Matcher) → ⟦<Matcher as Ord>⟧.cmp a b ≡ matcher_cmp (matcher_text a) (matcher_text b) }
-    ensures equality { (a b : Matcher) → ⟦<Matcher as PartialEq>⟧.eq a b ≡ matcher_eq (matcher_text a) (matcher_text b) }
+    ensures order { (a b : Matcher)
+        → ⟦<Matcher as Ord>⟧.cmp a b ≡ matcher_cmp (matcher_text a) (matcher_text b) }
+    ensures equality { (a b : Matcher)
+        → ⟦<Matcher as PartialEq>⟧.eq a b ≡ matcher_eq (matcher_text a) (matcher_text b) }
 {}

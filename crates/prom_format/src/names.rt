@@ -101,7 +101,8 @@ pub fn sanitize_label_key(alloc: Global, key: &str) -> Result<String, Memory>
 
 /// Appends the metric name made of any text. A refused call leaves the buffer as it was.
 pub(crate) fn push_metric_name(buffer: &mut String, name: &str) -> Result<(), Memory>
-    ensures ok { OnOk result (string_bytes buffer.new ≡ string_bytes buffer.old ++ sanitized_metric_name name.now) }
+    ensures ok { OnOk result (string_bytes buffer.new
+        ≡ string_bytes buffer.old ++ sanitized_metric_name name.now) }
     ensures err { OnErr result (string_bytes buffer.new ≡ string_bytes buffer.old) }
 {
     push_name(buffer, name, NameKind::Metric)
@@ -109,7 +110,8 @@ pub(crate) fn push_metric_name(buffer: &mut String, name: &str) -> Result<(), Me
 
 /// Appends the label name made of any text. A refused call leaves the buffer as it was.
 pub(crate) fn push_label_name(buffer: &mut String, key: &str) -> Result<(), Memory>
-    ensures ok { OnOk result (string_bytes buffer.new ≡ string_bytes buffer.old ++ sanitized_label_name key.now) }
+    ensures ok { OnOk result (string_bytes buffer.new
+        ≡ string_bytes buffer.old ++ sanitized_label_name key.now) }
     ensures err { OnErr result (string_bytes buffer.new ≡ string_bytes buffer.old) }
 {
     push_name(buffer, key, NameKind::Label)

@@ -12,7 +12,8 @@ const ONE: u64 = BILLIONTHS as u64;
 
 /// Appends the spelling of a value of billionths: `42`, `-3.14`. A refused call leaves the text as it was.
 pub fn push_fixed(buffer: &mut String, billionths: i128) -> Result<(), Memory>
-    ensures ok { OnOk result (string_bytes buffer.new ≡ string_bytes buffer.old ++ page_number billionths) }
+    ensures ok { OnOk result (string_bytes buffer.new
+        ≡ string_bytes buffer.old ++ page_number billionths) }
     ensures err { OnErr result (string_bytes buffer.new ≡ string_bytes buffer.old) }
 {
     let length = buffer.len();
@@ -22,7 +23,8 @@ pub fn push_fixed(buffer: &mut String, billionths: i128) -> Result<(), Memory>
 
 /// Appends the sign, the whole part and the fraction of a value of billionths. After a refused call some may be missing.
 fn push_parts(buffer: &mut String, billionths: i128) -> Result<(), Memory>
-    ensures ok { OnOk result (string_bytes buffer.new ≡ string_bytes buffer.old ++ page_number billionths) }
+    ensures ok { OnOk result (string_bytes buffer.new
+        ≡ string_bytes buffer.old ++ page_number billionths) }
     ensures kept { Begins (string_bytes buffer.old) (string_bytes buffer.new) }
 {
     if billionths < 0 {
@@ -60,7 +62,8 @@ fn push_short(buffer: &mut String, magnitude: u64) -> Result<(), Memory>
 /// call the point may stand alone.
 fn push_fraction(text: &mut String, fraction: u64) -> Result<(), Memory>
     requires { fraction < 1000000000 }
-    ensures ok { OnOk result (string_bytes text.new ≡ string_bytes text.old ++ fraction_text [] fraction) }
+    ensures ok { OnOk result (string_bytes text.new
+        ≡ string_bytes text.old ++ fraction_text [] fraction) }
     ensures kept { Begins (string_bytes text.old) (string_bytes text.new) }
 {
     if fraction == 0 {

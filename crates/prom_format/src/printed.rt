@@ -30,7 +30,8 @@ pub fn sanitize_description(alloc: Global, value: &str) -> Result<String, Memory
 
 /// Appends the printed label value. A refused call leaves the buffer as it was.
 pub(crate) fn push_label_value(buffer: &mut String, value: &str) -> Result<(), Memory>
-    ensures ok { OnOk result (string_bytes buffer.new ≡ string_bytes buffer.old ++ printed_label_value value.now) }
+    ensures ok { OnOk result (string_bytes buffer.new
+        ≡ string_bytes buffer.old ++ printed_label_value value.now) }
     ensures err { OnErr result (string_bytes buffer.new ≡ string_bytes buffer.old) }
 {
     push_printed(buffer, value, true)
@@ -38,7 +39,8 @@ pub(crate) fn push_label_value(buffer: &mut String, value: &str) -> Result<(), M
 
 /// Appends the printed description. A refused call leaves the buffer as it was.
 pub(crate) fn push_description(buffer: &mut String, description: &str) -> Result<(), Memory>
-    ensures ok { OnOk result (string_bytes buffer.new ≡ string_bytes buffer.old ++ printed_description description.now) }
+    ensures ok { OnOk result (string_bytes buffer.new
+        ≡ string_bytes buffer.old ++ printed_description description.now) }
     ensures err { OnErr result (string_bytes buffer.new ≡ string_bytes buffer.old) }
 {
     push_printed(buffer, description, false)
@@ -47,7 +49,8 @@ pub(crate) fn push_description(buffer: &mut String, description: &str) -> Result
 /// Appends the printed text. One in which nothing is escaped is copied as it is. A refused call leaves the buffer as it
 /// was.
 fn push_printed(buffer: &mut String, text: &str, in_label: bool) -> Result<(), Memory>
-    ensures ok { OnOk result (string_bytes buffer.new ≡ string_bytes buffer.old ++ printed_text in_label text.now) }
+    ensures ok { OnOk result (string_bytes buffer.new
+        ≡ string_bytes buffer.old ++ printed_text in_label text.now) }
     ensures err { OnErr result (string_bytes buffer.new ≡ string_bytes buffer.old) }
 {
     if is_plain(text, in_label) {
@@ -71,7 +74,8 @@ fn is_plain(text: &str, in_label: bool) -> bool
 /// Appends the printed text, character by character. A backslash waits for what stands behind it: two print as one, and a
 /// quote in a label value takes the one that waits. After a refused call some may be missing.
 fn push_escaped(buffer: &mut String, text: &str, in_label: bool) -> Result<(), Memory>
-    ensures ok { OnOk result (string_bytes buffer.new ≡ string_bytes buffer.old ++ printed_text in_label text.now) }
+    ensures ok { OnOk result (string_bytes buffer.new
+        ≡ string_bytes buffer.old ++ printed_text in_label text.now) }
     ensures kept { Begins (string_bytes buffer.old) (string_bytes buffer.new) }
 {
     let mut waiting = false;

@@ -75,7 +75,8 @@ fn push_label_set(
 /// Appends a label set with one more label at its end. After a refused call some of it may be missing.
 fn push_labels_with(buffer: &mut String, labels: &str, key: &str, text: &str) -> Result<(), Memory>
     requires { IsPrintedSet labels.now }
-    ensures ok { OnOk result (string_bytes buffer.new ≡ string_bytes buffer.old ++ with_label labels.now key.now text.now) }
+    ensures ok { OnOk result (string_bytes buffer.new
+        ≡ string_bytes buffer.old ++ with_label labels.now key.now text.now) }
     ensures kept { Begins (string_bytes buffer.old) (string_bytes buffer.new) }
 {
     push_opened(buffer, labels)?;
@@ -89,7 +90,8 @@ fn push_labels_with(buffer: &mut String, labels: &str, key: &str, text: &str) ->
 /// Appends a label set up to where one more label stands in it. After a refused call some of it may be missing.
 fn push_opened(buffer: &mut String, labels: &str) -> Result<(), Memory>
     requires { IsPrintedSet labels.now }
-    ensures ok { OnOk result (string_bytes buffer.new ≡ string_bytes buffer.old ++ opened labels.now) }
+    ensures ok { OnOk result (string_bytes buffer.new
+        ≡ string_bytes buffer.old ++ opened labels.now) }
     ensures kept { Begins (string_bytes buffer.old) (string_bytes buffer.new) }
 {
     match labels.strip_suffix('}') {

@@ -49,7 +49,8 @@ pub(crate) fn push_full_name(
 
 /// Appends the metric name with the word of a unit before its standing suffix. After a refused call some may be missing.
 fn push_name_with_unit(buffer: &mut String, name: &str, unit: Option<Unit>) -> Result<(), Memory>
-    ensures ok { OnOk result (string_bytes buffer.new ≡ string_bytes buffer.old ++ names.with_unit name.now unit) }
+    ensures ok { OnOk result (string_bytes buffer.new
+        ≡ string_bytes buffer.old ++ names.with_unit name.now unit) }
     ensures kept { Begins (string_bytes buffer.old) (string_bytes buffer.new) }
 {
     let Some(word) = unit.and_then(unit_word) else {

@@ -38,7 +38,8 @@ pub trait BuildRecorder {
         self,
         alloc: Global,
     ) -> Result<(PrometheusRecorder, SharedPass), BuildError>
-        ensures built { IfOk result (λ made. IsPass made.0 made.1 × (view_of made.1 ≡ lender (opening (Built (builds self))))) }
+        ensures built { IfOk result (λ made. IsPass made.0 made.1
+            × (view_of made.1 ≡ lender (opening (Built (builds self))))) }
         ensures too_long { is_refused self → result ≡ Err SpanTooLong }
         ensures memory { (is_refused self → ⊥) → OnErr result (result ≡ Err Memory) };
 
@@ -52,7 +53,8 @@ pub trait BuildRecorder {
     ) -> Result<PrometheusHandle, InstallError>
         requires { note.old.cell ≡ cell.now }
         ensures cell { note.new.cell ≡ note.old.cell }
-        ensures installed { IfOk result (λ handle. (note.new.known ≡ Some handle) × (note.old.known ≡ None)) }
+        ensures installed { IfOk result (λ handle. (note.new.known ≡ Some handle)
+            × (note.old.known ≡ None)) }
         ensures refused { IfErr result (Refuses note.old.known note.new.known) }
         ensures too_long { is_refused self → result ≡ Err (Build SpanTooLong) };
 }

@@ -27,10 +27,14 @@ pub(crate) fn hand_out_counter<R: Wait>(
 ) -> Result<LentCounter, Memory>
     requires { IsPass recorder.now pass.old }
     ensures pass { Stays recorder.now pass.old pass.new }
-    ensures handed { IfOk result (λ lent. HandsOut ACounter LendsCounter IsNewCounter key.now lent (view_of pass.old) (view_of pass.new)) }
-    ensures own { IfOk result (λ lent. IsItsOwn ACounter LendsCounter key.now lent (view_of pass.old) (view_of pass.new)) }
+    ensures handed { IfOk result (λ lent.
+        HandsOut ACounter LendsCounter IsNewCounter key.now lent (view_of pass.old)
+        (view_of pass.new)) }
+    ensures own { IfOk result (λ lent.
+        IsItsOwn ACounter LendsCounter key.now lent (view_of pass.old) (view_of pass.new)) }
     ensures lent { IfOk result IsHandedCounter }
-    ensures refused { OnErr result (RegistersInPart ACounter key.now (view_of pass.old) (view_of pass.new)) }
+    ensures refused { OnErr result (RegistersInPart ACounter key.now (view_of pass.old)
+        (view_of pass.new)) }
 {
     let id = recorder.register_counter(rt, alloc, pass, key)?;
     match recorder.lend_counter(rt, alloc, pass, id)? {
@@ -49,10 +53,13 @@ pub(crate) fn hand_out_gauge<R: Wait>(
 ) -> Result<LentGauge, Memory>
     requires { IsPass recorder.now pass.old }
     ensures pass { Stays recorder.now pass.old pass.new }
-    ensures handed { IfOk result (λ lent. HandsOut AGauge LendsGauge IsNewGauge key.now lent (view_of pass.old) (view_of pass.new)) }
-    ensures own { IfOk result (λ lent. IsItsOwn AGauge LendsGauge key.now lent (view_of pass.old) (view_of pass.new)) }
+    ensures handed { IfOk result (λ lent.
+        HandsOut AGauge LendsGauge IsNewGauge key.now lent (view_of pass.old) (view_of pass.new)) }
+    ensures own { IfOk result (λ lent.
+        IsItsOwn AGauge LendsGauge key.now lent (view_of pass.old) (view_of pass.new)) }
     ensures lent { IfOk result IsHandedGauge }
-    ensures refused { OnErr result (RegistersInPart AGauge key.now (view_of pass.old) (view_of pass.new)) }
+    ensures refused { OnErr result (RegistersInPart AGauge key.now (view_of pass.old)
+        (view_of pass.new)) }
 {
     let id = recorder.register_gauge(rt, alloc, pass, key)?;
     match recorder.lend_gauge(rt, alloc, pass, id)? {
@@ -71,10 +78,14 @@ pub(crate) fn hand_out_histogram<R: Wait>(
 ) -> Result<LentHistogram, Memory>
     requires { IsPass recorder.now pass.old }
     ensures pass { Stays recorder.now pass.old pass.new }
-    ensures handed { IfOk result (λ lent. HandsOut AHistogram LendsHistogram IsNewHistogram key.now lent (view_of pass.old) (view_of pass.new)) }
-    ensures own { IfOk result (λ lent. IsItsOwn AHistogram LendsHistogram key.now lent (view_of pass.old) (view_of pass.new)) }
+    ensures handed { IfOk result (λ lent.
+        HandsOut AHistogram LendsHistogram IsNewHistogram key.now lent (view_of pass.old)
+        (view_of pass.new)) }
+    ensures own { IfOk result (λ lent.
+        IsItsOwn AHistogram LendsHistogram key.now lent (view_of pass.old) (view_of pass.new)) }
     ensures lent { IfOk result IsHandedHistogram }
-    ensures refused { OnErr result (RegistersInPart AHistogram key.now (view_of pass.old) (view_of pass.new)) }
+    ensures refused { OnErr result (RegistersInPart AHistogram key.now (view_of pass.old)
+        (view_of pass.new)) }
 {
     let id = recorder.register_histogram(rt, alloc, pass, key)?;
     match recorder.lend_histogram(rt, alloc, pass, id)? {

@@ -74,9 +74,12 @@ impl PrometheusHandle {
         sink: &mut K,
     ) -> Result<(), BuildError>
         ensures written { OnOk result (Writes moment (K.written sink.old) (K.written sink.new)) }
-        ensures refused { OnErr result (WritesInPart moment (K.written sink.old) (K.written sink.new)) }
-        ensures errors { IfErr result (λ error. (error ≡ BuildError.WriteFault) ⊎ (error ≡ BuildError.Memory)) }
-        ensures cause { result ≡ Err BuildError.WriteFault → Rose (K.faults sink.old) (K.faults sink.new) }
+        ensures refused { OnErr result (WritesInPart moment (K.written sink.old)
+            (K.written sink.new)) }
+        ensures errors { IfErr result (λ error. (error ≡ BuildError.WriteFault)
+            ⊎ (error ≡ BuildError.Memory)) }
+        ensures cause { result ≡ Err BuildError.WriteFault
+            → Rose (K.faults sink.old) (K.faults sink.new) }
         ensures never_falls { K.faults sink.old ≤ K.faults sink.new }
     {
         let mut own = self.shared.lock(rt);

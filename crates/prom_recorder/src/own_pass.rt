@@ -104,9 +104,12 @@ impl OwnPass {
         sink: &mut K,
     ) -> Result<(), BuildError>
         ensures written { OnOk result (Writes moment (K.written sink.old) (K.written sink.new)) }
-        ensures refused { OnErr result (WritesInPart moment (K.written sink.old) (K.written sink.new)) }
-        ensures errors { IfErr result (λ error. (error ≡ BuildError.WriteFault) ⊎ (error ≡ BuildError.Memory)) }
-        ensures cause { result ≡ Err BuildError.WriteFault → Rose (K.faults sink.old) (K.faults sink.new) }
+        ensures refused { OnErr result (WritesInPart moment (K.written sink.old)
+            (K.written sink.new)) }
+        ensures errors { IfErr result (λ error. (error ≡ BuildError.WriteFault)
+            ⊎ (error ≡ BuildError.Memory)) }
+        ensures cause { result ≡ Err BuildError.WriteFault
+            → Rose (K.faults sink.old) (K.faults sink.new) }
         ensures never_falls { K.faults sink.old ≤ K.faults sink.new }
     {
         self.recorder

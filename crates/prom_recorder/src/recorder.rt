@@ -58,7 +58,8 @@ impl PrometheusRecorder {
         alloc: Global,
         state: PrometheusState,
     ) -> Result<(PrometheusRecorder, SharedPass), Memory>
-        ensures { IfOk result (λ made. IsPass made.0 made.1 × (view_of made.1 ≡ lender (opening (Built state)))) }
+        ensures { IfOk result (λ made. IsPass made.0 made.1
+            × (view_of made.1 ≡ lender (opening (Built state)))) }
     {
         let (shared, root) = Shared::new(alloc, state)?;
         Ok((PrometheusRecorder { shared }, root))
@@ -89,10 +90,14 @@ impl PrometheusRecorder {
     ) -> Result<LentCounter, Memory>
         requires { IsPass self.now pass.old }
         ensures pass { Stays self.now pass.old pass.new }
-        ensures handed { IfOk result (λ lent. HandsOut ACounter LendsCounter IsNewCounter key.now lent (view_of pass.old) (view_of pass.new)) }
-        ensures own { IfOk result (λ lent. IsItsOwn ACounter LendsCounter key.now lent (view_of pass.old) (view_of pass.new)) }
+        ensures handed { IfOk result (λ lent.
+            HandsOut ACounter LendsCounter IsNewCounter key.now lent (view_of pass.old)
+            (view_of pass.new)) }
+        ensures own { IfOk result (λ lent.
+            IsItsOwn ACounter LendsCounter key.now lent (view_of pass.old) (view_of pass.new)) }
         ensures lent { IfOk result IsHandedCounter }
-        ensures refused { OnErr result (RegistersInPart ACounter key.now (view_of pass.old) (view_of pass.new)) }
+        ensures refused { OnErr result (RegistersInPart ACounter key.now (view_of pass.old)
+            (view_of pass.new)) }
     {
         hand_out_counter(rt, alloc, &self.shared.recorder, pass, key)
     }
@@ -107,10 +112,14 @@ impl PrometheusRecorder {
     ) -> Result<LentGauge, Memory>
         requires { IsPass self.now pass.old }
         ensures pass { Stays self.now pass.old pass.new }
-        ensures handed { IfOk result (λ lent. HandsOut AGauge LendsGauge IsNewGauge key.now lent (view_of pass.old) (view_of pass.new)) }
-        ensures own { IfOk result (λ lent. IsItsOwn AGauge LendsGauge key.now lent (view_of pass.old) (view_of pass.new)) }
+        ensures handed { IfOk result (λ lent.
+            HandsOut AGauge LendsGauge IsNewGauge key.now lent (view_of pass.old)
+            (view_of pass.new)) }
+        ensures own { IfOk result (λ lent.
+            IsItsOwn AGauge LendsGauge key.now lent (view_of pass.old) (view_of pass.new)) }
         ensures lent { IfOk result IsHandedGauge }
-        ensures refused { OnErr result (RegistersInPart AGauge key.now (view_of pass.old) (view_of pass.new)) }
+        ensures refused { OnErr result (RegistersInPart AGauge key.now (view_of pass.old)
+            (view_of pass.new)) }
     {
         hand_out_gauge(rt, alloc, &self.shared.recorder, pass, key)
     }
@@ -125,10 +134,14 @@ impl PrometheusRecorder {
     ) -> Result<LentHistogram, Memory>
         requires { IsPass self.now pass.old }
         ensures pass { Stays self.now pass.old pass.new }
-        ensures handed { IfOk result (λ lent. HandsOut AHistogram LendsHistogram IsNewHistogram key.now lent (view_of pass.old) (view_of pass.new)) }
-        ensures own { IfOk result (λ lent. IsItsOwn AHistogram LendsHistogram key.now lent (view_of pass.old) (view_of pass.new)) }
+        ensures handed { IfOk result (λ lent.
+            HandsOut AHistogram LendsHistogram IsNewHistogram key.now lent (view_of pass.old)
+            (view_of pass.new)) }
+        ensures own { IfOk result (λ lent.
+            IsItsOwn AHistogram LendsHistogram key.now lent (view_of pass.old) (view_of pass.new)) }
         ensures lent { IfOk result IsHandedHistogram }
-        ensures refused { OnErr result (RegistersInPart AHistogram key.now (view_of pass.old) (view_of pass.new)) }
+        ensures refused { OnErr result (RegistersInPart AHistogram key.now (view_of pass.old)
+            (view_of pass.new)) }
     {
         hand_out_histogram(rt, alloc, &self.shared.recorder, pass, key)
     }

@@ -28,7 +28,8 @@ impl Shared {
         alloc: Global,
         state: PrometheusState,
     ) -> Result<(Arc<Shared>, SharedPass), Memory>
-        ensures { IfOk result (λ made. IsPass (arc_value (arc_value made.0).recorder) made.1 × (view_of made.1 ≡ lender (opening (Built state)))) }
+        ensures { IfOk result (λ made. IsPass (arc_value (arc_value made.0).recorder) made.1
+            × (view_of made.1 ≡ lender (opening (Built state)))) }
     {
         let (recorder, mut root) = SharedRecorder::new(alloc, state)?;
         let pass = recorder.split(&mut root);

@@ -23,7 +23,8 @@ impl Bucket {
     /// A bucket with a value so many times.
     fn of(alloc: Global, begin: u64, value: Fixed, count: u32) -> Result<Bucket, Memory>
         ensures begin { IfOk result (λ bucket. bucket.begin ≡ begin) }
-        ensures values { IfOk result (λ bucket. bucket.values ≡ ascending (replicate count value.0)) }
+        ensures values { IfOk result (λ bucket. bucket.values ≡ ascending (replicate count value.0))
+            }
     {
         let mut values = Bag::new(alloc);
         values.add(value, u64::from(count))?;
@@ -81,7 +82,8 @@ fn taker_place(kept: &VecDeque<Bucket>, width: u64, now: u64) -> Option<usize>
 /// Puts a value so many times to the bucket at a place.
 fn join(kept: &mut VecDeque<Bucket>, place: usize, value: Fixed, count: u32) -> Result<(), Memory>
     requires { place < length kept.old.items }
-    ensures joined { OnOk result (kept.new.items ≡ joined (replicate count value.0) place kept.old.items) }
+    ensures joined { OnOk result (kept.new.items ≡ joined
+        (replicate count value.0) place kept.old.items) }
     ensures refused { OnErr result (kept.new.items ≡ kept.old.items) }
 {
     let bucket = &mut kept[place];
@@ -92,7 +94,8 @@ fn join(kept: &mut VecDeque<Bucket>, place: usize, value: Fixed, count: u32) -> 
 fn newest_in_window(kept: &VecDeque<Bucket>, window: Window) -> Option<u64>
     requires fits { window.limit * window.width < 2 ^ 64 }
     requires apart { Apart window.width kept.now.items }
-    ensures { result ≡ newest_begin (kept_in_window (window.limit * window.width) window.now kept.now.items) }
+    ensures { result ≡ newest_begin
+        (kept_in_window (window.limit * window.width) window.now kept.now.items) }
 {
     let newest = kept.front()?;
     if window.holds(newest.begin) {
@@ -118,7 +121,8 @@ fn begin_of_new(newest: Option<u64>, width: u64, now: u64) -> Option<u64>
 fn drop_old(kept: &mut VecDeque<Bucket>, window: Window)
     requires fits { window.limit * window.width < 2 ^ 64 }
     requires apart { Apart window.width kept.old.items }
-    ensures { kept.new.items ≡ kept_in_window (window.limit * window.width) window.now kept.old.items }
+    ensures { kept.new.items ≡ kept_in_window
+        (window.limit * window.width) window.now kept.old.items }
 {
     while let Some(oldest) = kept.back() {
         if window.holds(oldest.begin) {
@@ -142,7 +146,8 @@ fn begin_bucket(
     requires fits { window.limit * window.width < 2 ^ 64 }
     requires apart { Apart window.width kept.old.items }
     requires none { taker window.width window.now kept.old.items ≡ None }
-    ensures begun { let left = kept_in_window (window.limit * window.width) window.now kept.old.items in
+    ensures begun { let left = kept_in_window
+        (window.limit * window.width) window.now kept.old.items in
         OnOk result (kept.new.items ≡ begun window.limit window.width window.now (replicate count value.0) left) }
     ensures refused { OnErr result (kept.new.items ≡ kept.old.items) }
 {
@@ -189,7 +194,8 @@ pub fn values_in_window(
     requires fits { window.limit * window.width < 2 ^ 64 }
     requires apart { Apart window.width kept.now.items }
     ensures none { kept.now.items ≡ [] → IsOk result }
-    ensures values { let shown = flat_map (λ bucket. bucket.values) (kept_in_window (window.limit * window.width) window.now kept.now.items) in
+    ensures values { let shown = flat_map (λ bucket. bucket.values)
+        (kept_in_window (window.limit * window.width) window.now kept.now.items) in
         IfOk result (λ bag. bag ≡ ascending shown) }
 {
     let mut bag = Bag::new(alloc);
@@ -207,10 +213,13 @@ pub fn sole_in_window(kept: &VecDeque<Bucket>, window: Window) -> Option<&Bag>
     requires fits { window.limit * window.width < 2 ^ 64 }
     requires apart { Apart window.width kept.now.items }
     requires ordered { AreOrdered kept.now.items }
-    ensures sole { let shown = flat_map (λ bucket. bucket.values) (kept_in_window (window.limit * window.width) window.now kept.now.items) in
+    ensures sole { let shown = flat_map (λ bucket. bucket.values)
+        (kept_in_window (window.limit * window.width) window.now kept.now.items) in
         IfSome result (λ bag. bag.now ≡ ascending shown) }
-    ensures one { IfSome result (λ _. length (kept_in_window (window.limit * window.width) window.now kept.now.items) ≡ 1) }
-    ensures others { IfNone result (length (kept_in_window (window.limit * window.width) window.now kept.now.items) ≢ 1) }
+    ensures one { IfSome result (λ _.
+        length (kept_in_window (window.limit * window.width) window.now kept.now.items) ≡ 1) }
+    ensures others { IfNone result (length
+        (kept_in_window (window.limit * window.width) window.now kept.now.items) ≢ 1) }
 {
     let newest = kept.front()?;
     if !window.holds(newest.begin) {

@@ -89,7 +89,8 @@ impl RollingSummary {
         ensures added { OnOk result (self.new ≡ added now value.0 count self.old) }
         ensures refused { OnErr result (self.new ≡ self.old) }
         ensures none { count ≡ 0 → IsOk result }
-        ensures stands { OnOk result (StandsForMore self.old now (same_samples value.0 now count) self.new) }
+        ensures stands { OnOk result (StandsForMore self.old now
+            (same_samples value.0 now count) self.new) }
     {
         if count == 0 {
             return Ok(());
@@ -123,8 +124,10 @@ impl RollingSummary {
     pub fn sole_values(&self, now: u64) -> Option<&Bag>
         ensures sole { IfSome result (λ bag. bag.now ≡ snapshot_at now self.now) }
         ensures window { IfSome result (λ bag. ShowsWindow self.now now bag.now) }
-        ensures one { IfSome result (λ _. length (kept_in_window (self.now.limit * self.now.width) now self.now.kept) ≡ 1) }
-        ensures others { IfNone result (length (kept_in_window (self.now.limit * self.now.width) now self.now.kept) ≢ 1) }
+        ensures one { IfSome result (λ _.
+            length (kept_in_window (self.now.limit * self.now.width) now self.now.kept) ≡ 1) }
+        ensures others { IfNone result (length
+            (kept_in_window (self.now.limit * self.now.width) now self.now.kept) ≢ 1) }
     {
         let window = Window {
             limit: self.limit,

@@ -111,7 +111,8 @@ fn hold_all(
     page: &Page,
 ) -> Result<(Vec<Runs>, Vec<Firing>), Memory>
     requires few { length rules.now < 2 ^ 32 }
-    ensures runs { IfOk result (λ held. AllGoOn (map rule_text rules.now) before.now (families_of page.now) held.0.items) }
+    ensures runs { IfOk result (λ held.
+        AllGoOn (map rule_text rules.now) before.now (families_of page.now) held.0.items) }
     ensures fired { IfOk result (λ held. map firing_text held.1.items
         ≡ fired_from 0 (map rule_text rules.now) before.now (families_of page.now)) }
 {
@@ -144,9 +145,11 @@ fn hold(
     sums: Sums,
     firings: &mut Vec<Firing>,
 ) -> Result<Runs, Memory>
-    ensures runs { IfOk result (λ runs. GoOn (rule_text rule.now) (runs_text (option_copied before.entry))
+    ensures runs { IfOk result (λ runs.
+        GoOn (rule_text rule.now) (runs_text (option_copied before.entry))
         (entries_text sums.entries) (entries_text runs.entries)) }
-    ensures fired { OnOk result (map firing_text firings.new.items ≡ map firing_text firings.old.items
+    ensures fired { OnOk result (map firing_text firings.new.items
+        ≡ map firing_text firings.old.items
         ++ fired_of number (rule_text rule.now) (runs_text (option_copied before.entry)) (entries_text sums.entries)) }
 {
     let mut runs: Runs = IndexMap::with_hasher(alloc, *sums.hasher());
@@ -194,7 +197,8 @@ fn passes(rule: &Rule, sum: i128) -> bool
 
 /// The run of a group that passes once more, at most as long as the rule asks for.
 fn longer(rule: &Rule, before: Option<&Runs>, group: &Group) -> u32
-    ensures { result ≡ longer (rule_text rule.now) (runs_text (option_copied before.entry)) (group_text group.now) }
+    ensures { result ≡ longer (rule_text rule.now) (runs_text (option_copied before.entry))
+        (group_text group.now) }
 {
     let run = run_of(before, group);
     if run < rule.pages {

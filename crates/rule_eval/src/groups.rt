@@ -28,7 +28,8 @@ pub(crate) fn rows_by_name<'a>(
     start: HashStart,
     page: &'a Page,
 ) -> Result<RowsByName<'a>, Memory>
-    ensures { IfOk result (λ rows. (name : List ℕ) → rows_named rows name ≡ rows_with name (families_of page.now)) }
+    ensures { IfOk result (λ rows. (name : List ℕ)
+        → rows_named rows name ≡ rows_with name (families_of page.now)) }
 {
     let mut rows: RowsByName<'a> = IndexMap::with_hasher(alloc, start);
     for family in &page.families {
@@ -39,7 +40,8 @@ pub(crate) fn rows_by_name<'a>(
 
 /// Puts rows behind the others of their names.
 fn add_rows<'a>(rows: &mut RowsByName<'a>, more: &'a [PageRow]) -> Result<(), Memory>
-    ensures { OnOk result ((name : List ℕ) → rows_named rows.new name ≡ rows_named rows.old name ++ named name (map row_of more.now)) }
+    ensures { OnOk result ((name : List ℕ)
+        → rows_named rows.new name ≡ rows_named rows.old name ++ named name (map row_of more.now)) }
 {
     for row in more {
         add_row(rows, row)?;
@@ -74,7 +76,8 @@ pub(crate) fn sums_by_name(
 
 /// The groups of these rows in order of first appearance, and the sum of each, which wraps.
 fn sums_of(alloc: Global, start: HashStart, rule: &Rule, rows: &[&PageRow]) -> Result<Sums, Memory>
-    ensures { IfOk result (λ sums. entries_text sums.entries ≡ sums_of (rule_text rule.now) (rows_at rows.now)) }
+    ensures { IfOk result (λ sums.
+        entries_text sums.entries ≡ sums_of (rule_text rule.now) (rows_at rows.now)) }
 {
     let mut sums: Sums = IndexMap::with_hasher(alloc, start);
     for row in rows {
@@ -87,7 +90,9 @@ fn sums_of(alloc: Global, start: HashStart, rule: &Rule, rows: &[&PageRow]) -> R
 
 /// The values of the keys on a row.
 fn group_of(alloc: Global, keys: &[String], row: &PageRow) -> Result<Group, Memory>
-    ensures { IfOk result (λ group. group_text group ≡ map (λ key. value_at (string_bytes key) (row_of row.now).labels) keys.now) }
+    ensures { IfOk result (λ group.
+        group_text group ≡ map
+        (λ key. value_at (string_bytes key) (row_of row.now).labels) keys.now) }
 {
     let mut group = Vec::new(alloc);
     for key in keys {

@@ -11,7 +11,8 @@ pub fn one_reading_of_rules()
 
 /// Bytes have at most one first line that is no rule, and those that have one are no rules.
 pub fn one_first_bad_rule()
-    ensures same { (bytes : List ℕ) (k l : ℕ) → IsFirstBadRule bytes k → IsFirstBadRule bytes l → k ≡ l }
+    ensures same { (bytes : List ℕ) (k l : ℕ) → IsFirstBadRule bytes k → IsFirstBadRule bytes l
+        → k ≡ l }
     ensures no_rules { (bytes rest : List ℕ) (l : ℕ) (rules : List RuleText)
         → IsFirstBadRule bytes l → ¬ AreRules bytes rules rest }
 {}

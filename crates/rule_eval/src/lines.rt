@@ -61,7 +61,8 @@ pub(crate) fn read_rule(alloc: Global, text: &[u8]) -> Result<Option<Rule>, Memo
 
 /// Takes the name of the rows that are summed, and the word before it.
 fn summed_name(cursor: &mut Cursor, alloc: Global) -> Result<Option<String>, Memory>
-    ensures { IfOk result (λ name. MatchOption name (after (codes " sum ") name_at cursor.old.rest.now ≡ None)
+    ensures { IfOk result (λ name.
+        MatchOption name (after (codes " sum ") name_at cursor.old.rest.now ≡ None)
         (λ name. after (codes " sum ") name_at cursor.old.rest.now ≡ Some (string_bytes name, cursor.new.rest.now))) }
 {
     if cursor.literal(b" sum ").is_none() {
@@ -91,7 +92,8 @@ fn word_length(bytes: &[u8]) -> usize
 
 /// Takes the keys that rows are grouped by, and the word before them.
 fn keys(cursor: &mut Cursor, alloc: Global) -> Result<Option<Vec<String>>, Memory>
-    ensures { IfOk result (λ keys. MatchOption keys (after (codes " by") keys_at cursor.old.rest.now ≡ None)
+    ensures { IfOk result (λ keys.
+        MatchOption keys (after (codes " by") keys_at cursor.old.rest.now ≡ None)
         (λ keys. after (codes " by") keys_at cursor.old.rest.now ≡ Some (map string_bytes keys.items, cursor.new.rest.now))) }
 {
     if cursor.literal(b" by").is_none() {

@@ -61,7 +61,8 @@ impl<T: Drop> From<AllocFailed<T>> for RuleFault {
 /// Reads rules, each in a line `rule TEXT sum NAME by TEXT .. over DEC for NAT`, or with `under` in place of `over`, up to the line
 /// `pages`. Answers them, and where the bytes behind that line begin.
 pub fn read_rules(alloc: Global, bytes: &[u8]) -> Result<(Vec<Rule>, usize), RuleFault>
-    ensures rules { IfOk result (λ read. AreRules bytes.now (map rule_text read.0.items) (drop read.1 bytes.now)) }
+    ensures rules { IfOk result (λ read.
+        AreRules bytes.now (map rule_text read.0.items) (drop read.1 bytes.now)) }
     ensures begin { IfOk result (λ read. read.1 ≤ length bytes.now) }
     ensures refused { IfErr result (IsRuleFault bytes.now) }
 {

@@ -24,7 +24,8 @@ impl PromCounter {
 
     /// A counter at 0, with no updates, and its root pass.
     pub fn new(alloc: Global) -> Result<(PromCounter, CellPass), Memory>
-        ensures { IfOk result (λ made. IsCounterPass made.0 made.1 × (view_of made.1 ≡ first) × (known_of made.1 ≡ 0) × Settled (view_of made.1)) }
+        ensures { IfOk result (λ made. IsCounterPass made.0 made.1 × (view_of made.1 ≡ first)
+            × (known_of made.1 ≡ 0) × Settled (view_of made.1)) }
     {
         let (table, seat) = Table::of_words(alloc, &[0, 0], &())?;
         Ok((PromCounter { table }, CellPass { seat, root: true }))
@@ -78,7 +79,8 @@ impl PromCounter {
     pub fn updates(&self, pass: &mut CellPass) -> u64
         requires { IsCounterPass self.now pass.old }
         ensures pass { IsCounterPass self.now pass.new }
-        ensures count { ReadsUpdates (view_of pass.old) (known_of pass.old) result (view_of pass.new) (known_of pass.new) }
+        ensures count { ReadsUpdates (view_of pass.old) (known_of pass.old) result
+            (view_of pass.new) (known_of pass.new) }
     {
         self.table
             .shared
@@ -92,8 +94,10 @@ impl PromCounter {
         requires root { (view_of pass.old).number ≡ 0 }
         ensures made { IsOk result }
         ensures pass { IsCounterPass self.now pass.new × IfOk result (IsCounterPass self.now) }
-        ensures root { (view_of pass.new ≡ lender (view_of pass.old)) × (known_of pass.new ≡ known_of pass.old) }
-        ensures child { IfOk result (λ new. (view_of new ≡ child (view_of pass.old)) × (known_of new ≡ known_of pass.old)) }
+        ensures root { (view_of pass.new ≡ lender (view_of pass.old))
+            × (known_of pass.new ≡ known_of pass.old) }
+        ensures child { IfOk result (λ new. (view_of new ≡ child (view_of pass.old))
+            × (known_of new ≡ known_of pass.old)) }
     {
         let seat = self.table.shared.split_seat::<rules::Loan>(&mut pass.seat);
         Ok(CellPass { seat, root: false })

@@ -24,7 +24,8 @@ impl PromGauge {
 
     /// A gauge at 0, with no updates, and its root pass.
     pub fn new(alloc: Global) -> Result<(PromGauge, CellPass), Memory>
-        ensures { IfOk result (λ made. IsGaugePass made.0 made.1 × (view_of made.1 ≡ first) × (known_of made.1 ≡ 0) × Settled (view_of made.1)) }
+        ensures { IfOk result (λ made. IsGaugePass made.0 made.1 × (view_of made.1 ≡ first)
+            × (known_of made.1 ≡ 0) × Settled (view_of made.1)) }
     {
         let (table, seat) = Table::of_words(alloc, &[0, 0], &())?;
         Ok((PromGauge { table }, CellPass { seat, root: true }))
@@ -98,7 +99,8 @@ impl PromGauge {
     pub fn updates(&self, pass: &mut CellPass) -> u64
         requires { IsGaugePass self.now pass.old }
         ensures pass { IsGaugePass self.now pass.new }
-        ensures count { ReadsUpdates (view_of pass.old) (known_of pass.old) result (view_of pass.new) (known_of pass.new) }
+        ensures count { ReadsUpdates (view_of pass.old) (known_of pass.old) result
+            (view_of pass.new) (known_of pass.new) }
     {
         self.table
             .shared
@@ -112,8 +114,10 @@ impl PromGauge {
         requires root { (view_of pass.old).number ≡ 0 }
         ensures made { IsOk result }
         ensures pass { IsGaugePass self.now pass.new × IfOk result (IsGaugePass self.now) }
-        ensures root { (view_of pass.new ≡ lender (view_of pass.old)) × (known_of pass.new ≡ known_of pass.old) }
-        ensures child { IfOk result (λ new. (view_of new ≡ child (view_of pass.old)) × (known_of new ≡ known_of pass.old)) }
+        ensures root { (view_of pass.new ≡ lender (view_of pass.old))
+            × (known_of pass.new ≡ known_of pass.old) }
+        ensures child { IfOk result (λ new. (view_of new ≡ child (view_of pass.old))
+            × (known_of new ≡ known_of pass.old)) }
     {
         let seat = self.table.shared.split_seat::<rules::Loan>(&mut pass.seat);
         Ok(CellPass { seat, root: false })

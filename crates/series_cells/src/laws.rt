@@ -9,5 +9,6 @@ ghost use Rattle.series_cells.specs.Pass.{view_of, known_of, Follows, ReadsUpdat
 
 /// A call that was made through the facade counts in what `updates` reads with the same pass afterwards.
 pub fn calls_are_counted()
-    ensures { (p q : CellPass) (call : Call) (n now : ℕ) (w : View SeriesCall) → Follows p call q → ReadsUpdates (view_of q) (known_of q) n w now → known_of p < now }
+    ensures { (p q : CellPass) (call : Call) (n now : ℕ) (w : View SeriesCall) → Follows p call q
+        → ReadsUpdates (view_of q) (known_of q) n w now → known_of p < now }
 {}

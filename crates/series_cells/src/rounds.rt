@@ -32,9 +32,13 @@ pub fn run_counters<R: Threads + Wait + Sync, H: LaneHook + Sync>(
     requires fit { AllFit (length counters.old.items) lanes.now }
     requires index { index < length counters.old.items }
     ensures roots { Roots root_of counters.new.items × AtRest root_of counters.new.items }
-    ensures finished { OnOk result (Finished root_of StandsAsCounter lanes.now none_later counters.old.items counters.new.items) }
-    ensures stopped { OnErr result (Stopped root_of StandsAsCounter lanes.now counters.old.items counters.new.items) }
-    ensures value { IfOk result (λ n. (c : Thing SeriesCall PromCounter) → get_elem? counters.old.items index ≡ some c → PlayedByCounter (all_calls_on index lanes.now) c.root n) }
+    ensures finished { OnOk result (Finished root_of StandsAsCounter lanes.now none_later
+        counters.old.items counters.new.items) }
+    ensures stopped { OnErr result (Stopped root_of StandsAsCounter lanes.now counters.old.items
+        counters.new.items) }
+    ensures value { IfOk result (λ n. (c : Thing SeriesCall PromCounter)
+        → get_elem? counters.old.items index ≡ some c
+        → PlayedByCounter (all_calls_on index lanes.now) c.root n) }
 {
     run_and_read(rt, alloc, hook, counters, lanes, index)
 }
@@ -52,9 +56,13 @@ pub fn run_gauges<R: Threads + Wait + Sync, H: LaneHook + Sync>(
     requires fit { AllFit (length gauges.old.items) lanes.now }
     requires index { index < length gauges.old.items }
     ensures roots { Roots root_of gauges.new.items × AtRest root_of gauges.new.items }
-    ensures finished { OnOk result (Finished root_of StandsAsGauge lanes.now none_later gauges.old.items gauges.new.items) }
-    ensures stopped { OnErr result (Stopped root_of StandsAsGauge lanes.now gauges.old.items gauges.new.items) }
-    ensures value { IfOk result (λ value. (c : Thing SeriesCall PromGauge) → get_elem? gauges.old.items index ≡ some c → PlayedByGauge (all_calls_on index lanes.now) c.root value) }
+    ensures finished { OnOk result (Finished root_of StandsAsGauge lanes.now none_later
+        gauges.old.items gauges.new.items) }
+    ensures stopped { OnErr result (Stopped root_of StandsAsGauge lanes.now gauges.old.items
+        gauges.new.items) }
+    ensures value { IfOk result (λ value. (c : Thing SeriesCall PromGauge)
+        → get_elem? gauges.old.items index ≡ some c
+        → PlayedByGauge (all_calls_on index lanes.now) c.root value) }
 {
     run_and_read(rt, alloc, hook, gauges, lanes, index)
 }

@@ -23,7 +23,8 @@ fn take_both(recorder: &SharedRecorder, root: &mut SharedPass, one: SharedPass, 
     requires root { (view_of root.old).number ≡ 0 }
     requires lent { IsLent recorder.now one × IsLent recorder.now other }
     ensures pass { IsPass recorder.now root.new }
-    ensures seen { Waits (taker (taker (view_of root.old) (view_of one)) (view_of other)) (view_of root.new) }
+    ensures seen { Waits (taker (taker (view_of root.old) (view_of one)) (view_of other))
+        (view_of root.new) }
     ensures splits { root.new.splits ≡ root.old.splits }
 {
     recorder.join(root, one);
@@ -58,7 +59,8 @@ fn register_both<R: Threads + Wait + Sync>(
     requires few { root.old.splits + 3 < 2 ^ 64 }
     ensures pass { IsPass recorder.now root.new }
     ensures splits { root.new.splits ≡ root.old.splits + 2 }
-    ensures both { RegistersBoth kind one other result.0 result.1 (view_of root.old) (view_of root.new) }
+    ensures both { RegistersBoth kind one other result.0 result.1 (view_of root.old)
+        (view_of root.new) }
 {
     let pass = recorder.split(root);
     let one = KeyRegistration {
@@ -97,10 +99,13 @@ pub fn register_beside<R: Threads + Wait + Sync>(
     requires few { root.old.splits + 3 < 2 ^ 64 }
     ensures pass { IsPass recorder.now root.new }
     ensures splits { root.new.splits ≡ root.old.splits + 2 }
-    ensures both { IfOk result (λ ids. RegistersBoth kind one other (Ok ids.0) (Ok ids.1) (view_of root.old) (view_of root.new)) }
-    ensures one_id { (e : Exporter) → KnowsBuilt e (view_of root.old) → e.settings.idle ≡ None → key_eq one other ≡ true
+    ensures both { IfOk result (λ ids.
+        RegistersBoth kind one other (Ok ids.0) (Ok ids.1) (view_of root.old) (view_of root.new)) }
+    ensures one_id { (e : Exporter) → KnowsBuilt e (view_of root.old) → e.settings.idle ≡ None
+        → key_eq one other ≡ true
         → IfOk result (λ ids. ids.0 ≡ ids.1) }
-    ensures refused { OnErr result (RegistersOneAtMost kind one other (view_of root.old) (view_of root.new)) }
+    ensures refused { OnErr result (RegistersOneAtMost kind one other (view_of root.old)
+        (view_of root.new)) }
 {
     let (one, other) = register_both(rt, alloc, recorder, root, kind, one, other);
     both_ids(one, other)

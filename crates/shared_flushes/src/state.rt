@@ -53,9 +53,11 @@ fn register_in(
     kind: MetricKind,
     key: &Key,
 ) -> Result<SeriesId, Memory>
-    ensures registered { OnOk result (series_seen state.new.series ≡ register kind key.now (series_seen state.old.series)) }
+    ensures registered { OnOk result (series_seen state.new.series ≡ register kind key.now
+        (series_seen state.old.series)) }
     ensures settings { state.new.settings ≡ state.old.settings }
-    ensures id { IfOk result (λ id. id ≡ record { kind = kind; number = number_given kind key.now state.old.series }) }
+    ensures id { IfOk result (λ id.
+        id ≡ record { kind = kind; number = number_given kind key.now state.old.series }) }
     ensures refused { OnErr result (state.new ≡ state.old) }
 {
     match kind {
@@ -81,7 +83,8 @@ impl SharedState {
         start: HashStart,
         configuration: StateConfiguration,
     ) -> Result<(SharedState, StatePass), Memory>
-        ensures { IfOk result (λ made. IsPass made.0 made.1 × (view_of made.1 ≡ opening (Built (settings_of configuration)))) }
+        ensures { IfOk result (λ made. IsPass made.0 made.1
+            × (view_of made.1 ≡ opening (Built (settings_of configuration)))) }
     {
         let state = State::starting_from(alloc, start, configuration)?;
         match Turns::new(alloc, state) {
@@ -99,7 +102,8 @@ impl SharedState {
         _number: u64,
     )
         requires call { N.call ≡ Register _kind _key.now _number }
-        requires seat { (seat.old.table_id ≡ self.now.turns.table.shared.table_id) × Inside seat.old.me }
+        requires seat { (seat.old.table_id ≡ self.now.turns.table.shared.table_id)
+            × Inside seat.old.me }
         ensures seat { seat.new.table_id ≡ seat.old.table_id }
         ensures counted { Counted (Register _kind _key.now _number) seat.old.me seat.new.me }
     {
@@ -118,7 +122,8 @@ impl SharedState {
     ) -> Result<SeriesId, Memory>
         requires { IsPass self.now pass.old }
         ensures pass { IsPass self.now pass.new }
-        ensures registered { IfOk result (λ id. (id.kind ≡ kind) × Makes (Register kind key.now id.number) (view_of pass.old) (view_of pass.new)) }
+        ensures registered { IfOk result (λ id. (id.kind ≡ kind)
+            × Makes (Register kind key.now id.number) (view_of pass.old) (view_of pass.new)) }
         ensures refused { OnErr result (Waits (view_of pass.old) (view_of pass.new)) }
         ensures splits { pass.new.splits ≡ pass.old.splits }
     {
@@ -147,7 +152,8 @@ impl SharedState {
     ) -> Result<Option<Lent<Arc<DsdCounter>, CounterPass>>, Memory>
         requires { IsPass self.now pass.old }
         ensures pass { IsPass self.now pass.new }
-        ensures lent { IfOk result (λ lent. During (LendsCounter id lent) (view_of pass.old) (view_of pass.new)) }
+        ensures lent { IfOk result (λ lent.
+            During (LendsCounter id lent) (view_of pass.old) (view_of pass.new)) }
         ensures own { IfOk result (λ lent. IsOwn Counter id (view_of pass.old) → ¬ (lent ≡ None)) }
         ensures refused { OnErr result (Waits (view_of pass.old) (view_of pass.new)) }
         ensures splits { pass.new.splits ≡ pass.old.splits }
@@ -175,7 +181,8 @@ impl SharedState {
     ) -> Result<Option<Lent<Arc<DsdGauge>, GaugePass>>, Memory>
         requires { IsPass self.now pass.old }
         ensures pass { IsPass self.now pass.new }
-        ensures lent { IfOk result (λ lent. During (LendsGauge id lent) (view_of pass.old) (view_of pass.new)) }
+        ensures lent { IfOk result (λ lent.
+            During (LendsGauge id lent) (view_of pass.old) (view_of pass.new)) }
         ensures own { IfOk result (λ lent. IsOwn Gauge id (view_of pass.old) → ¬ (lent ≡ None)) }
         ensures refused { OnErr result (Waits (view_of pass.old) (view_of pass.new)) }
         ensures splits { pass.new.splits ≡ pass.old.splits }
@@ -203,8 +210,10 @@ impl SharedState {
     ) -> Result<Option<Lent<Arc<DsdHistogram>, SamplePass<Fixed>>>, Memory>
         requires { IsPass self.now pass.old }
         ensures pass { IsPass self.now pass.new }
-        ensures lent { IfOk result (λ lent. During (LendsHistogram id lent) (view_of pass.old) (view_of pass.new)) }
-        ensures own { IfOk result (λ lent. IsOwn Histogram id (view_of pass.old) → ¬ (lent ≡ None)) }
+        ensures lent { IfOk result (λ lent.
+            During (LendsHistogram id lent) (view_of pass.old) (view_of pass.new)) }
+        ensures own { IfOk result (λ lent. IsOwn Histogram id (view_of pass.old) → ¬ (lent ≡ None))
+            }
         ensures refused { OnErr result (Waits (view_of pass.old) (view_of pass.new)) }
         ensures splits { pass.new.splits ≡ pass.old.splits }
     {
@@ -237,9 +246,13 @@ impl SharedState {
     ) -> Result<u64, Memory>
         requires { IsPass self.now pass.old }
         ensures pass { IsPass self.now pass.new }
-        ensures written { IfOk result (λ left_out. During (λ x y. WritesFlush moment x y flush_state.old flush_state.new writer.old writer.new
+        ensures written { IfOk result (λ left_out.
+            During (λ x y. WritesFlush moment x y flush_state.old flush_state.new writer.old
+            writer.new
             telemetry.old telemetry.new (W.to_come words.old) (W.to_come words.new) left_out) (view_of pass.old) (view_of pass.new)) }
-        ensures refused { OnErr result (During (λ x y. (found : Found) × Flushes moment found x y flush_state.old flush_state.new writer.old writer.new
+        ensures refused { OnErr result (During
+            (λ x y. (found : Found)
+            × Flushes moment found x y flush_state.old flush_state.new writer.old writer.new
             telemetry.old telemetry.new (W.to_come words.old) (W.to_come words.new)) (view_of pass.old) (view_of pass.new)) }
         ensures splits { pass.new.splits ≡ pass.old.splits }
     {

@@ -57,9 +57,11 @@ impl KeptState {
         kind: MetricKind,
         key: &Key,
     ) -> Result<SeriesId, Memory>
-        ensures registered { OnOk result (state_of self.new ≡ register kind key.now (state_of self.old)) }
+        ensures registered { OnOk result (state_of self.new ≡ register kind key.now
+            (state_of self.old)) }
         ensures settings { self.new.settings ≡ self.old.settings }
-        ensures id { IfOk result (λ id. id ≡ record { kind = kind; number = number_given kind key.now (state_of self.old) }) }
+        ensures id { IfOk result (λ id.
+            id ≡ record { kind = kind; number = number_given kind key.now (state_of self.old) }) }
         ensures refused { OnErr result (self.new ≡ self.old) }
     {
         match kind {
@@ -79,7 +81,8 @@ impl KeptState {
         unit: Option<Unit>,
         description: SharedString,
     ) -> Result<(), Memory>
-        ensures described { OnOk result (state_of self.new ≡ describe name unit (cow_text description.entry) (state_of self.old)) }
+        ensures described { OnOk result (state_of self.new ≡ describe name unit
+            (cow_text description.entry) (state_of self.old)) }
         ensures others { self.new ≡ record self.old { said = self.new.said } }
         ensures refused { OnErr result (self.new ≡ self.old) }
     {
@@ -106,13 +109,20 @@ impl KeptState {
         sink: &mut K,
     ) -> Result<Result<(), BuildError>, Memory>
         ensures numbered { IsNumbered self.old.series }
-        ensures refused { OnErr result (DrainsEach DrainsInPart self.old self.new × (K.written sink.new ≡ K.written sink.old)) }
+        ensures refused { OnErr result (DrainsEach DrainsInPart self.old self.new
+            × (K.written sink.new ≡ K.written sink.old)) }
         ensures part { OnOk result (MakesPart moment self.old self.new) }
         ensures page { IfOk result (λ page. OnOk page (MakesPage moment self.old self.new)) }
-        ensures body { IfOk result (λ page. OnOk page (GrewBy (K.written sink.old) (K.written sink.new) (written_body moment self.new))) }
-        ensures prefix { IfOk result (λ page. OnErr page (GrewByPrefix (K.written sink.old) (K.written sink.new) (written_body moment self.new))) }
-        ensures errors { IfOk result (λ page. IfErr page (λ error. (error ≡ BuildError.WriteFault) ⊎ (error ≡ BuildError.Memory))) }
-        ensures cause { IfOk result (λ page. page ≡ Err BuildError.WriteFault → Rose (K.faults sink.old) (K.faults sink.new)) }
+        ensures body { IfOk result (λ page.
+            OnOk page (GrewBy (K.written sink.old) (K.written sink.new)
+            (written_body moment self.new))) }
+        ensures prefix { IfOk result (λ page.
+            OnErr page (GrewByPrefix (K.written sink.old) (K.written sink.new)
+            (written_body moment self.new))) }
+        ensures errors { IfOk result (λ page.
+            IfErr page (λ error. (error ≡ BuildError.WriteFault) ⊎ (error ≡ BuildError.Memory))) }
+        ensures cause { IfOk result (λ page. page ≡ Err BuildError.WriteFault
+            → Rose (K.faults sink.old) (K.faults sink.new)) }
         ensures never_falls { K.faults sink.old ≤ K.faults sink.new }
     {
         // The clause on numbers is of this call.

@@ -71,7 +71,8 @@ impl SharedRecorder {
         alloc: Global,
         state: PrometheusState,
     ) -> Result<(SharedRecorder, SharedPass), Memory>
-        ensures { IfOk result (λ made. IsPass made.0 made.1 × (view_of made.1 ≡ opening (Built state))) }
+        ensures { IfOk result (λ made. IsPass made.0 made.1
+            × (view_of made.1 ≡ opening (Built state))) }
     {
         match Turns::new(alloc, KeptState::of(state)) {
             Ok((turns, pass)) => Ok((SharedRecorder { turns }, pass)),
@@ -88,7 +89,8 @@ impl SharedRecorder {
         _number: u64,
     )
         requires call { N.call ≡ Register _kind _key.now _number }
-        requires seat { (seat.old.table_id ≡ self.now.turns.table.shared.table_id) × Inside seat.old.me }
+        requires seat { (seat.old.table_id ≡ self.now.turns.table.shared.table_id)
+            × Inside seat.old.me }
         ensures seat { seat.new.table_id ≡ seat.old.table_id }
         ensures counted { Counted (Register _kind _key.now _number) seat.old.me seat.new.me }
     {
@@ -104,9 +106,11 @@ impl SharedRecorder {
         _text: Snapshot<SharedString>,
     )
         requires call { N.call ≡ Describe _name.value _unit.value (cow_text _text.value) }
-        requires seat { (seat.old.table_id ≡ self.now.turns.table.shared.table_id) × Inside seat.old.me }
+        requires seat { (seat.old.table_id ≡ self.now.turns.table.shared.table_id)
+            × Inside seat.old.me }
         ensures seat { seat.new.table_id ≡ seat.old.table_id }
-        ensures counted { Counted (Describe _name.value _unit.value (cow_text _text.entry.value)) seat.old.me seat.new.me }
+        ensures counted { Counted (Describe _name.value _unit.value (cow_text _text.entry.value))
+            seat.old.me seat.new.me }
     {
         self.turns.count::<N>(seat);
     }
@@ -119,16 +123,19 @@ impl SharedRecorder {
         _after: &KeptState,
     )
         requires call { N.call ≡ Page (gone_of _before.value _after.now) }
-        requires seat { (seat.old.table_id ≡ self.now.turns.table.shared.table_id) × Inside seat.old.me }
+        requires seat { (seat.old.table_id ≡ self.now.turns.table.shared.table_id)
+            × Inside seat.old.me }
         ensures seat { seat.new.table_id ≡ seat.old.table_id }
-        ensures counted { Counted (Page (gone_of _before.value _after.now)) seat.old.me seat.new.me }
+        ensures counted { Counted (Page (gone_of _before.value _after.now)) seat.old.me seat.new.me
+            }
     {
         self.turns.count::<N>(seat);
     }
 
     // Ends the turn of a call that was refused for want of memory and made no entry.
     fn refuse(&self, seat: &mut SharedSeat, state: Box<KeptState>) -> Memory
-        requires seat { (seat.old.table_id ≡ self.now.turns.table.shared.table_id) × Inside seat.old.me }
+        requires seat { (seat.old.table_id ≡ self.now.turns.table.shared.table_id)
+            × Inside seat.old.me }
         requires value { StandsFor (calls seat.old.me.0.history.seen) state.value }
         ensures seat { seat.new.table_id ≡ seat.old.table_id }
         ensures left { Left seat.old.me seat.new.me }
@@ -149,7 +156,8 @@ impl SharedRecorder {
     ) -> Result<SeriesId, Memory>
         requires { IsPass self.now pass.old }
         ensures pass { Stays self.now pass.old pass.new }
-        ensures registered { IfOk result (λ id. (id.kind ≡ kind) × Makes (Register kind key.now id.number) (view_of pass.old) (view_of pass.new)) }
+        ensures registered { IfOk result (λ id. (id.kind ≡ kind)
+            × Makes (Register kind key.now id.number) (view_of pass.old) (view_of pass.new)) }
         ensures refused { OnErr result (Waits (view_of pass.old) (view_of pass.new)) }
     {
         let mut state = self.turns.enter(rt, &mut pass.seat);
@@ -174,7 +182,8 @@ impl SharedRecorder {
     ) -> Result<SeriesId, Memory>
         requires { IsPass self.now pass.old }
         ensures pass { Stays self.now pass.old pass.new }
-        ensures registered { IfOk result (λ id. (id.kind ≡ Counter) × Makes (Register Counter key.now id.number) (view_of pass.old) (view_of pass.new)) }
+        ensures registered { IfOk result (λ id. (id.kind ≡ Counter)
+            × Makes (Register Counter key.now id.number) (view_of pass.old) (view_of pass.new)) }
         ensures refused { OnErr result (Waits (view_of pass.old) (view_of pass.new)) }
     {
         self.register(rt, alloc, pass, MetricKind::Counter, key)
@@ -190,7 +199,8 @@ impl SharedRecorder {
     ) -> Result<SeriesId, Memory>
         requires { IsPass self.now pass.old }
         ensures pass { Stays self.now pass.old pass.new }
-        ensures registered { IfOk result (λ id. (id.kind ≡ Gauge) × Makes (Register Gauge key.now id.number) (view_of pass.old) (view_of pass.new)) }
+        ensures registered { IfOk result (λ id. (id.kind ≡ Gauge)
+            × Makes (Register Gauge key.now id.number) (view_of pass.old) (view_of pass.new)) }
         ensures refused { OnErr result (Waits (view_of pass.old) (view_of pass.new)) }
     {
         self.register(rt, alloc, pass, MetricKind::Gauge, key)
@@ -206,7 +216,8 @@ impl SharedRecorder {
     ) -> Result<SeriesId, Memory>
         requires { IsPass self.now pass.old }
         ensures pass { Stays self.now pass.old pass.new }
-        ensures registered { IfOk result (λ id. (id.kind ≡ Histogram) × Makes (Register Histogram key.now id.number) (view_of pass.old) (view_of pass.new)) }
+        ensures registered { IfOk result (λ id. (id.kind ≡ Histogram)
+            × Makes (Register Histogram key.now id.number) (view_of pass.old) (view_of pass.new)) }
         ensures refused { OnErr result (Waits (view_of pass.old) (view_of pass.new)) }
     {
         self.register(rt, alloc, pass, MetricKind::Histogram, key)
@@ -225,7 +236,8 @@ impl SharedRecorder {
     ) -> Result<(), Memory>
         requires { IsPass self.now pass.old }
         ensures pass { Stays self.now pass.old pass.new }
-        ensures described { OnOk result (Makes (Describe name unit (cow_text description.entry)) (view_of pass.old) (view_of pass.new)) }
+        ensures described { OnOk result (Makes (Describe name unit (cow_text description.entry))
+            (view_of pass.old) (view_of pass.new)) }
         ensures refused { OnErr result (Waits (view_of pass.old) (view_of pass.new)) }
     {
         let said_name = Snapshot::of(&name);
@@ -255,7 +267,8 @@ impl SharedRecorder {
     ) -> Result<(), Memory>
         requires { IsPass self.now pass.old }
         ensures pass { Stays self.now pass.old pass.new }
-        ensures described { OnOk result (Makes (Describe name unit (cow_text description.entry)) (view_of pass.old) (view_of pass.new)) }
+        ensures described { OnOk result (Makes (Describe name unit (cow_text description.entry))
+            (view_of pass.old) (view_of pass.new)) }
         ensures refused { OnErr result (Waits (view_of pass.old) (view_of pass.new)) }
     {
         self.describe(
@@ -281,7 +294,8 @@ impl SharedRecorder {
     ) -> Result<(), Memory>
         requires { IsPass self.now pass.old }
         ensures pass { Stays self.now pass.old pass.new }
-        ensures described { OnOk result (Makes (Describe name unit (cow_text description.entry)) (view_of pass.old) (view_of pass.new)) }
+        ensures described { OnOk result (Makes (Describe name unit (cow_text description.entry))
+            (view_of pass.old) (view_of pass.new)) }
         ensures refused { OnErr result (Waits (view_of pass.old) (view_of pass.new)) }
     {
         self.describe(rt, alloc, pass, MetricKind::Gauge, name, unit, description)
@@ -299,7 +313,8 @@ impl SharedRecorder {
     ) -> Result<(), Memory>
         requires { IsPass self.now pass.old }
         ensures pass { Stays self.now pass.old pass.new }
-        ensures described { OnOk result (Makes (Describe name unit (cow_text description.entry)) (view_of pass.old) (view_of pass.new)) }
+        ensures described { OnOk result (Makes (Describe name unit (cow_text description.entry))
+            (view_of pass.old) (view_of pass.new)) }
         ensures refused { OnErr result (Waits (view_of pass.old) (view_of pass.new)) }
     {
         self.describe(
@@ -323,8 +338,10 @@ impl SharedRecorder {
     ) -> Result<Option<Lent<facade::Counter<PromCounter>, CellPass>>, Memory>
         requires { IsPass self.now pass.old }
         ensures pass { Stays self.now pass.old pass.new }
-        ensures lent { IfOk result (λ lent. Lends (LendsCounter id lent) (view_of pass.old) (view_of pass.new)) }
-        ensures fits { IfOk result (λ lent. IfSome lent (λ lent. Fits IsCounterPass lent.handle lent.pass)) }
+        ensures lent { IfOk result (λ lent.
+            Lends (LendsCounter id lent) (view_of pass.old) (view_of pass.new)) }
+        ensures fits { IfOk result (λ lent.
+            IfSome lent (λ lent. Fits IsCounterPass lent.handle lent.pass)) }
         ensures own { IfOk result (λ lent. IsOwn Counter id (view_of pass.old) → ¬ (lent ≡ None)) }
         ensures refused { OnErr result (Waits (view_of pass.old) (view_of pass.new)) }
     {
@@ -348,8 +365,10 @@ impl SharedRecorder {
     ) -> Result<Option<Lent<facade::Gauge<PromGauge>, CellPass>>, Memory>
         requires { IsPass self.now pass.old }
         ensures pass { Stays self.now pass.old pass.new }
-        ensures lent { IfOk result (λ lent. Lends (LendsGauge id lent) (view_of pass.old) (view_of pass.new)) }
-        ensures fits { IfOk result (λ lent. IfSome lent (λ lent. Fits IsGaugePass lent.handle lent.pass)) }
+        ensures lent { IfOk result (λ lent.
+            Lends (LendsGauge id lent) (view_of pass.old) (view_of pass.new)) }
+        ensures fits { IfOk result (λ lent.
+            IfSome lent (λ lent. Fits IsGaugePass lent.handle lent.pass)) }
         ensures own { IfOk result (λ lent. IsOwn Gauge id (view_of pass.old) → ¬ (lent ≡ None)) }
         ensures refused { OnErr result (Waits (view_of pass.old) (view_of pass.new)) }
     {
@@ -373,9 +392,12 @@ impl SharedRecorder {
     ) -> Result<Option<Lent<facade::Histogram<PromHistogram>, SamplePass<(Fixed, u64)>>>, Memory>
         requires { IsPass self.now pass.old }
         ensures pass { Stays self.now pass.old pass.new }
-        ensures lent { IfOk result (λ lent. Lends (LendsHistogram id lent) (view_of pass.old) (view_of pass.new)) }
-        ensures fits { IfOk result (λ lent. IfSome lent (λ lent. Fits IsSamplePass lent.handle lent.pass)) }
-        ensures own { IfOk result (λ lent. IsOwn Histogram id (view_of pass.old) → ¬ (lent ≡ None)) }
+        ensures lent { IfOk result (λ lent.
+            Lends (LendsHistogram id lent) (view_of pass.old) (view_of pass.new)) }
+        ensures fits { IfOk result (λ lent.
+            IfSome lent (λ lent. Fits IsSamplePass lent.handle lent.pass)) }
+        ensures own { IfOk result (λ lent. IsOwn Histogram id (view_of pass.old) → ¬ (lent ≡ None))
+            }
         ensures refused { OnErr result (Waits (view_of pass.old) (view_of pass.new)) }
     {
         let mut state = self.turns.enter(rt, &mut pass.seat);
@@ -401,11 +423,16 @@ impl SharedRecorder {
     ) -> Result<(), BuildError>
         requires { IsPass self.now pass.old }
         ensures pass { Stays self.now pass.old pass.new }
-        ensures page { OnOk result ((y : Exporter) × Paged (MakesPage moment) y (view_of pass.old) (view_of pass.new) × GrewBy (K.written sink.old) (K.written sink.new) (written_body moment y)) }
-        ensures refused { OnErr result ((Waits (view_of pass.old) (view_of pass.new) × (K.written sink.new ≡ K.written sink.old))
+        ensures page { OnOk result ((y : Exporter)
+            × Paged (MakesPage moment) y (view_of pass.old) (view_of pass.new)
+            × GrewBy (K.written sink.old) (K.written sink.new) (written_body moment y)) }
+        ensures refused { OnErr result ((Waits (view_of pass.old) (view_of pass.new)
+            × (K.written sink.new ≡ K.written sink.old))
             ⊎ ((y : Exporter) × Paged (MakesPart moment) y (view_of pass.old) (view_of pass.new) × GrewByPrefix (K.written sink.old) (K.written sink.new) (written_body moment y))) }
-        ensures errors { IfErr result (λ error. (error ≡ BuildError.WriteFault) ⊎ (error ≡ BuildError.Memory)) }
-        ensures cause { result ≡ Err BuildError.WriteFault → Rose (K.faults sink.old) (K.faults sink.new) }
+        ensures errors { IfErr result (λ error. (error ≡ BuildError.WriteFault)
+            ⊎ (error ≡ BuildError.Memory)) }
+        ensures cause { result ≡ Err BuildError.WriteFault
+            → Rose (K.faults sink.old) (K.faults sink.new) }
         ensures never_falls { K.faults sink.old ≤ K.faults sink.new }
     {
         let mut state = self.turns.enter(rt, &mut pass.seat);
@@ -432,8 +459,11 @@ impl SharedRecorder {
     ) -> Result<String, Memory>
         requires { IsPass self.now pass.old }
         ensures pass { Stays self.now pass.old pass.new }
-        ensures page { IfOk result (λ text. (y : Exporter) × Paged (MakesPage moment) y (view_of pass.old) (view_of pass.new) × (string_bytes text ≡ written_body moment y)) }
-        ensures refused { OnErr result (Waits (view_of pass.old) (view_of pass.new) ⊎ ((y : Exporter) × Paged (MakesPart moment) y (view_of pass.old) (view_of pass.new))) }
+        ensures page { IfOk result (λ text. (y : Exporter)
+            × Paged (MakesPage moment) y (view_of pass.old) (view_of pass.new)
+            × (string_bytes text ≡ written_body moment y)) }
+        ensures refused { OnErr result (Waits (view_of pass.old) (view_of pass.new)
+            ⊎ ((y : Exporter) × Paged (MakesPart moment) y (view_of pass.old) (view_of pass.new))) }
     {
         let mut sink = TextSink::new(alloc);
         match self.render_to_write(rt, alloc, pass, moment, &mut sink) {
@@ -453,7 +483,8 @@ impl SharedRecorder {
     ) -> Result<(), Memory>
         requires { IsPass self.now pass.old }
         ensures pass { Stays self.now pass.old pass.new }
-        ensures kept { OnOk result ((y : Exporter) × Paged KeepsUp y (view_of pass.old) (view_of pass.new)) }
+        ensures kept { OnOk result ((y : Exporter)
+            × Paged KeepsUp y (view_of pass.old) (view_of pass.new)) }
         ensures refused { OnErr result (Waits (view_of pass.old) (view_of pass.new)) }
     {
         let mut state = self.turns.enter(rt, &mut pass.seat);

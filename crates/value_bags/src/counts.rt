@@ -43,7 +43,8 @@ fn count_one<V: Eq + Hash + Drop>(
     value: &Arc<V>,
 ) -> Result<(), AllocError>
     requires { total (with_keys arc_value counts.old.entries) + 1 < 2 ^ 64 }
-    ensures counted { OnOk result (with_keys arc_value counts.new.entries ≡ count_up V.eq (with_keys arc_value counts.old.entries) (arc_value value.now)) }
+    ensures counted { OnOk result (with_keys arc_value counts.new.entries ≡ count_up V.eq
+        (with_keys arc_value counts.old.entries) (arc_value value.now)) }
     ensures refused { OnErr result (counts.new.entries ≡ counts.old.entries) }
 {
     if let Some(count) = counts.get_mut(value) {
@@ -57,8 +58,10 @@ fn count_one<V: Eq + Hash + Drop>(
 
 /// Counts one less of a value, and answers whether it was there.
 fn uncount_one<V: Eq + Hash + Drop>(counts: &mut IndexMap<Arc<V>, u64>, value: &Arc<V>) -> bool
-    ensures uncounted { with_keys arc_value counts.new.entries ≡ count_down V.eq (with_keys arc_value counts.old.entries) (arc_value value.now) }
-    ensures found { result ≡ is_some (lookup (V.eq (arc_value value.now)) (with_keys arc_value counts.old.entries)) }
+    ensures uncounted { with_keys arc_value counts.new.entries ≡ count_down V.eq
+        (with_keys arc_value counts.old.entries) (arc_value value.now) }
+    ensures found { result ≡ is_some
+        (lookup (V.eq (arc_value value.now)) (with_keys arc_value counts.old.entries)) }
 {
     let Some(count) = counts.get_mut(value) else {
         return false;

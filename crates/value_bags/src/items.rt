@@ -8,7 +8,8 @@ use std::sync::Arc;
 
 /// Takes out the first occurrence of a value, where there is one.
 pub(crate) fn remove_first<V: Eq + Drop>(items: &mut Vec<Arc<V>>, value: &Arc<V>)
-    ensures { map arc_value items.new.items ≡ without_first (V.eq (arc_value value.now)) (map arc_value items.old.items) }
+    ensures { map arc_value items.new.items ≡ without_first (V.eq (arc_value value.now))
+        (map arc_value items.old.items) }
 {
     if let Some(place) = place_of(items, value) {
         items.remove(place);
