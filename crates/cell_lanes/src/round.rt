@@ -210,12 +210,12 @@ fn lend_and_run<R: Threads + Wait + Sync, H: LaneHook + Sync, S: Lenders>(
     requires taken { AllTaken fixed_of S.takes (S.things shared.old) lanes.now }
     requires room { (jobs.old.items ≡ []) × (vec_len jobs.old ≡ 0)
         × (length lanes.now ≤ vec_capacity jobs.old) }
-    ensures many { length (S.things shared.new) ≡ length (S.things shared.old) }
-    ensures frame { S.frame shared.new ≡ S.frame shared.old }
+    ensures kept { (length (S.things shared.new) ≡ length (S.things shared.old))
+        × (S.frame shared.new ≡ S.frame shared.old) }
     ensures lends { Each (λ j. Lends root_of (Stays S.lasts fixed_of) (lent_on j jobs.new.items))
         (S.things shared.old) (S.things shared.new) }
-    ensures fit { JobsFit (Owns fixed_of S.owns) (S.things shared.new) jobs.new.items }
-    ensures few { length jobs.new.items ≤ length lanes.now }
+    ensures fit { JobsFit (Owns fixed_of S.owns) (S.things shared.new) jobs.new.items
+        × (length jobs.new.items ≤ length lanes.now) }
     ensures ran { JobsRan S.knows S.stands_as lanes.now jobs.new.items }
     ensures ok { OnOk result (AllDone lanes.now (done_of jobs.new.items)) }
     ensures refused { OnErr result (Unfinished lanes.now (done_of jobs.new.items)) }

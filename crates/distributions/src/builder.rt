@@ -76,8 +76,7 @@ impl DistributionBuilder {
         requires bounds { IfSome buckets (λ bounds. has_bound bounds ≡ true) }
         requires bounds_for { all_have_bounds bucket_overrides.items ≡ true }
         requires wide { 0 < duration_or_default bucket_duration }
-        requires fits { count_or_default bucket_count * duration_or_default bucket_duration < 2 ^ 64
-            }
+        requires fits { count_or_default bucket_count * duration_or_default bucket_duration < 2 ^ 64 }
         ensures kinds { let overrides = bucket_overrides.items in
             let natives = native_histogram_overrides.items in
             let given = given_rules quantiles.items bucket_duration buckets bucket_count overrides natives in

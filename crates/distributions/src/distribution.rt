@@ -52,8 +52,7 @@ impl Distribution {
     /// A cumulative histogram of no samples, with these bounds.
     pub fn new_histogram(alloc: Global, buckets: &[Fixed]) -> Result<Distribution, Memory>
         requires { 0 < length buckets.now }
-        ensures { IfOk result (StandsFor (kinds.Histogram (map (λ bound. bound.0) buckets.now)) [])
-            }
+        ensures { IfOk result (StandsFor (kinds.Histogram (map (λ bound. bound.0) buckets.now)) []) }
     {
         Ok(Distribution::Histogram(CumulativeHistogram::new(alloc, buckets)?))
     }
@@ -91,8 +90,7 @@ impl Distribution {
         alloc: Global,
         samples: &[(Fixed, u64)],
     ) -> Result<(), RecordSamplesFault>
-        ensures recorded { OnOk result (FoldsTo Records self.old (samples_of samples.now) self.new)
-            }
+        ensures recorded { OnOk result (FoldsTo Records self.old (samples_of samples.now) self.new) }
         ensures stands { OnOk result (StandsForMore self.old (samples_of samples.now) self.new) }
 
         // After a refusal the first `done` samples are recorded and no more.

@@ -94,8 +94,7 @@ pub(crate) fn read_pieces<R: Threads + Sync>(
     start: HashStart,
     bytes: &[u8],
 ) -> Result<Option<Script>, Memory>
-    ensures { IfOk result (λ read. IfSome read (λ script. IsScriptOf bytes.now (script_of script)))
-        }
+    ensures { IfOk result (λ read. IfSome read (λ script. IsScriptOf bytes.now (script_of script))) }
 {
     let mut progress = ScriptSoFar::new(alloc, start);
     let least = piece_bytes(bytes.len());

@@ -226,9 +226,10 @@ impl DogStatsDBuilder {
 
     /// Sets whether histograms are sent as distributions.
     pub fn send_histograms_as_distributions(mut self, distributions: bool) -> DogStatsDBuilder
-        ensures { result ≡ record self
-            { configuration = record self.configuration
-            { histograms_as_distributions = distributions } } }
+        ensures { result ≡ record self {
+          configuration = record self.configuration
+              { histograms_as_distributions = distributions };
+        } }
     {
         self.configuration.histograms_as_distributions = distributions;
         self

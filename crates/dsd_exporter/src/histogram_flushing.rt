@@ -107,8 +107,7 @@ impl State {
         ensures sent { OnOk result (SendsTaken self.now.settings place self.now.series.histograms
             writer.old writer.new telemetry.old telemetry.new (W.to_come words.old)
             (W.to_come words.new)) }
-        ensures refused { OnErr result (Sends [] writer.old writer.new telemetry.old telemetry.new)
-            }
+        ensures refused { OnErr result (Sends [] writer.old writer.new telemetry.old telemetry.new) }
         ensures drawn { (drawn : List ℕ) × Draws (W.to_come words.old) drawn (W.to_come words.new) }
     {
         let series = self.series.histograms();
@@ -140,8 +139,7 @@ impl State {
         ensures others { self.new ≡ record self.old
             { series = record self.old.series { histograms = self.new.series.histograms } } }
         ensures refused { OnErr result (ChangesAt place Drains self.old.series.histograms
-            self.new.series.histograms × Sends [] writer.old writer.new telemetry.old telemetry.new)
-            }
+            self.new.series.histograms × Sends [] writer.old writer.new telemetry.old telemetry.new) }
         ensures drawn { (drawn : List ℕ) × Draws (W.to_come words.old) drawn (W.to_come words.new) }
     {
         self.drain_histogram(rt, place)?;
@@ -186,8 +184,7 @@ impl StateConfiguration {
             × DrawsFor (settings_of self.now) (samples_in histogram.now.taken) drawn
             (W.to_come words.old) (W.to_come words.new)
             × SendsSamples (settings_of self.now) key.now (samples_in histogram.now.taken) drawn writer.old writer.new telemetry.old telemetry.new) }
-        ensures refused { OnErr result (Sends [] writer.old writer.new telemetry.old telemetry.new)
-            }
+        ensures refused { OnErr result (Sends [] writer.old writer.new telemetry.old telemetry.new) }
         ensures drawn { (drawn : List ℕ) × Draws (W.to_come words.old) drawn (W.to_come words.new) }
     {
         if !histogram.has_samples() {

@@ -1,14 +1,13 @@
 //! Where payloads are handed to, and links in memory, for tests and for callers that have no network.
 
-ghost use Rattle.std.specs.Prelude.{◌≡◌, ℕ, ◌≤◌, List, [], ◌∷◌, ◌++◌, Option, option_map, Some, None, OnErr, OnOk, IsOk, IfOk, false};
+ghost use Rattle.std.specs.Prelude.{◌≡◌, ℕ, ◌≤◌, List, [], ◌∷◌, ◌++◌, Option, option_map, Some, None, OnErr, OnOk, IsOk, IfOk, false, is_err};
 ghost use Rattle.metrics_core.specs.Outside.{Rose, GrewBy};
-ghost use Rattle.metrics_core.specs.Devices.{one_more, is_listed};
+ghost use Rattle.metrics_core.specs.Devices.{after_call, is_listed};
 ghost use Rattle.dsd_addresses.specs.Remotes.{RemoteText, remote_text};
 ghost use Rattle.dsd_exporter.specs.Links.{SentText};
 
 use dsd_addresses::RemoteAddr;
-use failing_calls::FailingCalls;
-use metrics_core::{Failed, Memory};
+use metrics_core::{Failed, FailingCalls, Memory};
 use std::alloc::Global;
 use std::marker::Model;
 
@@ -87,8 +86,7 @@ impl Model for MemoryLink {
 
 /// The same address, where there is one.
 fn copied(alloc: Global, address: &Option<RemoteAddr>) -> Result<Option<RemoteAddr>, Memory>
-    ensures { IfOk result (λ copy. option_map remote_text copy ≡ option_map remote_text address.now)
-        }
+    ensures { IfOk result (λ copy. option_map remote_text copy ≡ option_map remote_text address.now) }
 {
     match address {
         Some(address) => Ok(Some(address.clone(alloc)?)),
@@ -99,9 +97,12 @@ fn copied(alloc: Global, address: &Option<RemoteAddr>) -> Result<Option<RemoteAd
 impl MemoryLink {
     /// The link that isn't aimed yet, has sent nothing, and whose sends with the numbers in `failing`, counted from 0, fail.
     pub fn new(alloc: Global, failing: Vec<u64>) -> MemoryLink
-        ensures { result ≡ record
-            { aimed = None; sent = []; calls = record
-            { failing = failing.items; number = 0; faults = 0 } } }
+        ensures { result ≡ record {
+          aimed = None;
+          sent = [];
+          calls = record
+              { failing = failing.items; number = 0; faults = 0 };
+        } }
     {
         MemoryLink {
             alloc,
@@ -129,8 +130,7 @@ impl MemoryLink {
     fn keep(&mut self, payload: &[u8]) -> Result<(), Memory>
         ensures kept { OnOk result (self.new
             ≡ record self.old
-            { sent = self.old.sent ++ record { to = self.old.aimed; payload = payload.now } ∷ [] })
-            }
+            { sent = self.old.sent ++ record { to = self.old.aimed; payload = payload.now } ∷ [] }) }
         ensures refused { OnErr result (self.new ≡ self.old) }
     {
         let to = copied(self.alloc, &self.aimed)?;
@@ -166,11 +166,9 @@ impl Link for MemoryLink {
         ensures cause { OnErr result (Rose self.old.calls.faults self.new.calls.faults) }
         ensures never_falls { self.old.calls.faults ≤ self.new.calls.faults }
         ensures aimed { self.new.aimed ≡ self.old.aimed }
-        ensures fails { OnOk result (is_listed self.old.calls.failing self.old.calls.number ≡ false)
-            }
-        ensures next { self.new.calls.number ≡ one_more self.old.calls.number }
-        ensures list { self.new.calls.failing ≡ self.old.calls.failing }
-        ensures no_fault { OnOk result (self.new.calls.faults ≡ self.old.calls.faults) }
+        ensures fails { OnOk result
+            (is_listed self.old.calls.failing self.old.calls.number ≡ false) }
+        ensures after { self.new.calls ≡ after_call (is_err result) self.old.calls }
     {
         if self.calls.next_fails() {
             self.calls.fault();

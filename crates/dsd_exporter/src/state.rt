@@ -90,8 +90,7 @@ impl State {
     pub fn register_counter(&mut self, alloc: Global, key: &Key) -> Result<SeriesId, Memory>
         ensures registered { OnOk result (series_seen self.new.series ≡ register Counter key.now
             (series_seen self.old.series)) }
-        ensures cells { OnOk result ((self.new ≡ self.old) ⊎ AddsCounter key.now self.old self.new)
-            }
+        ensures cells { OnOk result ((self.new ≡ self.old) ⊎ AddsCounter key.now self.old self.new) }
         ensures home { AllHome self.old → AllHome self.new }
         ensures id { IfOk result (λ id.
             id ≡ record { kind = Counter; number = number_given Counter key.now self.old.series }) }
@@ -211,7 +210,9 @@ impl State {
             ⊎ AddsHistogram key.now self.old self.new) }
         ensures home { AllHome self.old → AllHome self.new }
         ensures id { IfOk result (λ id.
-            id ≡ record { kind = Histogram; number = number_given Histogram key.now self.old.series
+            id ≡ record {
+              kind = Histogram;
+              number = number_given Histogram key.now self.old.series;
             }) }
         ensures absent { OnErr result (number_found Histogram key.now self.old.series ≡ None) }
         ensures refused { OnErr result (self.new ≡ self.old) }

@@ -127,12 +127,12 @@ fn fill(
         OnOk result (noted lengths.new.items ≡ noted lengths.old.items ++ map length lines) }
     ensures written { IfOk result (λ written.
         written ≡ written_of limit item.now (spelled_values values.now)) }
-    ensures kept_bytes { take (length bytes.old.items) bytes.new.items ≡ bytes.old.items }
-    ensures kept_starts { take (length starts.old.items) starts.new.items ≡ starts.old.items }
-    ensures kept_lengths { take (length lengths.old.items) lengths.new.items ≡ lengths.old.items }
-    ensures bytes_capacity { vec_capacity bytes.old ≤ vec_capacity bytes.new }
-    ensures starts_capacity { vec_capacity starts.old ≤ vec_capacity starts.new }
-    ensures lengths_capacity { vec_capacity lengths.old ≤ vec_capacity lengths.new }
+    ensures kept { (take (length bytes.old.items) bytes.new.items ≡ bytes.old.items)
+        × (take (length starts.old.items) starts.new.items ≡ starts.old.items)
+        × (take (length lengths.old.items) lengths.new.items ≡ lengths.old.items) }
+    ensures capacities { (vec_capacity bytes.old ≤ vec_capacity bytes.new)
+        × (vec_capacity starts.old ≤ vec_capacity starts.new)
+        × (vec_capacity lengths.old ≤ vec_capacity lengths.new) }
     ensures no_memory { let before = payloads_at on_stream starts.old.items bytes.old.items in
         let lines = lines_of limit item.now (spelled_values values.now) in
         stored_length on_stream (filled limit before lines) ≤ vec_capacity bytes.old

@@ -86,15 +86,15 @@ pub(crate) fn make_way(
     ensures starts { let takes = last_takes limit
         (payloads_at on_stream starts.old.items bytes.old.items) line_length in
         OnOk result (starts.new.items ≡ starts.old.items ++ start_of_line takes bytes.old.items) }
-    ensures lengths { lengths.new.items ≡ lengths.old.items }
-    ensures lengths_len { vec_len lengths.new ≡ vec_len lengths.old }
-    ensures err_bytes { OnErr result (bytes.new.items ≡ bytes.old.items) }
-    ensures err_starts { OnErr result (starts.new.items ≡ starts.old.items) }
-    ensures lengths_room { OnOk result (vec_len lengths.new < vec_capacity lengths.new) }
-    ensures room { OnOk result (vec_len bytes.new + line_length ≤ vec_capacity bytes.new) }
-    ensures bytes_capacity { vec_capacity bytes.old ≤ vec_capacity bytes.new }
-    ensures starts_capacity { vec_capacity starts.old ≤ vec_capacity starts.new }
-    ensures lengths_capacity { vec_capacity lengths.old ≤ vec_capacity lengths.new }
+    ensures lengths { (lengths.new.items ≡ lengths.old.items)
+        × (vec_len lengths.new ≡ vec_len lengths.old) }
+    ensures refused { OnErr result ((bytes.new.items ≡ bytes.old.items)
+        × (starts.new.items ≡ starts.old.items)) }
+    ensures room { OnOk result ((vec_len lengths.new < vec_capacity lengths.new)
+        × (vec_len bytes.new + line_length ≤ vec_capacity bytes.new)) }
+    ensures capacities { (vec_capacity bytes.old ≤ vec_capacity bytes.new)
+        × (vec_capacity starts.old ≤ vec_capacity starts.new)
+        × (vec_capacity lengths.old ≤ vec_capacity lengths.new) }
     ensures no_memory { let takes = last_takes limit
         (payloads_at on_stream starts.old.items bytes.old.items) line_length in
         vec_len bytes.old + length (before_line on_stream takes) + line_length ≤ vec_capacity bytes.old

@@ -63,8 +63,7 @@ fn apply_written<R: Wait>(
         IsAppliedOver moment (lines_delivered writer.old) (state_of to.old) applied
         (state_of to.new)) }
     ensures refused { IfErr result (λ fault.
-        IsStoppedOver moment (lines_delivered writer.old) (state_of to.old) fault (state_of to.new))
-        }
+        IsStoppedOver moment (lines_delivered writer.old) (state_of to.old) fault (state_of to.new)) }
     ensures settings { to.new.settings ≡ to.old.settings }
 {
     apply_payloads(rt, alloc, writer.payloads(), moment, to)

@@ -137,8 +137,7 @@ impl HistogramSeries {
 
         // Where no pass is out, no entry is lost and none comes; after a drain that was not refused all are recorded.
         ensures same_entries { IsHome self.old → entries self.new ≡ entries self.old }
-        ensures all_recorded { OnOk result (IsHome self.old → recorded self.new ≡ entries self.old)
-            }
+        ensures all_recorded { OnOk result (IsHome self.old → recorded self.new ≡ entries self.old) }
     {
         self.record_stray(alloc)?;
         for _ in rt.forever() {

@@ -76,8 +76,7 @@ impl Descriptions {
         text: SharedString,
     ) -> Result<(), Memory>
         ensures described { OnOk result (self.new ≡ describe
-            (record { name = string_bytes name; text = cow_text text.entry; unit = unit }) self.old)
-            }
+            (record { name = string_bytes name; text = cow_text text.entry; unit = unit }) self.old) }
         ensures refused { OnErr result (self.new ≡ self.old) }
     {
         make(&mut self.writer, rt, alloc, self.start)?;
@@ -121,8 +120,7 @@ impl Descriptions {
     ) -> Result<DescriptionReader, EvmapFault>
         ensures same { self.new ≡ self.old }
         ensures told { IfOk result (λ reader.
-            IsToldOf (after ⟦<String as KeyClone>⟧.same ⟦<Text as PartialEq>⟧.eq ⟦<KeepAll as
-            Keep<Text>>⟧.keeps) self.old.published (known reader)) }
+            IsToldOf (after ⟦<String as KeyClone>⟧.same ⟦<Text as PartialEq>⟧.eq ⟦<KeepAll as Keep<Text>>⟧.keeps) self.old.published (known reader)) }
     {
         make(&mut self.writer, rt, alloc, self.start)?;
         match &mut self.writer {
@@ -226,8 +224,7 @@ fn tell(writer: &mut Writer) -> Result<DescriptionReader, EvmapFault>
     ensures same { text_of writer.new ≡ text_of writer.old }
     ensures kept { IsBook writer.new }
     ensures told { IfOk result (λ reader.
-        IsToldOf (after ⟦<String as KeyClone>⟧.same ⟦<Text as PartialEq>⟧.eq ⟦<KeepAll as
-        Keep<Text>>⟧.keeps) (text_of writer.old).published (known reader)) }
+        IsToldOf (after ⟦<String as KeyClone>⟧.same ⟦<Text as PartialEq>⟧.eq ⟦<KeepAll as Keep<Text>>⟧.keeps) (text_of writer.old).published (known reader)) }
 {
     writer.told_reader()
 }

@@ -1,5 +1,5 @@
 -- How sources and sinks in memory are seen.
-use Rattle.std.specs.Prelude.{ℕ, ◌+◌, ◌-◌, ◌^◌, min, Bool, nat_eq, List}
+use Rattle.std.specs.Prelude.{ℕ, ◌+◌, ◌-◌, ◌^◌, min, Bool, nat_eq, List, if◌then◌else◌}
 use Rattle.std.specs.List.{list_any}
 
 -- the calls of a device: the numbers of those that are to fail, counted from 0, the number of the next one, and how many failed
@@ -27,3 +27,7 @@ one_more n = min (n + 1) (2 ^ 64 - 1)
 -- whether a call's number is in the list
 abbrev pub is_listed : List ℕ → ℕ → Bool
 is_listed numbers n = list_any (λ m. nat_eq m n) numbers
+
+-- the calls after one more, which failed or not
+abbrev pub after_call : Bool → CallsText → CallsText
+after_call failed calls = record { failing = calls.failing; number = one_more calls.number; faults = if failed then one_more calls.faults else calls.faults }

@@ -1,6 +1,7 @@
 pub mod Characters
 pub mod Numbers
 pub mod Fixed
+pub mod FromNumbers
 pub mod Sorting
 pub mod SortingLaws
 pub mod Keys

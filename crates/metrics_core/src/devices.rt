@@ -2,57 +2,11 @@
 
 ghost use Rattle.std.specs.Prelude.{◌≡◌, ℕ, ◌-◌, ◌<◌, ◌≤◌, [], ◌++◌, length, take, drop, min, Option, Some, None, IfOk, IfSome, OnErr, OnOk, is_err, false};
 ghost use Rattle.metrics_core.specs.Outside.{Rose, Moved, GrewBy};
-ghost use Rattle.metrics_core.specs.Devices.{one_more, is_listed, CallsText};
+ghost use Rattle.metrics_core.specs.Devices.{after_call, is_listed};
 
-use crate::{Failed, Sink, Source};
+use crate::{Failed, FailingCalls, Sink, Source};
 use std::alloc::Global;
 use std::marker::Model;
-
-/// The calls of a device: which of them are to fail, how many there were, and how many failed.
-#[derive(Drop)]
-struct Calls {
-    failing: Vec<u64>,
-    number: u64,
-    faults: u64,
-}
-
-impl Model for Calls {
-    ghost use Rattle.metrics_core.specs.Devices.{CallsText};
-
-    ghost Value = { CallsText };
-
-    ghost view = { λ calls. record { failing = calls.failing.items; number = calls.number; faults = calls.faults } };
-}
-
-impl Calls {
-    fn new(failing: Vec<u64>) -> Calls
-        ensures { result ≡ record { failing = failing.items; number = 0; faults = 0 } }
-    {
-        Calls {
-            failing,
-            number: 0,
-            faults: 0,
-        }
-    }
-
-    /// Counts a fault.
-    fn fault(&mut self)
-        ensures after { self.new ≡ record self.old { faults = one_more self.old.faults } }
-        ensures never_falls { self.old.faults ≤ self.new.faults }
-    {
-        self.faults = self.faults.saturating_add(1);
-    }
-
-    /// Counts a call, and answers whether it is to fail.
-    fn next_fails(&mut self) -> bool
-        ensures fails { result ≡ is_listed self.old.failing self.old.number }
-        ensures after { self.new ≡ record self.old { number = one_more self.old.number } }
-    {
-        let number = self.number;
-        self.number = number.saturating_add(1);
-        self.failing.iter().any(|failing| *failing == number)
-    }
-}
 
 /// Moves bytes to the front of a buffer, as many as there are, as it has room for, and as are wanted.
 fn copy_prefix(from: &[u8], most: usize, into: &mut [u8]) -> usize
@@ -70,7 +24,7 @@ pub struct MemorySource {
     bytes: Vec<u8>,
     at: usize,
     most: usize,
-    calls: Calls,
+    calls: FailingCalls,
 }
 
 impl Model for MemorySource {
@@ -97,7 +51,7 @@ impl MemorySource {
             bytes,
             at: 0,
             most,
-            calls: Calls::new(failing),
+            calls: FailingCalls::new(failing),
         }
     }
 
@@ -105,7 +59,7 @@ impl MemorySource {
     pub fn faults(&self) -> u64
         ensures { result ≡ self.now.calls.faults }
     {
-        self.calls.faults
+        self.calls.faults()
     }
 }
 
@@ -117,17 +71,15 @@ impl Source for MemorySource {
     /// Fails exactly where the number of this read is in the list. Otherwise it gives as many bytes as there are, as a
     /// read gives at most, and as the buffer has room for.
     fn read(&mut self, buf: &mut [u8]) -> Result<usize, Failed>
-        ensures bound { IfOk result (λ n. n ≤ length buf.old) }
+        ensures count { IfOk result (λ n. (n ≤ length buf.old)
+            × (n ≡ min (min (length self.old.left) self.old.most) (length buf.old))) }
         ensures moved { IfOk result (Moved self.old.left (Some self.new.left) buf.old buf.new) }
         ensures kept { OnErr result (self.new.left ≡ self.old.left) }
+        ensures fails { is_err result ≡ is_listed self.old.calls.failing self.old.calls.number }
+        ensures after { self.new ≡ record self.old
+            { left = self.new.left; calls = after_call (is_err result) self.old.calls } }
         ensures cause { OnErr result (Rose self.old.calls.faults self.new.calls.faults) }
         ensures never_falls { self.old.calls.faults ≤ self.new.calls.faults }
-        ensures fails { is_err result ≡ is_listed self.old.calls.failing self.old.calls.number }
-        ensures count { IfOk result (λ n. n ≡ min (min (length self.old.left) self.old.most) (length buf.old)) }
-        ensures next { self.new.calls.number ≡ one_more self.old.calls.number }
-        ensures list { self.new.calls.failing ≡ self.old.calls.failing }
-        ensures most { self.new.most ≡ self.old.most }
-        ensures no_fault { OnOk result (self.new.calls.faults ≡ self.old.calls.faults) }
     {
         if self.calls.next_fails() {
             self.calls.fault();
@@ -179,7 +131,7 @@ impl<'a> Source for ByteSource<'a> {
 pub struct MemorySink {
     bytes: Vec<u8>,
     most: usize,
-    calls: Calls,
+    calls: FailingCalls,
 }
 
 impl Model for MemorySink {
@@ -205,7 +157,7 @@ impl MemorySink {
         MemorySink {
             bytes: Vec::new(alloc),
             most,
-            calls: Calls::new(failing),
+            calls: FailingCalls::new(failing),
         }
     }
 
@@ -220,7 +172,7 @@ impl MemorySink {
     pub fn faults(&self) -> u64
         ensures { result ≡ self.now.calls.faults }
     {
-        self.calls.faults
+        self.calls.faults()
     }
 }
 
@@ -232,18 +184,16 @@ impl Sink for MemorySink {
     /// Fails where the number of this write is in the list, and where the room for the bytes is refused. Otherwise it
     /// takes the piece, or as many bytes of it as a write takes at most.
     fn write(&mut self, piece: &[u8]) -> Result<usize, Failed>
-        ensures bound { IfOk result (λ n. n ≤ length piece.now) }
-        ensures some { IfOk result (λ n. 0 < length piece.now → 0 < n) }
+        ensures count { IfOk result (λ n. (n ≤ length piece.now) × (0 < length piece.now → 0 < n)
+            × (n ≡ min (length piece.now) self.old.most)) }
         ensures grew { IfOk result (λ n. self.new.written ≡ self.old.written ++ take n piece.now) }
         ensures kept { OnErr result (self.new.written ≡ self.old.written) }
+        ensures fails { OnOk result
+            (is_listed self.old.calls.failing self.old.calls.number ≡ false) }
+        ensures after { self.new ≡ record self.old
+            { written = self.new.written; calls = after_call (is_err result) self.old.calls } }
         ensures cause { OnErr result (Rose self.old.calls.faults self.new.calls.faults) }
         ensures never_falls { self.old.calls.faults ≤ self.new.calls.faults }
-        ensures fails { OnOk result (is_listed self.old.calls.failing self.old.calls.number ≡ false) }
-        ensures count { IfOk result (λ n. n ≡ min (length piece.now) self.old.most) }
-        ensures next { self.new.calls.number ≡ one_more self.old.calls.number }
-        ensures list { self.new.calls.failing ≡ self.old.calls.failing }
-        ensures most { self.new.most ≡ self.old.most }
-        ensures no_fault { OnOk result (self.new.calls.faults ≡ self.old.calls.faults) }
     {
         if self.calls.next_fails() {
             self.calls.fault();

@@ -10,6 +10,8 @@
 mod adapters;
 mod calls;
 mod devices;
+mod failing_calls;
+mod from_numbers;
 mod gauge_values;
 mod hashes;
 mod into_fixed;
@@ -33,6 +35,8 @@ mod words;
 pub use adapters::{Reading, Writing};
 pub use calls::SeriesCall;
 pub use devices::{ByteSource, Discard, MemorySink, MemorySource};
+pub use failing_calls::FailingCalls;
+pub use from_numbers::ValueFault;
 pub use gauge_values::GaugeValue;
 pub use into_fixed::IntoFixed;
 pub use into_labels::IntoLabels;

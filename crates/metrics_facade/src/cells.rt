@@ -94,8 +94,7 @@ pub trait HistogramFn {
     ) -> Result<(), Memory>
         requires { is_pass self.now pass.old }
         ensures pass { is_pass self.now pass.new }
-        ensures call { OnOk result (may_follow self.now pass.old (Record value.0 moment 1) pass.new)
-            }
+        ensures call { OnOk result (may_follow self.now pass.old (Record value.0 moment 1) pass.new) }
         ensures refused { OnErr result (stays self.now pass.old pass.new) }
     {
         self.record_many(rt, alloc, pass, value, moment, 1)

@@ -59,8 +59,7 @@ impl<R: Drop> RecorderOnceCell<R> {
         requires { note.old.cell ≡ self.now }
         ensures cell { note.new.cell ≡ note.old.cell }
         ensures known { (there : R) × (note.new.known ≡ Some there) × Agrees note.old.known there }
-        ensures ok { OnOk result ((note.new.known ≡ Some recorder.value) × (note.old.known ≡ None))
-            }
+        ensures ok { OnOk result ((note.new.known ≡ Some recorder.value) × (note.old.known ≡ None)) }
         ensures back { IfErr result (λ refused. refused.0.value ≡ recorder.value) }
     {
         self.recorder

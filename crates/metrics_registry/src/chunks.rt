@@ -48,8 +48,8 @@ impl Chunk {
         ensures raised { OnOk result (IsRaised value count self.old.entries.items
             self.new.entries.items) }
         ensures counted { OnOk result (self.new.count ≡ self.old.count + count) }
-        ensures refused { OnErr result (self.new.entries.items ≡ self.old.entries.items) }
-        ensures same { OnErr result (self.new.count ≡ self.old.count) }
+        ensures refused { OnErr result ((self.new.entries.items ≡ self.old.entries.items)
+            × (self.new.count ≡ self.old.count)) }
     {
         raise_entry(&mut self.entries, value, count)?;
         self.count += count;

@@ -79,8 +79,7 @@ impl KeyList {
     pub(crate) fn enter(&mut self, key: Key) -> Result<Option<usize>, Key>
         ensures index { IfOk result (λ place. place ≡ position (key_eq key) self.old.keys) }
         ensures found { IfOk result (λ place. is_some place ≡ list_any (key_eq key) self.old.keys) }
-        ensures within { IfOk result (λ place. IfSome place (λ place. place < length self.old.keys))
-            }
+        ensures within { IfOk result (λ place. IfSome place (λ place. place < length self.old.keys)) }
         ensures kept { IfOk result (λ place. IfSome place (λ _. self.new.keys ≡ self.old.keys)) }
         ensures added { IfOk result (λ place.
             IfNone place (self.new.keys ≡ self.old.keys ++ key ∷ [])) }

@@ -61,8 +61,7 @@ impl Quantile {
 
 /// The quantiles of values, in their order.
 pub fn parse_quantiles(alloc: Global, values: &[Fixed]) -> Result<Vec<Quantile>, Memory>
-    ensures { IfOk result (λ quantiles. quantiles.items ≡ map (λ value. clamped value.0) values.now)
-        }
+    ensures { IfOk result (λ quantiles. quantiles.items ≡ map (λ value. clamped value.0) values.now) }
 {
     Ok(
         values

@@ -487,8 +487,7 @@ impl<C: Drop, G: Drop, H: Drop> Registry<C, G, H> {
     /// The cell of the histogram at a place, from 0, to write.
     pub fn histogram_at(&mut self, place: usize) -> &mut H
         requires { place < length self.old.histograms }
-        ensures* writes_back { sem 𝓛 (lends_histogram_at C.row G.row H.row self.entry place result)
-            }
+        ensures* writes_back { sem 𝓛 (lends_histogram_at C.row G.row H.row self.entry place result) }
         ensures value { option_map (λ series. series.cell)
             (slice_get self.old.histograms place) ≡ Some result.now }
     {

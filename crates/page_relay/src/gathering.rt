@@ -238,8 +238,7 @@ fn take_help(alloc: Global, help: &mut Option<String>, other: &Option<String>) -
 
 /// A copy of the help, where there is any.
 fn help_of(alloc: Global, help: &Option<String>) -> Result<Option<String>, Memory>
-    ensures { IfOk result (λ made. option_map string_bytes made ≡ option_map string_bytes help.now)
-        }
+    ensures { IfOk result (λ made. option_map string_bytes made ≡ option_map string_bytes help.now) }
 {
     match help {
         Some(help) => Ok(Some(text_of(alloc, help)?)),

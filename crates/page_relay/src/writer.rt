@@ -140,8 +140,7 @@ pub fn push_escaped(text: &mut Vec<u8>, plain: &str, in_label: bool) -> Result<(
 
 /// Appends a character with its escape.
 fn push_character(text: &mut Vec<u8>, character: u8, in_label: bool) -> Result<(), Memory>
-    ensures { OnOk result (text.new.items ≡ text.old.items ++ escaped_character in_label character)
-        }
+    ensures { OnOk result (text.new.items ≡ text.old.items ++ escaped_character in_label character) }
 {
     if character == b'\\' {
         text.extend_from_slice(b"\\\\")?;

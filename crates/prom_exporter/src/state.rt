@@ -341,7 +341,8 @@ impl PrometheusState {
         sink: &mut K,
     ) -> Result<(), BuildError>
         ensures steps { Steps moment self.old self.new
-            ⊎ ((result ≡ Err BuildError.Memory) × DrainsEach DrainsInPart self.old self.new × (K.written sink.new ≡ K.written sink.old)) }
+            ⊎ ((result ≡ Err BuildError.Memory) × DrainsEach DrainsInPart self.old self.new
+            × (K.written sink.new ≡ K.written sink.old)) }
         ensures home { AllHome self.old → AllHome self.new }
         ensures stepped { AllHome self.old
             → (state_of self.new ≡ page_step self.old.settings.idle moment (state_of self.old))
@@ -358,10 +359,9 @@ impl PrometheusState {
         ensures page_prefix { OnErr result (AllHome self.old
             → GrewByPrefix (K.written sink.old) (K.written sink.new) (written_page moment self.old)) }
 
-        ensures errors { IfErr result (λ error. (error ≡ BuildError.WriteFault)
-            ⊎ (error ≡ BuildError.Memory)) }
-        ensures cause { result ≡ Err BuildError.WriteFault
-            → Rose (K.faults sink.old) (K.faults sink.new) }
+        ensures cause { IfErr result (λ error. (error ≡ BuildError.WriteFault)
+            ⊎ (error ≡ BuildError.Memory))
+            × (result ≡ Err BuildError.WriteFault → Rose (K.faults sink.old) (K.faults sink.new)) }
         ensures never_falls { K.faults sink.old ≤ K.faults sink.new }
     {
         self.step(rt, alloc, moment)?;

@@ -49,8 +49,7 @@ pub fn push_row_head(
         ++ head_text (sanitized_metric_name key.now.name) (shown_label_set (labels_of globals.now.entries) key.now.labels)) }
     ensures name { let start = length (string_bytes buffer.old) in
         IfOk result (λ count. slice_range (string_bytes buffer.new) start (start + count) ≡ sanitized_metric_name key.now.name) }
-    ensures name_length { IfOk result (λ count. count ≡ length (sanitized_metric_name key.now.name))
-        }
+    ensures name_length { IfOk result (λ count. count ≡ length (sanitized_metric_name key.now.name)) }
     ensures name_begins { OnOk result (IsCharBoundary (string_bytes buffer.new)
         (length (string_bytes buffer.old))) }
     ensures name_ends { let start = length (string_bytes buffer.old) in
@@ -71,8 +70,7 @@ fn push_head(
 ) -> Result<usize, Memory>
     ensures head { OnOk result (string_bytes buffer.new ≡ string_bytes buffer.old
         ++ head_text (sanitized_metric_name key.now.name) (shown_label_set (labels_of globals.now.entries) key.now.labels)) }
-    ensures name_length { IfOk result (λ count. count ≡ length (sanitized_metric_name key.now.name))
-        }
+    ensures name_length { IfOk result (λ count. count ≡ length (sanitized_metric_name key.now.name)) }
     ensures name_ends { let start = length (string_bytes buffer.old) in
         IfOk result (λ count. IsCharBoundary (string_bytes buffer.new) (start + count)) }
     ensures kept { Begins (string_bytes buffer.old) (string_bytes buffer.new) }

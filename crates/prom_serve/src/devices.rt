@@ -7,8 +7,7 @@ ghost use Rattle.prom_serve.specs.Connections.{Told, Took, Wrote, with_written, 
 ghost use Rattle.prom_serve.specs.Devices.{conn_faults, ended, IsUnused};
 
 use crate::{Conn, Listener};
-use failing_calls::FailingCalls;
-use metrics_core::{Failed, Memory, MemorySink, Sink};
+use metrics_core::{Failed, FailingCalls, Memory, MemorySink, Sink};
 use std::alloc::Global;
 use std::collections::VecDeque;
 use std::marker::Model;

@@ -23,8 +23,7 @@ impl Bucket {
     /// A bucket with a value so many times.
     fn of(alloc: Global, begin: u64, value: Fixed, count: u32) -> Result<Bucket, Memory>
         ensures begin { IfOk result (λ bucket. bucket.begin ≡ begin) }
-        ensures values { IfOk result (λ bucket. bucket.values ≡ ascending (replicate count value.0))
-            }
+        ensures values { IfOk result (λ bucket. bucket.values ≡ ascending (replicate count value.0)) }
     {
         let mut values = Bag::new(alloc);
         values.add(value, u64::from(count))?;

@@ -47,8 +47,7 @@ pub fn evaluate<K: Sink>(
     out: &mut K,
 ) -> Result<Evaluated, EvaluationFault>
     requires { length bytes.now < 2 ^ 32 }
-    ensures evaluated { OnOk result (IsEvaluated bytes.now (K.written out.old) (K.written out.new))
-        }
+    ensures evaluated { OnOk result (IsEvaluated bytes.now (K.written out.old) (K.written out.new)) }
     ensures counted { IfOk result (AreEvaluated bytes.now) }
     ensures cause { IfErr result (HasEvaluationCause bytes.now
         (Rose (K.faults out.old) (K.faults out.new))) }

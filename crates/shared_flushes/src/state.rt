@@ -212,8 +212,7 @@ impl SharedState {
         ensures pass { IsPass self.now pass.new }
         ensures lent { IfOk result (λ lent.
             During (LendsHistogram id lent) (view_of pass.old) (view_of pass.new)) }
-        ensures own { IfOk result (λ lent. IsOwn Histogram id (view_of pass.old) → ¬ (lent ≡ None))
-            }
+        ensures own { IfOk result (λ lent. IsOwn Histogram id (view_of pass.old) → ¬ (lent ≡ None)) }
         ensures refused { OnErr result (Waits (view_of pass.old) (view_of pass.new)) }
         ensures splits { pass.new.splits ≡ pass.old.splits }
     {

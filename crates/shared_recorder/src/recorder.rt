@@ -126,8 +126,7 @@ impl SharedRecorder {
         requires seat { (seat.old.table_id ≡ self.now.turns.table.shared.table_id)
             × Inside seat.old.me }
         ensures seat { seat.new.table_id ≡ seat.old.table_id }
-        ensures counted { Counted (Page (gone_of _before.value _after.now)) seat.old.me seat.new.me
-            }
+        ensures counted { Counted (Page (gone_of _before.value _after.now)) seat.old.me seat.new.me }
     {
         self.turns.count::<N>(seat);
     }
@@ -396,8 +395,7 @@ impl SharedRecorder {
             Lends (LendsHistogram id lent) (view_of pass.old) (view_of pass.new)) }
         ensures fits { IfOk result (λ lent.
             IfSome lent (λ lent. Fits IsSamplePass lent.handle lent.pass)) }
-        ensures own { IfOk result (λ lent. IsOwn Histogram id (view_of pass.old) → ¬ (lent ≡ None))
-            }
+        ensures own { IfOk result (λ lent. IsOwn Histogram id (view_of pass.old) → ¬ (lent ≡ None)) }
         ensures refused { OnErr result (Waits (view_of pass.old) (view_of pass.new)) }
     {
         let mut state = self.turns.enter(rt, &mut pass.seat);

@@ -57,19 +57,12 @@ returns-clause-fit g c =
     let jobs = c.lend_all.new.jobs.items in
     let news = c.run_all.new.jobs in
     let len : length news ≡ length jobs = c.run_all.auto.jobs ∙ ap length m.value in
-    let front = front_of news (drop (length news) jobs) c.lend_all.new.jobs.len (c.run_all.auto.jobs ∙ m.len) in
-    subst (JobsFit (Owns fixed_of g.S.Lenders.owns) (g.S.Lenders.things c.lend_all.new.shared)) (sym front)
-    (ran_fit fixed_of g.S.Lenders.knows g.S.Lenders.stands_as g.S.Lenders.owns c.args.lanes.now jobs news len c.in-Ok.ensures.ok.0
-    (λ l x y z p q r. c.run_all.ensures.ran l x y z p (subst (λ xs. get_elem? xs l ≡ some y) (sym m.value) q) r) (g.S.Lenders.things c.lend_all.new.shared) c.lend_all.ensures.fit)
-
-pub returns-clause-few : goal.returns-clause-few
-returns-clause-few g c =
-    let m = c.as_mut_slice.ensures in
-    let jobs = c.lend_all.new.jobs.items in
-    let news = c.run_all.new.jobs in
-    let len : length news ≡ length jobs = c.run_all.auto.jobs ∙ ap length m.value in
-    let front = front_of news (drop (length news) jobs) c.lend_all.new.jobs.len (c.run_all.auto.jobs ∙ m.len) in
-    subst (λ xs. length xs ≤ length c.args.lanes.now) (sym front) (omega (arith, len, c.lend_all.ensures.fresh.1))
+    let front = front_of news (drop (length news) jobs) c.lend_all.new.jobs.len (c.run_all.auto.jobs ∙ m.len) in (
+      subst (JobsFit (Owns fixed_of g.S.Lenders.owns) (g.S.Lenders.things c.lend_all.new.shared)) (sym front)
+          (ran_fit fixed_of g.S.Lenders.knows g.S.Lenders.stands_as g.S.Lenders.owns c.args.lanes.now jobs news len c.in-Ok.ensures.ok.0
+          (λ l x y z p q r. c.run_all.ensures.ran l x y z p (subst (λ xs. get_elem? xs l ≡ some y) (sym m.value) q) r) (g.S.Lenders.things c.lend_all.new.shared) c.lend_all.ensures.fit),
+      subst (λ xs. length xs ≤ length c.args.lanes.now) (sym front) (omega (arith, len, c.lend_all.ensures.fresh.1)),
+    )
 
 pub returns-clause-ran : goal.returns-clause-ran
 returns-clause-ran g c =

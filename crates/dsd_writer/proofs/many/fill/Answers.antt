@@ -110,7 +110,7 @@ loop-rest-preserved c =
           let now = filling_fills limit on_stream item values bytes_before starts_before room front behind bytes.items starts.items w.push_line.new.bytes.items w.make_way.new.starts.items
           c.loop-rest.lines c.loop-rest.left_out c.run_of-run.result.used c.run_of-run.result.left_out split filling run w.if-run-gt0.true
           (w.push_line.ensures.items ∙ (λ j. bytes_now j ++ pushed j)) starts_now in
-          let same = w.make_way.ensures.lengths in
+          let same = w.make_way.ensures.lengths.0 in
           let kept = ap (λ (l : List (Snapshot ℕ)). take (length l) w.note_length.new.lengths.items) (sym same) ∙ w.note_length.ensures.kept ∙ same in
           let noting_now = noting_fills limit item values lengths_before room front behind lengths.items w.note_length.new.lengths.items n c.run_of-run.result.used c.run_of-run.result.left_out split noting run w.if-run-gt0.true
           size (w.note_length.ensures.noted ∙ ap (λ (l : List (Snapshot ℕ)). noted l ++ n ∷ []) same) kept in
@@ -118,10 +118,10 @@ loop-rest-preserved c =
             filling = subst (λ (texts : List (List ℕ)). IsFilling limit on_stream item values texts bytes_before starts_before w.push_line.new.bytes.items w.make_way.new.starts.items (c.loop-rest.lines + 1) (c.loop-rest.left_out + c.run_of-run.result.left_out)) (sym back) now;
             few_lines = omega (arith, c.loop-rest.invariant.few_lines, c.split_at.ensures.back_len, some);
             few_out = omega (arith, c.loop-rest.invariant.few_out, c.split_at.ensures.back_len, left);
-            bytes_capacity = omega (arith, c.loop-rest.invariant.bytes_capacity, w.make_way.ensures.bytes_capacity, w.push_line.ensures.capacity);
-            starts_capacity = omega (arith, c.loop-rest.invariant.starts_capacity, w.make_way.ensures.starts_capacity);
+            bytes_capacity = omega (arith, c.loop-rest.invariant.bytes_capacity, w.make_way.ensures.capacities.0, w.push_line.ensures.capacity);
+            starts_capacity = omega (arith, c.loop-rest.invariant.starts_capacity, w.make_way.ensures.capacities.1);
             noting = subst (λ (texts : List (List ℕ)). IsNoting limit item values texts lengths_before w.note_length.new.lengths.items) (sym back) noting_now;
-            lengths_capacity = omega (arith, c.loop-rest.invariant.lengths_capacity, w.make_way.ensures.lengths_capacity, w.note_length.ensures.capacity);
+            lengths_capacity = omega (arith, c.loop-rest.invariant.lengths_capacity, w.make_way.ensures.capacities.2, w.note_length.ensures.capacity);
           })
       | else-run-gt0 w ↦
           let none : c.run_of-run.result.used ≡ 0 = omega (arith, w.if-run-gt0.false) in

@@ -19,8 +19,8 @@ returns-in_err-make_way-clause-appends c item text line_is =
     let is : n ≡ length line = omega (arith, ap length line_is, c.if-length-limit.false) in
     let fits : line_fits limit item (text ∷ []) ≡ true = le-leb (length line) limit (omega (arith, ap length line_is, c.if-length-limit.false)) in
     appends_refused limit on_stream bytes c.make_way.new.bytes starts c.make_way.new.starts c.args.lengths.now c.make_way.new.lengths c.requires c.from_residual.result line _ c.from_residual.ensures.0
-    (one_line limit item text fits) c.in_err-make_way.ensures.err_bytes c.in_err-make_way.ensures.err_starts c.make_way.ensures.lengths
-    c.make_way.ensures.bytes_capacity c.make_way.ensures.starts_capacity c.make_way.ensures.lengths_capacity
+    (one_line limit item text fits) c.in_err-make_way.ensures.refused.0 c.in_err-make_way.ensures.refused.1 c.make_way.ensures.lengths.0
+    c.make_way.ensures.capacities.0 c.make_way.ensures.capacities.1 c.make_way.ensures.capacities.2
     (λ bytes_enough starts_enough lengths_enough.
     let bytes_now = subst (λ (m : ℕ). vec_len bytes + length (before_line on_stream (last_takes limit payloads m)) + m ≤ vec_capacity bytes) (sym is) bytes_enough in
     let starts_now = subst (λ (m : ℕ). vec_len starts + length (start_of_line (last_takes limit payloads m) bytes.items) ≤ vec_capacity starts) (sym is) starts_enough in
@@ -42,5 +42,5 @@ returns-clause-appends c item text line_is =
     let starts_now = subst (λ (m : ℕ). c.make_way.new.starts.items ≡ starts.items ++ start_of_line (last_takes limit payloads m) bytes.items) is c.in_ok-make_way.ensures.starts in
     appends_line limit on_stream bytes c.push_bytes.new.bytes starts c.make_way.new.starts c.args.lengths.now c.note_length.new.lengths c.requires c.new.result line _ (one_line limit item text fits) short
     (c.push_bytes.ensures.items ∙ (λ j. bytes_now j ++ line_is j)) starts_now
-    (c.note_length.ensures.noted ∙ ap (λ (l : List (Snapshot ℕ)). noted l ++ n ∷ []) c.make_way.ensures.lengths ∙ ap (λ (m : ℕ). noted c.args.lengths.now.items ++ m ∷ []) is)
-    (omega (arith, c.make_way.ensures.bytes_capacity, c.push_bytes.ensures.capacity)) c.make_way.ensures.starts_capacity (omega (arith, c.make_way.ensures.lengths_capacity, c.note_length.ensures.capacity))
+    (c.note_length.ensures.noted ∙ ap (λ (l : List (Snapshot ℕ)). noted l ++ n ∷ []) c.make_way.ensures.lengths.0 ∙ ap (λ (m : ℕ). noted c.args.lengths.now.items ++ m ∷ []) is)
+    (omega (arith, c.make_way.ensures.capacities.0, c.push_bytes.ensures.capacity)) c.make_way.ensures.capacities.1 (omega (arith, c.make_way.ensures.capacities.2, c.note_length.ensures.capacity))

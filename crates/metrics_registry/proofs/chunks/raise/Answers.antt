@@ -34,14 +34,14 @@ returns-in_err-raise-clause-ordered c =
     let cs = c.place_with_room.new.chunks.items in
     let chunk = c.index_mut.result.now in
     let at = slice_get_read cs (length cs) c.in_ok-place.place chunk refl c.in_ok-place.ensures.place.within c.index_mut.ensures.value in
-    same-ordered cs c.in_ok-place.place chunk c.raise.new.self at c.place_with_room.ensures.ordered c.raise.ensures.least c.in_err-raise.ensures.refused c.in_err-raise.ensures.same
+    same-ordered cs c.in_ok-place.place chunk c.raise.new.self at c.place_with_room.ensures.ordered c.raise.ensures.least c.in_err-raise.ensures.refused.0 c.in_err-raise.ensures.refused.1
 
 pub returns-in_err-raise-clause-refused : goal.returns-in_err-raise-clause-refused
 returns-in_err-raise-clause-refused c =
     let cs = c.place_with_room.new.chunks.items in
     let chunk = c.index_mut.result.now in
     let at = slice_get_read cs (length cs) c.in_ok-place.place chunk refl c.in_ok-place.ensures.place.within c.index_mut.ensures.value in
-    let same = ap repeated (same-entries cs c.in_ok-place.place chunk c.raise.new.self at c.raise.ensures.least c.in_err-raise.ensures.refused) ∙ c.place_with_room.ensures.same in
+    let same = ap repeated (same-entries cs c.in_ok-place.place chunk c.raise.new.self at c.raise.ensures.least c.in_err-raise.ensures.refused.0) ∙ c.place_with_room.ensures.same in
     search (rules, same)
 
 pub returns-clause-ordered : goal.returns-clause-ordered

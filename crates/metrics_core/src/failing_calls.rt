@@ -1,4 +1,10 @@
-//! The calls of a device that fails where it is told to.
+//! The calls of a device in memory that is to fail at chosen calls, for tests of what stands on the device.
+//!
+//! A device whose second call fails:
+//!
+//!     let mut calls = FailingCalls::new(vec![in alloc; 1]?);
+//!     let first = calls.next_fails();
+//!     let second = calls.next_fails();
 
 ghost use Rattle.std.specs.Prelude.{◌≡◌, ◌≤◌};
 ghost use Rattle.metrics_core.specs.Devices.{one_more, is_listed};
