@@ -1,5 +1,5 @@
-//! A run of the program as `metrics_drive` has it, over a script that is not valid: it must end with 3. Where the words behind the first were dropped, it
-//! would end with 2.
+//! A run of the program as `metrics_drive` has it, over a script that is not valid: it must end with 3. Where the status were lost, it would end
+//! with 0 or 1; where a word behind the first were dropped, with 2.
 #![tactic(auto)]
 
 use metrics_core::{Reading, Writing};
