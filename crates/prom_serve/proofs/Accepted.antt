@@ -15,11 +15,12 @@ use Rattle.prom_exporter.specs.Families.{ExporterSettings, families_written}
 use Rattle.prom_exporter.specs.Stepped.{Steps, DrainsEach, DrainsInPart}
 use Rattle.prom_exporter.proofs.PagesAgain.{page_step-again}
 use Rattle.prom_exporter.specs.Exporter.{Exporter, AllHome, AreTimely, state_of, written_page}
-use Rattle.prom_serve.specs.Connections.{Ended, Told, IsFresh, CountedOn}
+use Rattle.page_answers.specs.Asking.{IsAnswered}
+use Rattle.page_answers.specs.Connections.{Ended, Told, IsFresh, CountedOn}
 use Rattle.prom_serve.specs.Refusals.{excepted}
 use Rattle.prom_serve.specs.declared.errors.ServeError.{ServeError}
 use Rattle.prom_serve.specs.declared.errors.ServeError.TheVariants.{FailedToCreateHTTPListener, Memory}
-use Rattle.prom_serve.specs.Serving.{MayRender, StaysHome, Renders, IsAnswered, IsAnsweredBy, IsAnsweredFirst, IsRendered, IsServed, IsShown, Listening, Accepts, AcceptsOne, ShowsPage}
+use Rattle.prom_serve.specs.Serving.{MayRender, StaysHome, Renders, IsAnsweredBy, IsAnsweredFirst, IsRendered, IsServed, IsShown, Listening, Accepts, AcceptsOne, ShowsPage}
 
 -- ---- counts
 
@@ -113,7 +114,7 @@ served_shown networks moment exporter home ended served no_faults = by (served n
         let stays = renders_home moment most exporter before home renders in
         let same : page ≡ written_page moment exporter = is.home stays.home ∙ page_stays moment exporter before (renders_settings moment most exporter before renders) stays.state in
         subst (λ (p : List ℕ). IsAnswered networks p ended.who ended.told) same answered
-    by (most, before, after, renders, may, inr always) = always (written_page moment exporter)
+    by (most, before, after, renders, may, inr (same, always)) = always (written_page moment exporter)
 
 all_shown : (networks : Option (List NetworkText)) (moment : ℕ) (exporter : Exporter) → AllHome exporter → (ended : List Ended) → All (IsServed networks moment exporter) ended → All (IsShown networks moment exporter) ended
 all_shown networks moment exporter home ended = All-weaker (IsServed networks moment exporter) (IsShown networks moment exporter) (served_shown networks moment exporter home) ended

@@ -1,12 +1,4 @@
-pub mod Answers
-pub mod Asked
 pub mod Connections
 pub mod Devices
-pub mod Heads
-pub mod Paths
-pub mod Readings
 pub mod Refusals
-pub mod Returned
 pub mod Serving
-pub mod Sockets
-pub mod Vectors

@@ -1,22 +1,12 @@
 -- What serving does to its connections, to its listener and to the exporter.
-use Rattle.std.specs.Prelude.{◌≡◌, ℕ, zero, suc, ◌-◌, ◌≤◌, ◌⊎◌, ◌↔◌, Bool, IsTrue, List, [], ◌∷◌, ◌++◌, length, take, Option, None, Some, IfSome, All, ⊤}
-use Rattle.std.specs.List.{Any}
+use Rattle.std.specs.Prelude.{◌≡◌, ℕ, zero, suc, ◌-◌, ◌≤◌, ◌⊎◌, Bool, IsTrue, List, [], ◌∷◌, ◌++◌, length, take, Option, None, Some, IfSome, All}
 use Rattle.std.specs.declared.net.ip_addr.IpAddr.{IpAddr}
-use Rattle.net_addresses.specs.Addresses.{NetworkText, Holds}
+use Rattle.net_addresses.specs.Addresses.{NetworkText}
 use Rattle.prom_exporter.specs.State.{page_step}
 use Rattle.prom_exporter.specs.Exporter.{Exporter, AllHome, AreTimely, state_of, written_body, written_page}
 use Rattle.prom_exporter.specs.Stepped.{Steps, DrainsEach, DrainsInPart}
-use Rattle.prom_serve.specs.Answers.{IsAnswer}
-use Rattle.prom_serve.specs.Connections.{Told, Ended, IsFresh, CountedOn}
-use Rattle.prom_serve.specs.Readings.{EndsReading}
-
--- ---- whom the page is shown
-
--- every peer is allowed where no list of networks is given, and otherwise one whose address a network of the list holds
-abbrev pub IsAllowed : Option (List NetworkText) → Option IpAddr → Type 0
-IsAllowed None who = ⊤
-IsAllowed (Some networks) None = ⊥
-IsAllowed (Some networks) (Some address) = Any (λ network. Holds network address) networks
+use Rattle.page_answers.specs.Connections.{Told, Ended, IsFresh, CountedOn}
+pub use Rattle.page_answers.specs.Asking.{IsAnswered}
 
 -- ---- renders
 
@@ -48,17 +38,11 @@ Renders moment (suc most) old new = (middle : Exporter) × Renders moment most o
 
 -- ---- connections
 
--- a peer was answered: the bytes up to the end of the reading by that page
-pub record IsAnswered (networks : Option (List NetworkText)) (page : List ℕ) (who : Option IpAddr) (told : Told) : Type 0 where
-  pub allowed : Bool
-  pub is_allowed : IsTrue allowed ↔ IsAllowed networks who
-  pub ends : EndsReading told.taken told.left
-  pub answer : IsAnswer allowed told.taken page told.written
-
--- a peer was answered: by the page that was just rendered, or by what is the answer whatever the page is
+-- a peer was answered: by the page that was just rendered, or by what is the answer whatever the page is, and then none was rendered
 abbrev pub IsAnsweredBy : Option (List NetworkText) → ℕ → Exporter → Exporter → Option IpAddr → Told → Type 0
 IsAnsweredBy networks moment old new who told =
-    ((page : List ℕ) × IsPageAt moment old new page × IsAnswered networks page who told) ⊎ ((page : List ℕ) → IsAnswered networks page who told)
+    ((page : List ℕ) × IsPageAt moment old new page × IsAnswered networks page who told)
+    ⊎ ((new ≡ old) × ((page : List ℕ) → IsAnswered networks page who told))
 
 -- and so was the peer of a connection that tells and of which nothing was read before
 abbrev pub IsAnsweredFirst : Option (List NetworkText) → ℕ → Exporter → Exporter → Option IpAddr → Option Told → Option Told → Type 0

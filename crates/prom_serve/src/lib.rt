@@ -1,25 +1,16 @@
-//! Answers to those who fetch the page over HTTP.
+//! The page of an exporter's state, served over HTTP to those who fetch it.
 //!
-//! The answer to a request whose peer is allowed:
+//! So many connections of a listener are answered:
 //!
-//!     let answer = respond(alloc, true, b"GET /metrics HTTP/1.1\r\n\r\n", page)?;
+//!     let served = serve(rt, alloc, None, &mut state, moment, &mut listener, count)?;
 #![tactic(auto)]
 
-mod answers;
-mod conns;
-mod devices;
 mod errors;
-mod heads;
-mod listeners;
-mod paths;
-mod readings;
 mod serving;
-mod sockets;
 
-pub use answers::{answers_are_determined, respond};
-pub use conns::Conn;
-pub use devices::{Exchange, MemoryConn, MemoryListener};
 pub use errors::ServeError;
-pub use listeners::Listener;
+pub use page_answers::{
+    Conn, Exchange, Listener, MemoryConn, MemoryListener, SocketConn, SocketListener,
+    answers_are_determined, respond,
+};
 pub use serving::{Served, serve};
-pub use sockets::{SocketConn, SocketListener};

@@ -2,24 +2,20 @@
 
 ghost use Rattle.std.specs.Prelude.{◌≡◌, ◌+◌, ◌≤◌, ◌↔◌, ◌⊎◌, ℕ, List, length, option_copied, IsTrue, IsSome, IfOk, IfErr, OnErr, OnOk, Err, true, false, if◌then◌else◌};
 ghost use Rattle.metrics_core.specs.Outside.{Rose};
-ghost use Rattle.net_addresses.specs.Addresses.{Holds};
 ghost use Rattle.prom_exporter.specs.Exporter.{AllHome};
-ghost use Rattle.std.specs.List.{Any};
-ghost use Rattle.prom_serve.specs.Asked.{asked_text};
-ghost use Rattle.prom_serve.specs.Connections.{CountedOn};
+ghost use Rattle.page_answers.specs.Asked.{asked_text};
+ghost use Rattle.page_answers.specs.Connections.{CountedOn};
 ghost use Rattle.prom_serve.specs.Refusals.{excepted};
-ghost use Rattle.prom_serve.specs.Serving.{IsAllowed, IsRendered, IsPageAt, MayRender, StaysHome, ShowsPage, ShowsPageInPart, IsAnsweredFirst, Accepts, AcceptsOne};
+ghost use Rattle.prom_serve.specs.Serving.{IsRendered, IsPageAt, MayRender, StaysHome, ShowsPage, ShowsPageInPart, IsAnsweredFirst, Accepts, AcceptsOne};
 ghost use Rattle.prom_serve.specs.declared.serving.GivenUp.TheVariants as given_up;
 
-use crate::answers::{Asked, answer_of, asked_by};
-use crate::conns::write_whole;
-use crate::readings::HeadRoom;
-use crate::{Conn, Listener, ServeError};
+use crate::ServeError;
 use metrics_core::{Failed, Memory, MemorySink};
 use net_addresses::Network;
+use page_answers::{Asked, Conn, HeadRoom, Listener, answer_of, asked_by, is_allowed, write_whole};
 use prom_exporter::PrometheusState;
 use std::alloc::Global;
-use std::net::{IpAddr, Net, TcpListener, TcpStream};
+use std::net::{Net, TcpListener, TcpStream};
 use std::sync::Wait;
 
 /// How many connections were served, and how many failed.
@@ -52,25 +48,6 @@ impl From<Memory> for GivenUp {
     }
 }
 
-/// Whether a peer is shown the page: each is where no list of networks is given, and otherwise one whose address a network
-/// of the list holds.
-fn is_allowed(networks: Option<&[Network]>, peer: Option<IpAddr>) -> bool
-    ensures { IsTrue result ↔ IsAllowed (option_copied networks.entry) peer }
-{
-    match (networks, peer) {
-        (None, _) => true,
-        (Some(_), None) => false,
-        (Some(networks), Some(address)) => is_held(networks, &address),
-    }
-}
-
-/// Whether a network of a list holds an address.
-fn is_held(networks: &[Network], address: &IpAddr) -> bool
-    ensures { IsTrue result ↔ Any (λ network. Holds network address.now) networks.now }
-{
-    networks.iter().any(|network| network.holds(address))
-}
-
 /// The page at a moment. It is written to memory first, since the answer tells its length in front of it.
 fn page_at<R: Wait>(
     rt: &R,
@@ -99,7 +76,7 @@ fn answer_to<R: Wait>(
 ) -> Result<Vec<u8>, Memory>
     ensures renders { MayRender moment state.old state.new }
     ensures answer { IfOk result (λ answer. ((page : List ℕ) × IsPageAt moment state.old state.new page × (answer.items ≡ asked_text asked.now page))
-        ⊎ ((page : List ℕ) → answer.items ≡ asked_text asked.now page)) }
+        ⊎ ((state.new ≡ state.old) × ((page : List ℕ) → answer.items ≡ asked_text asked.now page))) }
 {
     match asked {
         Asked::Page { .. } => {

@@ -6,5 +6,5 @@ pub returns-clause-answered : goal.returns-clause-answered
 returns-clause-answered g c =
     answered_first (option_copied c.args.allowed) c.args.moment c.args.state.now c.answer_to.new.state (g.C.Conn.who c.args.conn.now) (g.C.Conn.told c.read.new.conn) (g.C.Conn.told c.write_whole.new.conn) c.is_allowed.result c.head.result.now c.as_slice.result.now
     (g.C.Conn.told c.args.conn.now) (rw (c.peer.ensures, c.in_ok-end.ensures.who) at c.is_allowed.ensures)
-    (rw c.as_slice.ensures.value (asked_either c.args.moment c.args.state.now c.answer_to.new.state c.asked_by-asked.result c.is_allowed.result c.head.result.now _ c.asked_by-asked.ensures c.in_ok-answer.ensures.answer))
+    (rw c.as_slice.ensures.value (asked_either c.args.moment c.args.state.now c.answer_to.new.state c.asked_by-asked.result c.is_allowed.result c.head.result.now _ c.asked_by-asked.ensures.answer c.in_ok-answer.ensures.answer))
     (rw c.head.ensures c.in_ok-end.ensures.read) c.in_ok-write_whole.ensures.wrote

@@ -1,6 +1,6 @@
 use Rattle.std.proofs.Common.{ap, ◌∙◌, inl}
 use Rattle.std.proofs.lemmas.Result.{IfOk-weaker}
-use Rattle.prom_serve.specs.Asked.{asked_text}
+use Rattle.page_answers.specs.Asked.{asked_text}
 use Rattle.prom_serve.proofs.serving.answer_to.Goals as goal
 
 pub returns-in_ok-page-in-Page-clause-answer : goal.returns-in_ok-page-in-Page-clause-answer

@@ -1,6 +1,6 @@
 use Rattle.std.proofs.Common.{◌≤◌}
 use Rattle.std.specs.Prelude.{option_copied}
-use Rattle.prom_serve.specs.Connections.{CountedOn}
+use Rattle.page_answers.specs.Connections.{CountedOn}
 use Rattle.prom_serve.specs.Serving.{Accepts}
 use Rattle.prom_serve.proofs.serving.serve.Given as goal
 
