@@ -26,7 +26,8 @@ pub trait Conn {
     /// what the peer sends. A failed read takes nothing.
     fn read(&mut self, buf: &mut [u8]) -> Result<usize, Failed>
         ensures bound { IfOk result (λ n. n ≤ length buf.old) }
-        ensures took { IfSome (told self.old) (λ before. IfOk result (Took before (told self.new) buf.old buf.new)) }
+        ensures took { IfSome (told self.old)
+            (λ before. IfOk result (Took before (told self.new) buf.old buf.new)) }
         ensures kept { OnErr result (told self.new ≡ told self.old) }
         ensures who { who self.new ≡ who self.old }
         ensures faults { CountsFaults result (faults self.old) (faults self.new) };
@@ -36,7 +37,8 @@ pub trait Conn {
     fn write(&mut self, piece: &[u8]) -> Result<usize, Failed>
         ensures bound { IfOk result (λ n. n ≤ length piece.now) }
         ensures some { IfOk result (λ n. 0 < length piece.now → 0 < n) }
-        ensures wrote { IfOk result (λ n. Wrote (told self.old) (told self.new) (take n piece.now)) }
+        ensures wrote { IfOk result (λ n. Wrote (told self.old) (told self.new)
+            (take n piece.now)) }
         ensures kept { OnErr result (told self.new ≡ told self.old) }
         ensures who { who self.new ≡ who self.old }
         ensures faults { CountsFaults result (faults self.old) (faults self.new) };

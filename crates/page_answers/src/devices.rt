@@ -33,14 +33,19 @@ impl Model for Exchange {
 
     ghost view = { λ exchange. record {
       who = exchange.peer;
-      told = record { taken = take exchange.at exchange.bytes.items; left = drop exchange.at exchange.bytes.items; written = exchange.sink.written };
+      told = record {
+        taken = take exchange.at exchange.bytes.items;
+        left = drop exchange.at exchange.bytes.items;
+        written = exchange.sink.written;
+      };
       most_read = exchange.most;
       most_written = exchange.sink.most;
       reads = exchange.reads;
       writes = exchange.sink.calls;
     } };
 
-    ghost invariant = { λ exchange. (exchange.at ≤ length exchange.bytes.items) × (0 < exchange.most) };
+    ghost invariant = { λ exchange. (exchange.at ≤ length exchange.bytes.items)
+        × (0 < exchange.most) };
 }
 
 impl Exchange {
@@ -55,7 +60,11 @@ impl Exchange {
     ) -> Exchange
         requires { 0 < most }
         ensures who { result.who ≡ peer }
-        ensures told { result.told ≡ record { taken = []; left = bytes.items; written = sink.written } }
+        ensures told { result.told ≡ record {
+          taken = [];
+          left = bytes.items;
+          written = sink.written;
+        } }
         ensures most_read { result.most_read ≡ most }
         ensures most_written { result.most_written ≡ sink.most }
         ensures reads { result.reads ≡ record { failing = failing.items; number = 0; faults = 0 } }
@@ -138,7 +147,8 @@ impl Conn for Exchange {
     fn write(&mut self, piece: &[u8]) -> Result<usize, Failed>
         ensures bound { IfOk result (λ n. n ≤ length piece.now) }
         ensures some { IfOk result (λ n. 0 < length piece.now → 0 < n) }
-        ensures wrote { IfOk result (λ n. self.new.told ≡ with_written self.old.told (take n piece.now)) }
+        ensures wrote { IfOk result (λ n. self.new.told ≡ with_written self.old.told
+            (take n piece.now)) }
         ensures kept { OnErr result (self.new.told ≡ self.old.told) }
         ensures who { self.new.who ≡ self.old.who }
         ensures faults { CountsFaults result (conn_faults self.old) (conn_faults self.new) }
@@ -207,7 +217,8 @@ impl Conn for MemoryConn {
     fn write(&mut self, piece: &[u8]) -> Result<usize, Failed>
         ensures bound { IfOk result (λ n. n ≤ length piece.now) }
         ensures some { IfOk result (λ n. 0 < length piece.now → 0 < n) }
-        ensures wrote { IfOk result (λ n. self.new.told ≡ with_written self.old.told (take n piece.now)) }
+        ensures wrote { IfOk result (λ n. self.new.told ≡ with_written self.old.told
+            (take n piece.now)) }
         ensures kept { OnErr result (self.new.told ≡ self.old.told) }
         ensures who { self.new.who ≡ self.old.who }
         ensures faults { CountsFaults result (conn_faults self.old) (conn_faults self.new) }
@@ -271,7 +282,8 @@ impl MemoryListener {
     /// Lets a connection that nobody has used wait behind the others.
     pub fn add(&mut self, conn: MemoryConn) -> Result<(), Memory>
         requires { IsUnused conn }
-        ensures added { OnOk result (self.new ≡ record self.old { waiting = self.old.waiting ++ conn ∷ [] }) }
+        ensures added { OnOk result (self.new ≡ record self.old
+            { waiting = self.old.waiting ++ conn ∷ [] }) }
         ensures refused { OnErr result (self.new ≡ self.old) }
     {
         match self.waiting.push_back(conn) {
@@ -312,7 +324,8 @@ impl Listener for MemoryListener {
         &mut self,
         _rt: &R,
     ) -> Result<MemoryConn, Failed>
-        ensures fresh { IfOk result (λ conn. IsNew (Some (map ended self.old.finished)) (Some conn.told) (conn_faults conn)) }
+        ensures fresh { IfOk result (λ conn. IsNew (Some (map ended self.old.finished))
+            (Some conn.told) (conn_faults conn)) }
         ensures given { CountsGiven result self.old.given self.new.given }
         ensures lost { self.new.lost ≡ self.old.lost }
         ensures finished { self.new.finished ≡ self.old.finished }

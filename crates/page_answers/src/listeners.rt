@@ -30,7 +30,8 @@ pub trait Listener {
         &mut self,
         rt: &R,
     ) -> Result<Self::Conn, Failed>
-        ensures fresh { IfOk result (λ conn. IsNew (finished self.old) (Self.Conn.told conn) (Self.Conn.faults conn)) }
+        ensures fresh { IfOk result (λ conn. IsNew (finished self.old) (Self.Conn.told conn)
+            (Self.Conn.faults conn)) }
         ensures given { CountsGiven result (given self.old) (given self.new) }
         ensures lost { lost self.new ≡ lost self.old }
         ensures finished { finished self.new ≡ finished self.old }
@@ -40,8 +41,10 @@ pub trait Listener {
     /// Takes a connection back. It is lost exactly where it has failed.
     fn done(&mut self, conn: Self::Conn)
         ensures lost { CountedOn (lost self.old) (lost self.new) (losses (Self.Conn.faults conn)) }
-        ensures finished { IfSome (Self.Conn.told conn) (λ told. GrewBy (finished self.old) (finished self.new)
-            (record { who = Self.Conn.who conn; told = told; faults = Self.Conn.faults conn } ∷ [])) }
+        ensures finished { IfSome (Self.Conn.told conn)
+            (λ told. GrewBy (finished self.old) (finished self.new)
+            (record { who = Self.Conn.who conn; told = told; faults = Self.Conn.faults conn }
+            ∷ [])) }
         ensures given { given self.new ≡ given self.old }
         ensures faults { faults self.new ≡ faults self.old };
 }

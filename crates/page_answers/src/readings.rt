@@ -21,7 +21,8 @@ const MOST_FIELDS: usize = 32_768;
 
 /// Whether some bytes begin with a complete head, or never will. Where there is no room for its fields that isn't known.
 fn are_decided(bytes: &[u8], fields: &mut [HeaderSpan]) -> bool
-    ensures { MatchBool result (AreDecided bytes.now) (HasNoRequest bytes.now ⊎ RequestExceeds (length fields.old) bytes.now) }
+    ensures { MatchBool result (AreDecided bytes.now) (HasNoRequest bytes.now
+        ⊎ RequestExceeds (length fields.old) bytes.now) }
 {
     match parse_request(bytes, fields) {
         Ok(Status::Complete(_)) => true,
@@ -42,7 +43,8 @@ fn read_head<C: Conn>(
 ) -> Result<usize, Failed>
     requires { length bytes.old ≡ 65536 }
     ensures bound { IfOk result (λ n. n ≤ length bytes.old) }
-    ensures read { IfSome (C.told conn.old) (λ before. IfOk result (λ n. WereRead before (C.told conn.new) (take n bytes.new))) }
+    ensures read { IfSome (C.told conn.old)
+        (λ before. IfOk result (λ n. WereRead before (C.told conn.new) (take n bytes.new))) }
     ensures tells { IsSome (C.told conn.old) → IsSome (C.told conn.new) }
     ensures who { C.who conn.new ≡ C.who conn.old }
     ensures faults { CountsFaults result (C.faults conn.old) (C.faults conn.new) }
@@ -90,7 +92,8 @@ impl HeadRoom {
     /// Reads a head, and answers how many bytes were read.
     pub fn read<C: Conn>(&mut self, conn: &mut C) -> Result<usize, Failed>
         ensures bound { IfOk result (λ n. n ≤ length self.new) }
-        ensures read { IfSome (C.told conn.old) (λ before. IfOk result (λ n. WereRead before (C.told conn.new) (take n self.new))) }
+        ensures read { IfSome (C.told conn.old)
+            (λ before. IfOk result (λ n. WereRead before (C.told conn.new) (take n self.new))) }
         ensures tells { IsSome (C.told conn.old) → IsSome (C.told conn.new) }
         ensures who { C.who conn.new ≡ C.who conn.old }
         ensures faults { CountsFaults result (C.faults conn.old) (C.faults conn.new) }

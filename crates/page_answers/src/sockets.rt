@@ -134,7 +134,11 @@ impl<'a, R: Clock> Model for SocketListener<'a, R> {
 
     ghost Value = { CountsText };
 
-    ghost view = { λ listener. record { faults = listener.faults; given = listener.given; lost = listener.lost } };
+    ghost view = { λ listener. record {
+      faults = listener.faults;
+      given = listener.given;
+      lost = listener.lost;
+    } };
 }
 
 /// The next connection to an address, which is bound first where that was not done yet.

@@ -75,8 +75,10 @@ fn answer_to<R: Wait>(
     moment: u64,
 ) -> Result<Vec<u8>, Memory>
     ensures renders { MayRender moment state.old state.new }
-    ensures answer { IfOk result (λ answer. ((page : List ℕ) × IsPageAt moment state.old state.new page × (answer.items ≡ asked_text asked.now page))
-        ⊎ ((state.new ≡ state.old) × ((page : List ℕ) → answer.items ≡ asked_text asked.now page))) }
+    ensures answer { IfOk result (λ answer. ((page : List ℕ)
+        × IsPageAt moment state.old state.new page × (answer.items ≡ asked_text asked.now page))
+        ⊎ ((state.new ≡ state.old) × ((page : List ℕ)
+        → answer.items ≡ asked_text asked.now page))) }
 {
     match asked {
         Asked::Page { .. } => {
@@ -97,7 +99,8 @@ fn answer_peer<R: Wait, C: Conn>(
     conn: &mut C,
     room: &mut HeadRoom,
 ) -> Result<(), GivenUp>
-    ensures answered { OnOk result (IsAnsweredFirst (option_copied allowed.entry) moment state.old state.new (C.who conn.old) (C.told conn.old) (C.told conn.new)) }
+    ensures answered { OnOk result (IsAnsweredFirst (option_copied allowed.entry) moment state.old
+        state.new (C.who conn.old) (C.told conn.old) (C.told conn.new)) }
     ensures renders { MayRender moment state.old state.new }
     ensures tells { IsSome (C.told conn.old) → IsSome (C.told conn.new) }
     ensures who { C.who conn.new ≡ C.who conn.old }
@@ -121,15 +124,23 @@ fn serve_next<R: Net<Listener = TcpListener, Stream = TcpStream> + Wait, N: List
     listener: &mut N,
     room: &mut HeadRoom,
 ) -> Result<bool, ServeError>
-    ensures served { OnOk result (AcceptsOne (option_copied allowed.entry) moment true state.old state.new
-        (record { given = N.given listener.old; finished = N.finished listener.old }) (record { given = N.given listener.new; finished = N.finished listener.new })) }
-    ensures lost { IfOk result (λ failed. CountedOn (N.lost listener.old) (N.lost listener.new) (if failed then 1 else 0)) }
-    ensures memory { result ≡ Err ServeError.Memory → AcceptsOne (option_copied allowed.entry) moment false state.old state.new
-        (record { given = N.given listener.old; finished = N.finished listener.old }) (record { given = N.given listener.new; finished = N.finished listener.new }) }
+    ensures served { OnOk result (AcceptsOne (option_copied allowed.entry) moment true state.old
+        state.new
+        (record { given = N.given listener.old; finished = N.finished listener.old })
+        (record { given = N.given listener.new; finished = N.finished listener.new })) }
+    ensures lost { IfOk result (λ failed. CountedOn (N.lost listener.old) (N.lost listener.new)
+        (if failed then 1 else 0)) }
+    ensures memory { result ≡ Err ServeError.Memory
+        → AcceptsOne (option_copied allowed.entry) moment false state.old state.new
+        (record { given = N.given listener.old; finished = N.finished listener.old })
+        (record { given = N.given listener.new; finished = N.finished listener.new }) }
     ensures state { result ≡ Err ServeError.FailedToCreateHTTPListener → state.new ≡ state.old }
-    ensures given { result ≡ Err ServeError.FailedToCreateHTTPListener → N.given listener.new ≡ N.given listener.old }
-    ensures finished { result ≡ Err ServeError.FailedToCreateHTTPListener → N.finished listener.new ≡ N.finished listener.old }
-    ensures cause { result ≡ Err ServeError.FailedToCreateHTTPListener → Rose (N.faults listener.old) (N.faults listener.new) }
+    ensures given { result ≡ Err ServeError.FailedToCreateHTTPListener
+        → N.given listener.new ≡ N.given listener.old }
+    ensures finished { result ≡ Err ServeError.FailedToCreateHTTPListener
+        → N.finished listener.new ≡ N.finished listener.old }
+    ensures cause { result ≡ Err ServeError.FailedToCreateHTTPListener
+        → Rose (N.faults listener.old) (N.faults listener.new) }
     ensures never_falls { N.faults listener.old ≤ N.faults listener.new }
 {
     let mut conn = match listener.accept(rt) {
@@ -157,17 +168,27 @@ pub fn serve<R: Net<Listener = TcpListener, Stream = TcpStream> + Wait, N: Liste
     count: u32,
 ) -> Result<Served, ServeError>
     ensures total { IfOk result (λ served. served.served + served.failed ≡ count) }
-    ensures lost { IfOk result (λ served. CountedOn (N.lost listener.old) (N.lost listener.new) served.failed) }
-    ensures served { OnOk result (Accepts (option_copied allowed.entry) moment count 0 state.old state.new
-        (record { given = N.given listener.old; finished = N.finished listener.old }) (record { given = N.given listener.new; finished = N.finished listener.new })) }
-    ensures refused { IfErr result (λ error. (accepted : ℕ) × (accepted ≤ count) × Accepts (option_copied allowed.entry) moment accepted (excepted error) state.old state.new
-        (record { given = N.given listener.old; finished = N.finished listener.old }) (record { given = N.given listener.new; finished = N.finished listener.new })) }
-    ensures cause { result ≡ Err ServeError.FailedToCreateHTTPListener → Rose (N.faults listener.old) (N.faults listener.new) }
+    ensures lost { IfOk result (λ served. CountedOn (N.lost listener.old) (N.lost listener.new)
+        served.failed) }
+    ensures served { OnOk result (Accepts (option_copied allowed.entry) moment count 0 state.old
+        state.new
+        (record { given = N.given listener.old; finished = N.finished listener.old })
+        (record { given = N.given listener.new; finished = N.finished listener.new })) }
+    ensures refused { IfErr result (λ error. (accepted : ℕ) × (accepted ≤ count)
+        × Accepts (option_copied allowed.entry) moment accepted (excepted error) state.old state.new
+        (record { given = N.given listener.old; finished = N.finished listener.old })
+        (record { given = N.given listener.new; finished = N.finished listener.new })) }
+    ensures cause { result ≡ Err ServeError.FailedToCreateHTTPListener
+        → Rose (N.faults listener.old) (N.faults listener.new) }
     ensures never_falls { N.faults listener.old ≤ N.faults listener.new }
     ensures home { AllHome state.old → StaysHome moment state.old state.new }
-    ensures pages { OnOk result (ShowsPage (option_copied allowed.entry) moment count 0 state.old (N.finished listener.old) (N.finished listener.new)) }
-    ensures pages_in_part { IfErr result (λ error. ShowsPageInPart (option_copied allowed.entry) moment count (excepted error) state.old
-        (record { given = N.given listener.old; finished = N.finished listener.old }) (record { given = N.given listener.new; finished = N.finished listener.new })) }
+    ensures pages { OnOk result (ShowsPage (option_copied allowed.entry) moment count 0 state.old
+        (N.finished listener.old) (N.finished listener.new)) }
+    ensures pages_in_part { IfErr result
+        (λ error. ShowsPageInPart (option_copied allowed.entry) moment count (excepted error)
+        state.old
+        (record { given = N.given listener.old; finished = N.finished listener.old })
+        (record { given = N.given listener.new; finished = N.finished listener.new })) }
 {
     let mut room = HeadRoom::new(alloc)?;
     let mut failed = 0;

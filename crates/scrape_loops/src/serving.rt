@@ -45,8 +45,10 @@ fn answer_to<R: Wait, P: Pages>(
 ) -> Result<Vec<u8>, Memory>
     ensures shows { MayShow P.shows P.misses moment pages.old pages.new }
     ensures none { asks_page asked.now ≡ false → pages.new ≡ pages.old }
-    ensures answer { IfOk result (λ answer. ((page : List ℕ) × P.shows pages.old moment page pages.new × (answer.items ≡ asked_text asked.now page))
-        ⊎ ((pages.new ≡ pages.old) × ((page : List ℕ) → answer.items ≡ asked_text asked.now page))) }
+    ensures answer { IfOk result (λ answer. ((page : List ℕ)
+        × P.shows pages.old moment page pages.new × (answer.items ≡ asked_text asked.now page))
+        ⊎ ((pages.new ≡ pages.old) × ((page : List ℕ)
+        → answer.items ≡ asked_text asked.now page))) }
 {
     match asked {
         Asked::Page { .. } => {
@@ -67,12 +69,14 @@ pub fn answer_peer<R: Wait, C: Conn, P: Pages>(
     conn: &mut C,
     room: &mut HeadRoom,
 ) -> Result<(), GivenUp>
-    ensures answered { OnOk result (IsAnsweredFirst P.shows (option_copied allowed.entry) moment pages.old pages.new (C.who conn.old) (C.told conn.old) (C.told conn.new)) }
+    ensures answered { OnOk result (IsAnsweredFirst P.shows (option_copied allowed.entry) moment
+        pages.old pages.new (C.who conn.old) (C.told conn.old) (C.told conn.new)) }
     ensures shows { MayShow P.shows P.misses moment pages.old pages.new }
     ensures tells { IsSome (C.told conn.old) → IsSome (C.told conn.new) }
     ensures who { C.who conn.new ≡ C.who conn.old }
     ensures no_fault { OnOk result (C.faults conn.new ≡ C.faults conn.old) }
-    ensures stranger { ¬ (IsAllowed (option_copied allowed.entry) (C.who conn.old)) → pages.new ≡ pages.old }
+    ensures stranger { ¬ (IsAllowed (option_copied allowed.entry) (C.who conn.old))
+        → pages.new ≡ pages.old }
 {
     let end = room.read(conn)?;
     let asked = asked_by(is_allowed(allowed, conn.peer()), room.head(end));
@@ -113,10 +117,13 @@ fn serve_one<
     ensures passed_pages { OnErr result (pages.new ≡ pages.old) }
     ensures passed_moments { OnErr result (M.to_come moments.new ≡ M.to_come moments.old) }
     ensures passed_finished { OnErr result (N.finished listener.new ≡ N.finished listener.old) }
-    ensures served { IfOk result (λ answered. answered ≡ true → Answers P.shows (option_copied allowed.entry)
-        (M.to_come moments.old) (M.to_come moments.new) pages.old pages.new (N.finished listener.old) (N.finished listener.new)) }
+    ensures served { IfOk result (λ answered. answered ≡ true
+        → Answers P.shows (option_copied allowed.entry)
+        (M.to_come moments.old) (M.to_come moments.new) pages.old pages.new
+        (N.finished listener.old) (N.finished listener.new)) }
     ensures failed { IfOk result (λ answered. answered ≡ false → Misses P.shows P.misses
-        (M.to_come moments.old) (M.to_come moments.new) pages.old pages.new (N.finished listener.old) (N.finished listener.new)) }
+        (M.to_come moments.old) (M.to_come moments.new) pages.old pages.new
+        (N.finished listener.old) (N.finished listener.new)) }
 {
     let mut conn = listener.accept(rt)?;
     let Ok(moment) = moments.next_moment(rt) else {
@@ -136,8 +143,22 @@ impl<'a, N: Listener, P: Pages, M: Moments> Job for Serving<'a, N, P, M> {
     ghost use Rattle.scrape_loops.specs.Serving.{Visits, Desk};
 
     ghost does = { λ old new. Visits P.shows P.misses
-        (record { allowed = option_copied old.allowed; pages = old.pages; to_come = M.to_come old.moments; finished = N.finished old.listener; served = old.served; failed = old.failed })
-        (record { allowed = option_copied new.allowed; pages = new.pages; to_come = M.to_come new.moments; finished = N.finished new.listener; served = new.served; failed = new.failed }) };
+        (record {
+          allowed = option_copied old.allowed;
+          pages = old.pages;
+          to_come = M.to_come old.moments;
+          finished = N.finished old.listener;
+          served = old.served;
+          failed = old.failed;
+        })
+        (record {
+          allowed = option_copied new.allowed;
+          pages = new.pages;
+          to_come = M.to_come new.moments;
+          finished = N.finished new.listener;
+          served = new.served;
+          failed = new.failed;
+        }) };
 
     fn run<R: Wait + Clock + Net<Listener = TcpListener, Stream = TcpStream>>(&mut self, rt: &R) {
         match serve_one(
@@ -167,7 +188,9 @@ pub fn serve_until<
     P: Pages,
     M: Moments,
 >(rt: &R, until: &mut U, serving: &mut Serving<'a, N, P, M>)
-    ensures { ServedInOrder P.shows P.misses (option_copied serving.old.allowed) (N.finished serving.old.listener) (N.finished serving.new.listener) serving.old.pages serving.new.pages }
+    ensures { ServedInOrder P.shows P.misses (option_copied serving.old.allowed)
+        (N.finished serving.old.listener) (N.finished serving.new.listener) serving.old.pages
+        serving.new.pages }
 {
     run_until(rt, until, serving);
 }

@@ -25,7 +25,12 @@ impl<'a> Model for SharedListener<'a> {
 
     ghost Value = { CountsText };
 
-    ghost view = { λ listener. record { faults = listener.faults; given = listener.given; lost = listener.lost } };
+    ghost view = { λ listener. record {
+      faults = listener.faults;
+      given = listener.given;
+      lost
+          = listener.lost;
+    } };
 }
 
 impl<'a> SharedListener<'a> {

@@ -93,7 +93,8 @@ pub fn run_beside<
     let ((pool, (first, second)), out) = join(
         rt,
         move || -> (Vec<A>, (Option<B>, Option<C>))
-            ensures { RanEach A.ran pool.items result.0.items × RanIfAny B.ran first result.1.0 × RanIfAny C.ran second result.1.1 }
+            ensures { RanEach A.ran pool.items result.0.items × RanIfAny B.ran first result.1.0
+                × RanIfAny C.ran second result.1.1 }
         { run_lanes(rt, pool, first, second) },
         move || -> T
             requires { W.pre work }

@@ -143,7 +143,8 @@ pub fn run_service<
     requires { W.pre work }
     ensures work { IfOk result (λ ended. W.post work ended.out) }
     ensures upkeep { IfOk result (λ ended. RanTimes K.does service.entry.upkeep ended.upkeep) }
-    ensures flushes { IfOk result (λ ended. FlushedLast F.does F.ends service.entry.flushes ended.flushes) }
+    ensures flushes { IfOk result (λ ended. FlushedLast F.does F.ends service.entry.flushes
+        ended.flushes) }
 {
     let Service {
         scraped,
