@@ -53,6 +53,7 @@ pub struct Report {
 }
 
 /// What is left of a service that has ended: all its threads are joined.
+#[derive(Drop)]
 pub struct Ended<P, K, F, T> {
     pub report: Report,
     /// What showed the pages.
