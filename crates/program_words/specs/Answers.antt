@@ -172,6 +172,11 @@ pub record LeavesSource (bytes : List ℕ) (left : Option (List ℕ)) (status : 
   pub too_long : status ≡ 5 → left ≡ Some (drop (script_limit + 1) bytes)
   pub whole : status ≢ 5 → status ≢ 6 → status ≢ 8 → left ≡ Some []
 
+-- what an end with a status leaves of the devices that are read and aimed: where the link is aimed, and the bytes that are still to come
+pub record LeavesDevices (to : RemoteText) (aimed aimed' : Option RemoteText) (left left' : Option (List ℕ)) (status : ℕ) : Type 0 where
+  pub aimed_at : IsAimed to aimed aimed' status
+  pub source : IfSome left (λ bytes. LeavesSource bytes left' status)
+
 -- ---- lines on `err`
 
 abbrev pub usage_text : List ℕ

@@ -35,6 +35,13 @@ pub record IsScriptServedInPart (bytes : List ℕ) (networks : List NetworkText)
   pub allowed : IsAllowed default_agent script
   pub answered : ForSomePage script (λ page. AnswersInPart networks page count last old new)
 
+-- ---- counts
+
+-- each of so many connections was served or failed, and so many more were lost as failed
+pub record IsCounted (count before after : ℕ) (served : Served) : Type 0 where
+  pub total : served.served + served.failed ≡ count
+  pub lost : CountedOn before after served.failed
+
 -- ---- causes
 
 -- the same as a fault of the whole

@@ -12,7 +12,8 @@ use std::alloc::Global;
 /// The address that the words of the command `drive` say that payloads go to: that of the second word, if there is one, and else the
 /// default agent. It is none where the words are another command, where the second is no address or one of a Unix datagram socket, and where there are more.
 pub(crate) fn drive_address(alloc: Global, words: &[&str]) -> Result<Option<RemoteAddr>, Memory>
-    ensures { IfOk result (λ address. HasAddress (texts_of words.now) (option_map remote_text address)) }
+    ensures { IfOk result (λ address. HasAddress (texts_of words.now)
+        (option_map remote_text address)) }
 {
     let [command, behind @ ..] = words else {
         return Ok(None);

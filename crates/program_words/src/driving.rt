@@ -4,7 +4,7 @@ ghost use Rattle.std.specs.Prelude.{◌≡◌, IfErr, IfOk, IfSome, OnOk};
 ghost use Rattle.metrics_core.specs.Outside.{Rose};
 ghost use Rattle.drive_script.specs.Texts.{script_of};
 ghost use Rattle.dsd_addresses.specs.Remotes.{remote_text};
-ghost use Rattle.program_words.specs.Answers.{end_status, HasCause, HasDeviceCause, IfUnplayed, IsAimed, IsComplete, IsReported, LeavesInPart, LeavesPrefix, LeavesSource, LeavesUnplayed};
+ghost use Rattle.program_words.specs.Answers.{end_status, HasCause, HasDeviceCause, IfUnplayed, IsComplete, IsReported, LeavesDevices, LeavesInPart, LeavesPrefix, LeavesSource, LeavesUnplayed};
 ghost use Rattle.script_player.specs.Headline.{IsPlayed};
 ghost use Rattle.program_words.specs.Reading.{IsReadAs, IsUnread};
 
@@ -40,7 +40,8 @@ pub fn drive<R: RandomSource + Threads + Wait + Sync, S: Source, K: Sink, L: Lin
 
     // What the link was handed is the payloads of one flush per round, each the lines of the sequential state, for orders of its own;
     // the report counts them.
-    ensures sent { IfOk result (λ report. IfSome (S.left source.old) (λ bytes. IsReported bytes (remote_text to.now)
+    ensures sent { IfOk result (λ report. IfSome (S.left source.old)
+        (λ bytes. IsReported bytes (remote_text to.now)
         (record { sent = L.sent link.old; faults = L.faults link.old })
         (record { sent = L.sent link.new; faults = L.faults link.new }) report)) }
 
@@ -49,7 +50,8 @@ pub fn drive<R: RandomSource + Threads + Wait + Sync, S: Source, K: Sink, L: Lin
         HasCause (remote_text to.now) bytes (Rose (S.faults source.old) (S.faults source.new))
         (Rose (K.faults out.old) (K.faults out.new)) fault)) }
     ensures device { IfErr result (HasDeviceCause
-        (Rose (S.faults source.old) (S.faults source.new)) (Rose (K.faults out.old) (K.faults out.new))) }
+        (Rose (S.faults source.old) (S.faults source.new))
+        (Rose (K.faults out.old) (K.faults out.new))) }
 
     // What each fault leaves.
     ensures unplayed { IfErr result (LeavesUnplayed (K.written out.old) (K.written out.new)) }
@@ -62,12 +64,13 @@ pub fn drive<R: RandomSource + Threads + Wait + Sync, S: Source, K: Sink, L: Lin
         (record { sent = L.sent link.new; faults = L.faults link.new }) fault)) }
 
     // Where the link is aimed, and what is still to come of the source.
-    ensures aimed { IsAimed (remote_text to.now) (L.aimed link.old) (L.aimed link.new) (end_status result) }
-    ensures left { IfSome (S.left source.old) (λ bytes. LeavesSource bytes (S.left source.new) (end_status result)) }
+    ensures devices { LeavesDevices (remote_text to.now) (L.aimed link.old) (L.aimed link.new)
+        (S.left source.old) (S.left source.new) (end_status result) }
 
     // Each cause brings its answer.
     ensures complete { IfSome (S.left source.old) (λ bytes. IsComplete (remote_text to.now) bytes
-        (Rose (S.faults source.old) (S.faults source.new)) (Rose (K.faults out.old) (K.faults out.new))
+        (Rose (S.faults source.old) (S.faults source.new))
+        (Rose (K.faults out.old) (K.faults out.new))
         (end_status result)) }
 {
     let start = HashStart::drawn(rt);
@@ -85,8 +88,10 @@ pub(crate) fn read_whole_script<R: Threads + Sync, S: Source>(
     source: &mut S,
 ) -> Result<Script, DriveFault>
     ensures read { IfOk result (λ script. IsReadAs (S.left source.old) (script_of script)) }
-    ensures refused { IfErr result (IsUnread (S.left source.old) (Rose (S.faults source.old) (S.faults source.new))) }
-    ensures left { IfSome (S.left source.old) (λ bytes. LeavesSource bytes (S.left source.new) (end_status result)) }
+    ensures refused { IfErr result (IsUnread (S.left source.old)
+        (Rose (S.faults source.old) (S.faults source.new))) }
+    ensures left { IfSome (S.left source.old) (λ bytes. LeavesSource bytes (S.left source.new)
+        (end_status result)) }
 {
     let bytes = read_all(alloc, source)?;
     read_script_beside(rt, alloc, start, &bytes)

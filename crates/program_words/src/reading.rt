@@ -20,8 +20,10 @@ const CHUNK: usize = 65_536;
 pub fn read_all<S: Source>(alloc: Global, source: &mut S) -> Result<Vec<u8>, DriveFault>
     ensures whole { IfOk result (λ all. IfSome (S.left source.old) (λ bytes. all.items ≡ bytes)) }
     ensures within { IfOk result (λ all. length all.items ≤ script_limit) }
-    ensures refused { IfErr result (IsReadFault (S.left source.old) (Rose (S.faults source.old) (S.faults source.new))) }
-    ensures left { IfSome (S.left source.old) (λ bytes. LeavesSource bytes (S.left source.new) (end_status result)) }
+    ensures refused { IfErr result (IsReadFault (S.left source.old) (Rose (S.faults source.old)
+        (S.faults source.new))) }
+    ensures left { IfSome (S.left source.old) (λ bytes. LeavesSource bytes (S.left source.new)
+        (end_status result)) }
 {
     let mut bytes = empty_with_room(alloc);
     let mut filled = 0;
@@ -61,8 +63,11 @@ fn read_piece<S: Source>(
     requires { HasRoom filled (vec_len bytes.old) }
     ensures room { IfOk result (λ n. filled + n ≤ vec_len bytes.new) }
     ensures limit { vec_len bytes.new ≤ script_limit + 1 }
-    ensures taken { IfOk result (λ n. IfSome (S.left source.old) (λ rest. IsTaken rest (S.left source.new) (take filled bytes.old.items) (take (filled + n) bytes.new.items) n)) }
-    ensures refused { IfErr result (IsPieceFault (Rose (S.faults source.old) (S.faults source.new))) }
+    ensures taken { IfOk result (λ n. IfSome (S.left source.old)
+        (λ rest. IsTaken rest (S.left source.new) (take filled bytes.old.items) (take
+        (filled + n) bytes.new.items) n)) }
+    ensures refused { IfErr result (IsPieceFault
+        (Rose (S.faults source.old) (S.faults source.new))) }
     ensures kept { OnErr result (S.left source.new ≡ S.left source.old) }
     ensures never_falls { S.faults source.old ≤ S.faults source.new }
 {

@@ -22,7 +22,8 @@ use script_player::Report;
 
 /// Says how the program is called.
 pub(crate) fn say_usage<E: Sink>(err: &mut E)
-    ensures said { IsSaidText (Rose (E.faults err.old) (E.faults err.new)) (E.written err.old) (E.written err.new) (line usage_text) }
+    ensures said { IsSaidText (Rose (E.faults err.old) (E.faults err.new))
+        (E.written err.old) (E.written err.new) (line usage_text) }
 {
     say(
         err,
@@ -34,7 +35,8 @@ pub(crate) fn say_usage<E: Sink>(err: &mut E)
 
 /// Says what a run did.
 pub(crate) fn say_report<E: Sink>(err: &mut E, report: &Report)
-    ensures said { IsSaidText (Rose (E.faults err.old) (E.faults err.new)) (E.written err.old) (E.written err.new) (line (report_text report.now)) }
+    ensures said { IsSaidText (Rose (E.faults err.old) (E.faults err.new))
+        (E.written err.old) (E.written err.new) (line (report_text report.now)) }
 {
     let (mut pages, mut sent) = (Buffer::new(), Buffer::new());
     let (mut unsent, mut dropped) = (Buffer::new(), Buffer::new());
@@ -56,7 +58,8 @@ pub(crate) fn say_report<E: Sink>(err: &mut E, report: &Report)
 
 /// Says why a run ended before its last page.
 pub(crate) fn say_fault<E: Sink>(err: &mut E, fault: DriveFault)
-    ensures said { IsSaidText (Rose (E.faults err.old) (E.faults err.new)) (E.written err.old) (E.written err.new) (line (fault_text fault)) }
+    ensures said { IsSaidText (Rose (E.faults err.old) (E.faults err.new))
+        (E.written err.old) (E.written err.new) (line (fault_text fault)) }
 {
     match fault {
         DriveFault::Script { line } => {
@@ -76,7 +79,8 @@ pub(crate) fn say_fault<E: Sink>(err: &mut E, fault: DriveFault)
 
 /// Says which setting is refused.
 fn say_setting<E: Sink>(err: &mut E, fault: SettingFault)
-    ensures said { IsSaidText (Rose (E.faults err.old) (E.faults err.new)) (E.written err.old) (E.written err.new) (line (setting_text fault)) }
+    ensures said { IsSaidText (Rose (E.faults err.old) (E.faults err.new))
+        (E.written err.old) (E.written err.new) (line (setting_text fault)) }
 {
     match fault {
         SettingFault::Empty => say(err, &[b"bucket bounds/quantiles cannot be empty\n"]),
@@ -91,7 +95,8 @@ fn say_setting<E: Sink>(err: &mut E, fault: SettingFault)
 
 /// Says why a payload limit is refused.
 fn say_limit<E: Sink>(err: &mut E, fault: LimitFault)
-    ensures said { IsSaidText (Rose (E.faults err.old) (E.faults err.new)) (E.written err.old) (E.written err.new)
+    ensures said { IsSaidText (Rose (E.faults err.old) (E.faults err.new))
+        (E.written err.old) (E.written err.new)
         (line (codes "invalid configuration: " ++ limit_fault_text fault)) }
 {
     match fault {
@@ -117,7 +122,8 @@ fn say_limit<E: Sink>(err: &mut E, fault: LimitFault)
 
 /// Says that a payload limit is refused, with what is said behind its number.
 fn say_length<E: Sink>(err: &mut E, limit: u64, behind: &[u8])
-    ensures said { IsSaidText (Rose (E.faults err.old) (E.faults err.new)) (E.written err.old) (E.written err.new)
+    ensures said { IsSaidText (Rose (E.faults err.old) (E.faults err.new))
+        (E.written err.old) (E.written err.new)
         (codes "invalid configuration: " ++ limit_text limit behind.now) }
 {
     let mut number = Buffer::new();
@@ -256,7 +262,8 @@ pub(crate) fn say_evaluation_fault<E: Sink>(err: &mut E, fault: EvaluationFault)
 
 /// Writes some pieces, one after another. A failing `err` changes nothing else: what follows is left out.
 pub(crate) fn say<E: Sink>(err: &mut E, pieces: &[&[u8]])
-    ensures said { IsSaidText (Rose (E.faults err.old) (E.faults err.new)) (E.written err.old) (E.written err.new) (flat_map (λ piece. piece.now) pieces.now) }
+    ensures said { IsSaidText (Rose (E.faults err.old) (E.faults err.new))
+        (E.written err.old) (E.written err.new) (flat_map (λ piece. piece.now) pieces.now) }
 {
     for piece in pieces {
         match write_whole(err, piece) {

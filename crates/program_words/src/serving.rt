@@ -1,10 +1,10 @@
 //! Serving the page of a script: the script is read whole, and its page is served.
 
-ghost use Rattle.std.specs.Prelude.{◌+◌, ◌≡◌, ◌≤◌, IfErr, IfOk, IfSome, OnOk};
+ghost use Rattle.std.specs.Prelude.{◌≡◌, ◌≤◌, IfErr, IfOk, IfSome, OnOk};
 ghost use Rattle.metrics_core.specs.Outside.{Rose};
 ghost use Rattle.prom_serve.specs.Connections.{CountedOn};
 ghost use Rattle.program_words.specs.Answers.{LeavesSource};
-ghost use Rattle.program_words.specs.Serving.{HasServeCause, HasServeDeviceCause, IfUnserved, IsScriptServed, IsServeComplete, LeavesServed, serve_end_status};
+ghost use Rattle.program_words.specs.Serving.{HasServeCause, HasServeDeviceCause, IfUnserved, IsCounted, IsScriptServed, IsServeComplete, LeavesServed, serve_end_status};
 
 use crate::driving::read_whole_script;
 use drive_script::{DriveFault, SettingFault, check_settings};
@@ -85,26 +85,28 @@ pub fn serve_script<
     listener: &mut N,
 ) -> Result<Served, ServeScriptFault>
     // Each peer was answered by the page of the script: that of the sequential state behind its rounds, for one order of the calls.
-    ensures served { OnOk result (IfSome (S.left source.old) (λ bytes. IsScriptServed bytes networks.now count
+    ensures served { OnOk result (IfSome (S.left source.old)
+        (λ bytes. IsScriptServed bytes networks.now count
         (record { given = N.given listener.old; finished = N.finished listener.old })
         (record { given = N.given listener.new; finished = N.finished listener.new }))) }
 
     // So many connections were accepted, and each was served or failed.
     ensures given { OnOk result (CountedOn (N.given listener.old) (N.given listener.new) count) }
-    ensures total { IfOk result (λ served. served.served + served.failed ≡ count) }
-    ensures lost { IfOk result (λ served. CountedOn (N.lost listener.old) (N.lost listener.new) served.failed) }
+    ensures counted { IfOk result (IsCounted count (N.lost listener.old) (N.lost listener.new)) }
 
     // Each fault comes only by its cause.
     ensures cause { IfErr result (λ fault. IfSome (S.left source.old) (λ bytes.
         HasServeCause bytes (Rose (S.faults source.old) (S.faults source.new))
         (Rose (N.faults listener.old) (N.faults listener.new)) fault)) }
     ensures device { IfErr result (HasServeDeviceCause
-        (Rose (S.faults source.old) (S.faults source.new)) (Rose (N.faults listener.old) (N.faults listener.new))) }
+        (Rose (S.faults source.old) (S.faults source.new))
+        (Rose (N.faults listener.old) (N.faults listener.new))) }
     ensures never_falls { N.faults listener.old ≤ N.faults listener.new }
 
     // What each fault leaves.
     ensures unserved { IfErr result (IfUnserved (listener.new ≡ listener.old)) }
-    ensures in_part { IfErr result (λ fault. IfSome (S.left source.old) (λ bytes. LeavesServed bytes networks.now count
+    ensures in_part { IfErr result (λ fault. IfSome (S.left source.old)
+        (λ bytes. LeavesServed bytes networks.now count
         (record { given = N.given listener.old; finished = N.finished listener.old })
         (record { given = N.given listener.new; finished = N.finished listener.new }) fault)) }
 
@@ -114,7 +116,8 @@ pub fn serve_script<
 
     // Each cause brings its answer.
     ensures complete { IfSome (S.left source.old) (λ bytes. IsServeComplete bytes
-        (Rose (S.faults source.old) (S.faults source.new)) (Rose (N.faults listener.old) (N.faults listener.new))
+        (Rose (S.faults source.old) (S.faults source.new))
+        (Rose (N.faults listener.old) (N.faults listener.new))
         (serve_end_status result)) }
 {
     let start = HashStart::drawn(rt);

@@ -13,7 +13,8 @@ use prom_serve::Served;
 
 /// Says how many connections were served, and how many failed.
 pub(crate) fn say_served<E: Sink>(err: &mut E, served: &Served)
-    ensures said { IsSaidText (Rose (E.faults err.old) (E.faults err.new)) (E.written err.old) (E.written err.new) (line (served_text served.now)) }
+    ensures said { IsSaidText (Rose (E.faults err.old) (E.faults err.new)) (E.written err.old)
+        (E.written err.new) (line (served_text served.now)) }
 {
     let (mut number, mut failed) = (Buffer::new(), Buffer::new());
     say(
@@ -30,7 +31,8 @@ pub(crate) fn say_served<E: Sink>(err: &mut E, served: &Served)
 
 /// Says why the page wasn't served to the last connection.
 pub(crate) fn say_serve_fault<E: Sink>(err: &mut E, fault: ServeScriptFault)
-    ensures said { IsSaidText (Rose (E.faults err.old) (E.faults err.new)) (E.written err.old) (E.written err.new) (line (serve_fault_text fault)) }
+    ensures said { IsSaidText (Rose (E.faults err.old) (E.faults err.new))
+        (E.written err.old) (E.written err.new) (line (serve_fault_text fault)) }
 {
     match fault {
         ServeScriptFault::Drive(fault) => say_fault(err, fault),

@@ -16,7 +16,8 @@ pub(crate) fn serve_words(
     alloc: Global,
     words: &[&str],
 ) -> Result<Option<(u32, Vec<Network>)>, Memory>
-    ensures { IfOk result (λ asked. HasServeWords (texts_of words.now) (option_map (λ (count, networks). (count, networks.items)) asked)) }
+    ensures { IfOk result (λ asked. HasServeWords (texts_of words.now) (option_map
+        (λ (count, networks). (count, networks.items)) asked)) }
 {
     let [command, count, behind @ ..] = words else {
         return Ok(None);
@@ -35,7 +36,8 @@ pub(crate) fn serve_words(
 
 /// The networks that texts write, in turn, or none where one of them writes none.
 fn read_networks(alloc: Global, texts: &[&str]) -> Result<Option<Vec<Network>>, Memory>
-    ensures { IfOk result (λ networks. MatchOption networks ((others : List NetworkText) → ¬ (AreNetworks (texts_of texts.now) others))
+    ensures { IfOk result (λ networks. MatchOption networks ((others : List NetworkText)
+        → ¬ (AreNetworks (texts_of texts.now) others))
         (λ networks. AreNetworks (texts_of texts.now) networks.items)) }
 {
     let mut networks = Vec::with_capacity(alloc, texts.len())?;
@@ -63,7 +65,8 @@ pub(crate) fn read_count(text: &str) -> Option<u32>
 
 /// Whether a text begins as a decimal number may: without a plus sign, and with a zero only where nothing follows it.
 fn begins_as_number(text: &[u8]) -> bool
-    ensures { IsTrue result ↔ ((slice_index text.now 0 ≢ 43) × (slice_index text.now 0 ≡ 48 → length text.now ≡ 1)) }
+    ensures { IsTrue result ↔ ((slice_index text.now 0 ≢ 43) × (slice_index text.now 0 ≡ 48
+        → length text.now ≡ 1)) }
 {
     match text {
         [b'+', ..] => false,

@@ -46,7 +46,8 @@ docs/SCRIPT.md says how a script is written.
 
 /// The text that the words ask for, if they ask for one.
 pub(crate) fn asked_text(words: &[&str]) -> Option<&'static str>
-    ensures { MatchOption result ((text : List ℕ) → ¬ AsksFor (texts_of words.now) text) (λ text. AsksFor (texts_of words.now) text.now) }
+    ensures { MatchOption result ((text : List ℕ) → ¬ AsksFor (texts_of words.now) text)
+        (λ text. AsksFor (texts_of words.now) text.now) }
 {
     match words {
         [word] => text_of(word),
@@ -56,7 +57,8 @@ pub(crate) fn asked_text(words: &[&str]) -> Option<&'static str>
 
 /// The text that a word asks for, if it asks for one.
 fn text_of(word: &str) -> Option<&'static str>
-    ensures { MatchOption result ((text : List ℕ) → ¬ AsksForWord word.now text) (λ text. AsksForWord word.now text.now) }
+    ensures { MatchOption result ((text : List ℕ) → ¬ AsksForWord word.now text)
+        (λ text. AsksForWord word.now text.now) }
 {
     if word == "--help" || word == "-h" {
         return Some(help());

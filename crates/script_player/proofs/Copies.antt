@@ -1,5 +1,5 @@
 -- Parts of copies say to the flushes what all lines say.
-use Rattle.std.proofs.Common.{◌≡◌, ◌∷◌, [], ◌++◌, ◌*◌, ◌+◌, ◌/◌, ◌%◌, ◌<◌, ◌≤◌, min, ℕ, zero, suc, List, Result, Ok, ap, sym, subst, ◌∙◌, refl, fold, map, take, drop, length, arith}
+use Rattle.std.proofs.Common.{◌≡◌, ◌∷◌, [], ◌++◌, ◌*◌, ◌+◌, ◌/◌, ◌%◌, ◌<◌, ◌≤◌, min, ℕ, suc, List, Result, Ok, ap, sym, subst, ◌∙◌, refl, fold, map, take, drop, length, arith}
 use Rattle.std.specs.Prelude.{IfOk, slice_index_or}
 use Rattle.std.specs.List.{AllZip}
 use Rattle.std.specs.Fork.{slice_chunk}

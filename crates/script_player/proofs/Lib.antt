@@ -18,6 +18,7 @@ pub mod OverBoth
 pub mod Delivered
 pub mod PagesSoFar
 pub mod LastPages
+pub mod Standing
 pub mod BenchSteps
 pub mod SendSteps
 pub mod LineSteps
@@ -26,3 +27,4 @@ pub mod Copies
 pub mod PayloadLimits
 pub mod Crossing
 pub mod PlayFaults
+pub mod RoundEnds

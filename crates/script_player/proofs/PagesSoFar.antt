@@ -13,7 +13,7 @@ use Rattle.script_player.specs.Flushes.{FlushPlay, ForSomeFlushes}
 use Rattle.script_player.specs.InPart.{BeginsPage, EndsWithin, after_rounds}
 use Rattle.script_player.specs.InTurn.{orders_in_turn}
 use Rattle.script_player.specs.Orders.{ForSomeOrders, round_text, rounds_text}
-use Rattle.script_player.specs.Play.{PlayState, RoundOrders, AreOrdersAlong, AreOrdersOf, after_round, after_setup, exporter_settings, page_of}
+use Rattle.script_player.specs.Play.{PlayState, RoundOrders, AreOrdersAlong, AreOrdersOf, after_round, after_setup, exporter_settings}
 use Rattle.script_player.specs.Sent.{Delivers, LinkTold}
 use Rattle.script_player.proofs.Delivered.{FlushedSoFar, delivers-earlier, delivers-none, told-still}
 use Rattle.script_player.proofs.RunPages.{orders_of_kind, pages_read}

@@ -28,7 +28,7 @@ use Rattle.histogram_series.specs.Drains.{TakesOut}
 use Rattle.prom_exporter.specs.Shared.{Shared, unused}
 use Rattle.prom_exporter.specs.Sampled.{Sampled}
 use Rattle.prom_exporter.specs.Stepped.{AreCounted, AreDrained, AreNoted, DrainsEach, DrainsInPart, DrainsWhole, IsCounted, IsNoted, Steps}
-use Rattle.prom_exporter.specs.Exporter.{Exporter, AddsCounter, AddsGauge, AddsHistogram, AllHome}
+use Rattle.prom_exporter.specs.Exporter.{Exporter, AddsCounter, AddsGauge, AddsHistogram, AllHome, Cells, no_cells}
 use Rattle.prom_exporter.proofs.Home.{counts-home}
 use Rattle.prom_exporter.specs.declared.lanes.SeriesCell.{SeriesCell}
 use Rattle.prom_exporter.specs.declared.lanes.SeriesCell.TheVariants as cells
@@ -37,6 +37,7 @@ use Rattle.prom_exporter.specs.declared.lanes.SeriesEntry.TheVariants as entries
 use Rattle.prom_exporter.specs.LanePasses.{TakesCall, counter_thing, gauge_thing, histogram_thing, things_of, ids_of, frame_of, unseen, unheard_series}
 use Rattle.script_player.specs.LaneCalls.{IsOfKind, kind_asked}
 use Rattle.script_player.specs.Resting.{AllRest, EachRests, IsResting, sample_root, value_root}
+use Rattle.script_player.specs.Rounds.{RestsOn}
 use Rattle.script_player.proofs.LaneSteps.{counter≢gauge, counter≢histogram, gauge≢histogram, front_or_behind, its_id, map_at}
 use Rattle.script_player.proofs.Unmapped.{queue_once, settled-back, value_once}
 
@@ -259,6 +260,14 @@ histogram_rests key old new step rest = ⊎_elim
     (λ (adds : AddsHistogram key old new). subst AllRest (sym adds.1) (record { counters = rest.counters; gauges = rest.gauges; histograms = new_rests sample_root kinds.Histogram old.series.histograms old.series.made key _ refl rest.histograms }))
     step
 
+-- an exporter without series
+pub none_rest : (e : Exporter) → e.series ≡ no_cells → AllRest e
+none_rest e none = record {
+  counters = subst (λ (cells : Cells). EachRests value_root kinds.Counter cells.counters) (sym none) (λ i s at. absurd (some-ne-none s (sym at)));
+  gauges = subst (λ (cells : Cells). EachRests value_root kinds.Gauge cells.gauges) (sym none) (λ i s at. absurd (some-ne-none s (sym at)));
+  histograms = subst (λ (cells : Cells). EachRests sample_root kinds.Histogram cells.histograms) (sym none) (λ i s at. absurd (some-ne-none s (sym at)));
+}
+
 -- something was said of metrics, and nothing else happened
 pub said_rests : (old new : Exporter) → new ≡ record old { said = new.said } → AllRest old → AllRest new
 said_rests old new same rest = subst AllRest (sym same) (record { counters = rest.counters; gauges = rest.gauges; histograms = rest.histograms })
@@ -337,5 +346,11 @@ upkeep_rests e f drains rest =
     subst AllRest (sym drains.1) (record { counters = rest.counters; gauges = rest.gauges; histograms = drained_rests DrainsInPart (λ s t part. part) e.series.histograms f.series.histograms rest.histograms drains.0 })
 
 -- a page step was made, or histograms were drained
-pub render_rests : {P Q : Type 0} (moment : ℕ) (e f : Exporter) → Steps moment e f ⊎ (P × DrainsEach DrainsInPart e f × Q) → AllRest e → AllRest f
-render_rests {P} {Q} moment e f rendered rest = ⊎_elim (λ (steps : Steps moment e f). page_rests moment e f steps rest) (λ (drains : P × DrainsEach DrainsInPart e f × Q). upkeep_rests e f drains.1 rest) rendered
+pub page_rests_on : (moment : ℕ) (e f : Exporter) → AllRest e → Steps moment e f → RestsOn e f
+page_rests_on moment e f rest steps = record { rest = page_rests moment e f steps rest; settings = steps.settings }
+
+pub upkeep_rests_on : (e f : Exporter) → AllRest e → DrainsEach DrainsInPart e f → RestsOn e f
+upkeep_rests_on e f rest drains = record { rest = upkeep_rests e f drains rest; settings = ap (λ (x : Exporter). x.settings) drains.1 }
+
+pub render_rests : {P Q : Type 0} (moment : ℕ) (e f : Exporter) → Steps moment e f ⊎ (P × DrainsEach DrainsInPart e f × Q) → AllRest e → RestsOn e f
+render_rests {P} {Q} moment e f rendered rest = ⊎_elim (page_rests_on moment e f rest) (λ (drains : P × DrainsEach DrainsInPart e f × Q). upkeep_rests_on e f rest drains.1) rendered

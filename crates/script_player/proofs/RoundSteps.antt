@@ -1,54 +1,86 @@
 -- A round from its parts, and the rounds of a script one after another.
 use Rattle.std.proofs.Common.{◌≡◌, ℕ, ◌+◌, ◌<◌, List, [], ◌∷◌, length, map, drop, drop-cons, get_or, suc, add-one, refl, sym, ap, subst, ◌∙◌}
-use Rattle.std.specs.Prelude.{Result, Ok, Err, OnOk, OnErr, Option}
+use Rattle.std.specs.Prelude.{Option}
 use Rattle.metrics_core.specs.Outside.{GrewBy, GrewByPrefix, GrewUpTo}
 use Rattle.metrics_core.proofs.Grown.{grew_none, grew_up_to-append, grew_up_to-end, grew_up_to-prefix, grew_up_to-start}
 use Rattle.prom_format.specs.Pages.{page_text}
 use Rattle.prom_exporter.specs.State.{page_step}
 use Rattle.prom_exporter.specs.Families.{families_at}
-use Rattle.prom_exporter.specs.Exporter.{Exporter, families_shown, page_families, state_of as prometheus_of}
-use Rattle.metrics_core.specs.declared.kinds.SeriesId.{SeriesId}
+use Rattle.prom_exporter.specs.Exporter.{families_shown}
+use Rattle.dsd_addresses.specs.Remotes.{RemoteText}
+use Rattle.dsd_exporter.specs.State.{FlushItem, flush_items, flush_step}
+use Rattle.dsd_exporter.specs.declared.sending.FlushReport.{FlushReport}
 use Rattle.drive_script.specs.Script.{RoundText, ScriptText, SettingsText}
 use Rattle.drive_script.specs.Texts.{round_of}
 use Rattle.drive_script.specs.declared.script.Round.{Round}
+use Rattle.script_player.specs.Flushes.{AreFlushOrders, FlushPlay, IsFlushCalled, after_line_calls, after_registers, before_flush, dogstatsd_settings, flush_of}
 use Rattle.script_player.specs.Play.{PlayState, RoundOrders, AreOrdersAlong, AreOrdersOf, after_calls, after_round, after_setup, exporter_settings, play_start}
+use Rattle.script_player.specs.Player.{PlayerText, SendsNothing}
 use Rattle.script_player.specs.InTurn.{orders_along, orders_in_turn}
 use Rattle.script_player.specs.Orders.{ForSomeOrders, ForSomeRounds, ForSomeRun, IsCalled, round_text, rounds_text}
+use Rattle.script_player.specs.Rounds.{CutsPage, CutsRound, EndsRound, PlaysRound, player_page}
+use Rattle.script_player.specs.Sent.{Delivers, LinkTold}
 use Rattle.script_player.proofs.RunPages.{orders_legal, orders_of_kind}
 
 -- ---- a round
 
--- the state after a round, and its page: q is the state after the round's setup
-pub after_page : (settings : SettingsText) (p q : PlayState) (round : RoundText) (exporter : Exporter) (handles : List SeriesId) → q ≡ after_setup p round → exporter.settings ≡ exporter_settings settings
-    → IsCalled q round (record { prometheus = prometheus_of exporter; handles = handles })
-    → ForSomeOrders p round (λ orders. (record { prometheus = page_step exporter.settings.idle round.moment (prometheus_of exporter); handles = handles } ≡ after_round settings p round orders)
-    × (page_text (page_families round.moment exporter) ≡ round_text settings p round orders))
-after_page settings p q round exporter handles set_up same called =
-    let state : record { prometheus = prometheus_of exporter; handles = handles } ≡ after_calls (after_setup p round) round called.0 = called.2 ∙ ap (λ s. after_calls s round called.0) set_up in (
-      called.0,
-      subst (λ s. AreOrdersOf s round called.0) set_up called.1,
-      (
-        ap (λ idle. record { prometheus = page_step idle round.moment (prometheus_of exporter); handles = handles }) (ap (λ s. s.idle) same)
-            ∙ ap (λ (x : PlayState). record { prometheus = page_step (exporter_settings settings).idle round.moment x.prometheus; handles = x.handles }) state,
-        ap (λ s. page_text (families_shown s round.moment (prometheus_of exporter))) same
-            ∙ ap (λ (x : PlayState). page_text (families_at (exporter_settings settings) round.moment (page_step (exporter_settings settings).idle round.moment x.prometheus))) state,
-      ),
-    )
+-- A round from its parts: a is the player behind its setup, and b that behind its calls.
+module _ (round : RoundText) (p a b : PlayerText) (set_up : SendsNothing p a) (call : SendsNothing a b) (stepped : a.pages ≡ after_setup p.pages round) (called : IsCalled a.pages round b.pages) where
+  asked : b.settings ≡ p.settings
+  asked = call.settings ∙ set_up.settings
 
--- what a page that was written says of the round, and one that was not
-pub round_ended : {T E : Type 0} (r : Result T E) (settings : SettingsText) (p x y : PlayState) (round : RoundText) (written written' : Option (List ℕ)) (page : List ℕ)
-    → ForSomeOrders p round (λ orders. (y ≡ after_round settings p round orders) × (page ≡ round_text settings p round orders))
-    → OnOk r (x ≡ y) → OnOk r (GrewBy written written' page)
-    → OnOk r (ForSomeOrders p round (λ orders. (x ≡ after_round settings p round orders) × GrewBy written written' (round_text settings p round orders)))
-round_ended (Ok v) settings p x y round written written' page (orders, legal, (state, text)) stepped grew = (orders, legal, (stepped ∙ state, subst (GrewBy written written') text grew))
-round_ended (Err v) settings p x y round written written' page some stepped grew = tt
+  state : b.pages ≡ after_calls (after_setup p.pages round) round called.0
+  state = called.2 ∙ ap (λ s. after_calls s round called.0) stepped
 
-pub round_cut : {T E : Type 0} (r : Result T E) (settings : SettingsText) (p y : PlayState) (round : RoundText) (written written' : Option (List ℕ)) (page : List ℕ)
-    → ForSomeOrders p round (λ orders. (y ≡ after_round settings p round orders) × (page ≡ round_text settings p round orders))
-    → OnErr r (GrewByPrefix written written' page)
-    → OnErr r (ForSomeOrders p round (λ orders. GrewByPrefix written written' (round_text settings p round orders)))
-round_cut (Ok v) settings p y round written written' page some grew = tt
-round_cut (Err v) settings p y round written written' page (orders, legal, (state, text)) grew = (orders, legal, subst (GrewByPrefix written written') text grew)
+  legal : AreOrdersOf (after_setup p.pages round) round called.0
+  legal = subst (λ s. AreOrdersOf s round called.0) stepped called.1
+
+  page_is : player_page round.moment b ≡ round_text p.settings p.pages round called.0
+  page_is =
+      ap (λ (s : SettingsText). page_text (families_shown (exporter_settings s) round.moment b.pages.prometheus)) asked
+      ∙ ap (λ (x : PlayState). page_text (families_at (exporter_settings p.settings) round.moment (page_step (exporter_settings p.settings).idle round.moment x.prometheus))) state
+
+  -- its page was cut off
+  pub round_cut : (written written' : Option (List ℕ)) (told tells : LinkTold) → CutsPage round.moment b written written' told tells → CutsRound round p written written' told tells
+  round_cut written written' told tells cut = record { page = (called.0, legal, subst (GrewByPrefix written written') page_is cut.prefix); unsent = cut.unsent }
+
+  -- it was played
+  module _ (registered : a.flushes ≡ after_registers p.flushes round) (lines_called : IsFlushCalled a.flushes round b.flushes) where
+    lines_state : b.flushes ≡ before_flush p.flushes round lines_called.0
+    lines_state = lines_called.2 ∙ ap (λ s. after_line_calls s round lines_called.0) registered
+
+    module _ (q : PlayerText) (written written' : Option (List ℕ)) (told tells : LinkTold) (ends : EndsRound round.moment b q written written' told tells) where
+      abbrev items : SettingsText → FlushPlay → List (List FlushItem)
+      items s x = flush_items (dogstatsd_settings s) s.dsd_globals round.moment [] x.dogstatsd ∷ []
+
+      delivered : Delivers p.settings p.to (flush_of p.settings p.flushes round lines_called.0 ∷ []) told tells p.report q.report
+      delivered =
+          subst (λ (x : FlushPlay). Delivers p.settings p.to (items p.settings x) told tells p.report q.report) lines_state
+          (subst (λ (r : FlushReport). Delivers p.settings p.to (items p.settings b.flushes) told tells r q.report) (call.report ∙ set_up.report)
+          (subst (λ (t : RemoteText). Delivers p.settings t (items p.settings b.flushes) told tells b.report q.report) (call.to ∙ set_up.to)
+          (subst (λ (s : SettingsText). Delivers s b.to (items s b.flushes) told tells b.report q.report) asked ends.sent)))
+
+      pub round_played : PlaysRound round p q written written' told tells
+      round_played = record {
+        settings = ends.settings ∙ asked;
+        to = ends.to ∙ (call.to ∙ set_up.to);
+        none_waits = ends.none_waits;
+        page = (
+          called.0,
+          legal,
+          (
+            ends.pages
+                ∙ (ap (λ (s : SettingsText). record b.pages { prometheus = page_step (exporter_settings s).idle round.moment b.pages.prometheus }) asked
+                ∙ ap (λ (x : PlayState). record x { prometheus = page_step (exporter_settings p.settings).idle round.moment x.prometheus }) state),
+            subst (GrewBy written written') page_is ends.page,
+          ),
+        );
+        flush = (
+          lines_called.0,
+          subst (λ s. AreFlushOrders s round lines_called.0) registered lines_called.1,
+          (ends.flushes ∙ ap (λ (x : FlushPlay). record x { dogstatsd = flush_step x.dogstatsd }) lines_state, delivered),
+        );
+      }
 
 -- where no page was begun
 pub round_unbegun : (settings : SettingsText) (p : PlayState) (round : RoundText) (told : Option (List ℕ)) → ForSomeOrders p round (λ orders. GrewByPrefix told told (round_text settings p round orders))

@@ -1,5 +1,5 @@
 -- Rounds that are played one after another without pages between, and what is shown of the exporter behind them.
-use Rattle.std.proofs.Common.{◌≡◌, ℕ, ◌+◌, ◌-◌, List, [], ◌∷◌, ◌++◌, append-nil, length, take, refl, sym, ap, subst, ◌∙◌, arith}
+use Rattle.std.proofs.Common.{◌≡◌, ℕ, zero, suc, ◌+◌, ◌-◌, ◌≤◌, ⊎_elim, List, [], ◌∷◌, ◌++◌, append-nil, length, take, refl, sym, ap, subst, ◌∙◌, arith}
 use Rattle.std.specs.Prelude.{Option, Some, None, IfSome, All, ◌%◌, ◌^◌, Result, Ok, Err, IfErr, OnOk}
 use Rattle.std.proofs.lemmas.List.{take_all}
 use Rattle.std.proofs.lemmas.List.Elements.{All-nil}
@@ -10,18 +10,19 @@ use Rattle.prom_exporter.specs.Families.{ExporterSettings}
 use Rattle.prom_serve.specs.Connections.{Ended, CountedOn}
 use Rattle.prom_serve.specs.Refusals.{excepted}
 use Rattle.prom_exporter.proofs.TimelyPages.{timely_page}
-use Rattle.prom_serve.specs.Serving.{Accepts, Listening, ShowsPage, ShowsPageInPart}
+use Rattle.prom_serve.specs.Serving.{Accepts, IsRendered, Listening, MayRender, Renders, ShowsPage, ShowsPageInPart}
 use Rattle.prom_serve.specs.declared.errors.ServeError.{ServeError}
-use Rattle.drive_script.specs.Script.{RoundText, ScriptText, SettingsText}
+use Rattle.drive_script.specs.Script.{RoundText, ScriptText}
 use Rattle.script_player.specs.Flushes.{FlushPlay, IsFlushCalled, after_registers}
 use Rattle.script_player.specs.InTurn.{orders_in_turn}
 use Rattle.script_player.specs.Orders.{ForSomeOrders, IsCalled}
-use Rattle.script_player.specs.Play.{PlayState, RoundOrders, AreOrdersOf, after_calls, after_setup, exporter_settings, play_start}
+use Rattle.script_player.specs.Play.{PlayState, RoundOrders, AreOrdersOf, after_calls, after_setup, play_start}
 use Rattle.script_player.specs.Resting.{AllRest}
+use Rattle.script_player.specs.Rounds.{RestsOn}
 use Rattle.script_player.specs.Served.{Answers, AnswersInPart, AreServedOrdersAlong, ForSomePage, ForSomeServed, IsShownPage, listed, moment_from, served_along, served_body}
 use Rattle.script_player.specs.Timely.{IsTimelyState, RiseFrom}
 use Rattle.script_player.proofs.Rendered.{timely_exporter}
-use Rattle.script_player.proofs.RestingSteps.{rest_home}
+use Rattle.script_player.proofs.RestingSteps.{page_rests_on, rest_home, upkeep_rests_on}
 use Rattle.script_player.proofs.RunPages.{orders_of_kind}
 use Rattle.script_player.proofs.TimelyRounds.{later_timely, shown_timely}
 
@@ -80,6 +81,11 @@ pub called_handles : (p q r : FlushPlay) (round : RoundText) → q ≡ after_reg
 called_handles p q r round set_up called = ap (λ (x : FlushPlay). x.handles) called.2 ∙ ap (λ (x : FlushPlay). x.handles) set_up
 
 -- ---- moments
+
+-- behind the calls of a round
+pub unshown_timely : (p q : PlayState) (round : RoundText) → IsTimelyState round.moment p.prometheus → ForSomeOrders p round (λ orders. q ≡ after_calls (after_setup p round) round orders)
+    → IsTimelyState round.moment q.prometheus
+unshown_timely p q round timely (orders, legal, is) = shown_timely p (after_setup p round) q round timely refl (orders, legal, is)
 
 -- moments that rise do so behind the rounds, too
 pub served_timely : (moment : ℕ) (p : PlayState) (rounds : List RoundText) (choice : List RoundOrders) → RiseFrom moment rounds → IsTimelyState moment p.prometheus → AreServedOrdersAlong p rounds choice
@@ -164,6 +170,22 @@ module _ (networks : List NetworkText) (asked : Option (List NetworkText)) (star
       let answered = answers_behind shows.0 (excepted error) old new behind shows.2 shows.3 in
       (answered.0, answered.1, (shows.0, shows.1, answered.2))
 
--- where the play begins at the start of a script, with its settings
-pub at_start : (settings : SettingsText) (start : PlayState) (own : ExporterSettings) (Q : PlayState → ExporterSettings → Type 0) → start ≡ play_start → own ≡ exporter_settings settings → Q start own → Q play_start (exporter_settings settings)
-at_start settings start own Q same are h = subst (λ s. Q play_start s) are (subst (λ p. Q p own) same h)
+-- ---- what serving leaves
+
+may_rest : (moment : ℕ) (e f : Exporter) → AllRest e → MayRender moment e f → RestsOn e f
+may_rest moment e f rest may =
+    ⊎_elim (λ (same : f ≡ e). record { rest = subst AllRest (sym same) rest; settings = ap (λ (x : Exporter). x.settings) same })
+    (λ (rendered : IsRendered moment e f). ⊎_elim (page_rests_on moment e f rest) (upkeep_rests_on e f rest) rendered.steps) may
+
+renders_rest : (moment most : ℕ) (e f : Exporter) → AllRest e → Renders moment most e f → RestsOn e f
+renders_rest moment zero e f rest same = record { rest = subst AllRest (sym same) rest; settings = ap (λ (x : Exporter). x.settings) same }
+renders_rest moment (suc most) e f rest (middle, before, last) =
+    let first = renders_rest moment most e middle rest before in
+    let then_on = may_rest moment middle f first.rest last in
+    record { rest = then_on.rest; settings = then_on.settings ∙ first.settings }
+
+-- an exporter at rest is so behind connections, however they ended
+pub served_rests : {T : Type 0} (asked : Option (List NetworkText)) (moment count : ℕ) (e f : Exporter) (old new : Listening) (r : Result T ServeError) → AllRest e → OnOk r (Accepts asked moment count 0 e f old new)
+    → IfErr r (λ error. (accepted : ℕ) × (accepted ≤ count) × Accepts asked moment accepted (excepted error) e f old new) → RestsOn e f
+served_rests asked moment count e f old new (Ok v) rest all part = renders_rest moment count e f rest all.renders
+served_rests asked moment count e f old new (Err error) rest all (accepted, few, part) = renders_rest moment accepted e f rest part.renders

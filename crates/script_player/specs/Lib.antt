@@ -9,6 +9,8 @@ pub mod Flushes
 pub mod Sent
 pub mod InPart
 pub mod Player
+pub mod Rounds
+pub mod Shown
 pub mod Orders
 pub mod Told
 pub mod Resting

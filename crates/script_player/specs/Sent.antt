@@ -1,5 +1,5 @@
 -- What a run hands to its link, and what it reports of it (this project's rule).
-use Rattle.std.specs.Prelude.{◌≡◌, ℕ, ◌+◌, List, [], ◌++◌, length, Option, Some}
+use Rattle.std.specs.Prelude.{◌≡◌, ℕ, ◌+◌, List, [], length, Option, Some}
 use Rattle.metrics_core.specs.Numbers.{in_64_bits}
 use Rattle.metrics_core.specs.Outside.{GrewBy}
 use Rattle.dsd_addresses.specs.Remotes.{RemoteText}
@@ -8,8 +8,8 @@ use Rattle.dsd_exporter.specs.Links.{SentText}
 use Rattle.dsd_exporter.specs.Sending.{Outcome, RoseBy, addressed, handed, sent_of, unsent_of}
 use Rattle.dsd_exporter.specs.State.{FlushItem, left_out_of_items, lines_of_items}
 use Rattle.dsd_exporter.specs.declared.sending.FlushReport.{FlushReport}
-use Rattle.drive_script.specs.Script.{RoundText, ScriptText, SettingsText}
-use Rattle.script_player.specs.Flushes.{FlushPlay, ForSomeFlushes, all_left_out, all_payloads, flush_start, is_stream, payload_limit}
+use Rattle.drive_script.specs.Script.{ScriptText, SettingsText}
+use Rattle.script_player.specs.Flushes.{ForSomeFlushes, all_left_out, all_payloads, flush_start, is_stream, payload_limit}
 use Rattle.script_player.specs.declared.report.Report.{Report}
 
 -- what a link tells: its payloads, where it does, and its count of faults

@@ -44,8 +44,7 @@ pub fn bench<R: Threads + Wait + Sync, K: Sink, G: Gate + Sync>(
     let settings = bench_settings(alloc)?;
     let mut player = Player::new(alloc, HashStart::fixed(), settings, &to)?;
     let played = player.play_bench(rt, alloc, gate, count, out, &mut link);
-    let report = player.flushes.report;
-    player.end(rt);
+    let report = player.end(rt);
     played?;
     Ok(report_of(count, report))
 }
@@ -67,16 +66,13 @@ fn report_of(pages: u32, flushes: FlushReport) -> Report
 impl Player {
     ghost use Rattle.std.specs.Prelude.{◌≡◌, ◌≤◌, IfErr, OnErr, OnOk, Some};
     ghost use Rattle.metrics_core.specs.Outside.{Rose};
-    ghost use Rattle.dsd_exporter.specs.Resting.{AllRest as LinesRest};
     ghost use Rattle.bench_scripts.specs.Bench.{bench_script, bench_settings_text};
     ghost use Rattle.script_player.specs.Agent.{default_agent};
     ghost use Rattle.script_player.specs.Faults.{IsPlayFault};
     ghost use Rattle.script_player.specs.Benched.{IsBenched, IsBenchedInPart};
     ghost use Rattle.script_player.specs.Flushes.{ForSomeFlushes, flush_start};
-    ghost use Rattle.script_player.specs.Play.{exporter_settings, play_start};
-    ghost use Rattle.script_player.specs.Player.{AsksFor, flush_state_of, state_of};
-    ghost use Rattle.script_player.specs.Resting.{AllRest};
-    ghost use Rattle.script_player.specs.Sent.{Delivers};
+    ghost use Rattle.script_player.specs.Player.{first_player};
+    ghost use Rattle.script_player.specs.Sent.{Delivers, none_sent};
 
     /// Plays so many rounds of the generated script, up to the first that fails. The last page goes to the sink, and those before it nowhere.
     fn play_bench<R: Threads + Wait + Sync, G: Gate + Sync, K: Sink, L: Link>(
@@ -88,20 +84,18 @@ impl Player {
         out: &mut K,
         link: &mut L,
     ) -> Result<(), DriveFault>
-        requires some { 1 ≤ count }
-        requires limit { count ≤ 10000 }
-        requires start { state_of self.old ≡ play_start }
-        requires flush_start { flush_state_of self.old ≡ flush_start }
-        requires settings { self.old.exporters.prometheus.settings ≡ exporter_settings bench_settings_text }
-        requires asks { AsksFor bench_settings_text default_agent self.old }
+        requires count { (1 ≤ count) × (count ≤ 10000) }
+        requires start { self.old ≡ first_player bench_settings_text default_agent }
         requires aimed { L.aimed link.old ≡ Some default_agent }
-        requires rest { AllRest self.old.exporters.prometheus }
-        requires lines_rest { LinesRest self.old.exporters.dogstatsd }
         ensures written { OnOk result (IsBenched count (K.written out.old) (K.written out.new)) }
-        ensures prefix { OnErr result (IsBenchedInPart count (K.written out.old) (K.written out.new)) }
-        ensures sent { OnOk result (ForSomeFlushes bench_settings_text flush_start (bench_script count).rounds (λ flushes. Delivers bench_settings_text default_agent flushes
-            (record { sent = L.sent link.old; faults = L.faults link.old }) (record { sent = L.sent link.new; faults = L.faults link.new })
-            self.old.flushes.report self.new.flushes.report)) }
+        ensures prefix { OnErr result (IsBenchedInPart count
+            (K.written out.old) (K.written out.new)) }
+        ensures sent { OnOk result (ForSomeFlushes bench_settings_text flush_start
+            (bench_script count).rounds
+            (λ flushes. Delivers bench_settings_text default_agent flushes
+            (record { sent = L.sent link.old; faults = L.faults link.old })
+            (record { sent = L.sent link.new; faults = L.faults link.new }) none_sent
+            self.new.report)) }
         ensures cause { IfErr result (IsPlayFault (Rose (K.faults out.old) (K.faults out.new))) }
         ensures never_falls { K.faults out.old ≤ K.faults out.new }
     {

@@ -1,17 +1,18 @@
 //! The flushes of a play: the exporter that they are of, what they go through, and what came of them so far.
 
-ghost use Rattle.std.specs.Prelude.{◌≡◌, ◌≤◌, ◌+◌, List, [], ◌∷◌, IfOk, OnOk, Some, not, option_map, string_bytes};
+ghost use Rattle.std.specs.Prelude.{◌≡◌, ◌≤◌, ◌+◌, List, [], ◌∷◌, IfOk, Some, option_map, string_bytes};
 ghost use Rattle.metrics_core.specs.Numbers.{in_64_bits};
 ghost use Rattle.prom_format.specs.LabelSets.{labels_of};
 ghost use Rattle.dsd_addresses.specs.Remotes.{RemoteText, remote_text};
-ghost use Rattle.dsd_exporter.specs.Exporter.{AllHome, no_cells, state_seen};
+ghost use Rattle.dsd_exporter.specs.Exporter.{no_cells};
 ghost use Rattle.dsd_exporter.specs.Resting.{AllRest};
-ghost use Rattle.dsd_exporter.specs.State.{FlushItem, flush_items, flush_step};
+ghost use Rattle.dsd_exporter.specs.State.{FlushItem};
 ghost use Rattle.drive_script.specs.Script.{SettingsText};
 ghost use Rattle.drive_script.specs.Texts.{settings_of};
 ghost use Rattle.script_player.specs.Faults.{AreAllowed};
 ghost use Rattle.script_player.specs.Flushes.{dogstatsd_settings, is_stream, payload_limit};
 ghost use Rattle.script_player.specs.Sent.{Delivers, IsReady, IsWritten, none_sent};
+ghost use Rattle.script_player.specs.Rounds.{FlushesOn, IsFlushed};
 
 use drive_script::Settings;
 use dsd_addresses::RemoteAddr;
@@ -50,8 +51,11 @@ impl Flushes {
         to: &RemoteAddr,
     ) -> Result<Flushes, Memory>
         requires allowed { AreAllowed (remote_text to.now) (settings_of settings.now) }
-        ensures limit { IfOk result (λ flushes. flushes.writer.limit ≡ payload_limit (settings_of settings.now) (remote_text to.now)) }
-        ensures on_stream { IfOk result (λ flushes. flushes.writer.on_stream ≡ is_stream (remote_text to.now)) }
+        ensures limit { IfOk result
+            (λ flushes. flushes.writer.limit ≡ payload_limit (settings_of settings.now)
+            (remote_text to.now)) }
+        ensures on_stream { IfOk result (λ flushes. flushes.writer.on_stream
+            ≡ is_stream (remote_text to.now)) }
         ensures tags { IfOk result (λ flushes. flushes.writer.global_tags ≡ labels_of tags.items) }
         ensures lines { IfOk result (λ flushes. flushes.writer.lines ≡ []) }
         ensures marks { IfOk result (λ flushes. flushes.marks ≡ []) }
@@ -84,12 +88,11 @@ impl Flushes {
         moment: u64,
     ) -> Result<u64, Memory>
         requires rest { AllRest exporter.old }
-        ensures rest { AllRest exporter.new }
-        ensures settings { exporter.new.settings ≡ exporter.old.settings }
-        ensures report { self.new.report ≡ self.old.report }
-        ensures stepped { OnOk result (state_seen self.new.marks exporter.new ≡ flush_step (state_seen self.old.marks exporter.old)) }
-        ensures written { (settings : SettingsText) (to : RemoteText) → IsReady settings to self.old.writer → exporter.old.settings ≡ dogstatsd_settings settings
-            → IfOk result (IsWritten settings to (flush_items (dogstatsd_settings settings) settings.dsd_globals moment [] (state_seen self.old.marks exporter.old)) self.new.writer) }
+        ensures rests { FlushesOn exporter.old exporter.new self.old.writer self.new.writer
+            self.old.report self.new.report }
+        ensures flushed { IfOk result
+            (IsFlushed moment exporter.old exporter.new self.old.marks self.new.marks
+            self.old.writer self.new.writer) }
     {
         write_flush(
             rt,
@@ -105,11 +108,15 @@ impl Flushes {
 
     /// Hands the payloads of a flush that was written to a link, each once, in order. So many points of it were left out.
     pub(crate) fn hand_out<L: Link>(&mut self, dropped: u64, link: &mut L)
-        ensures sent { (settings : SettingsText) (to : RemoteText) (items : List FlushItem) → IsWritten settings to items self.old.writer dropped
+        ensures sent { (settings : SettingsText) (to : RemoteText) (items : List FlushItem)
+            → IsWritten settings to items self.old.writer dropped
             → L.aimed link.old ≡ Some to → Delivers settings to (items ∷ [])
-            (record { sent = L.sent link.old; faults = L.faults link.old }) (record { sent = L.sent link.new; faults = L.faults link.new })
+            (record { sent = L.sent link.old; faults = L.faults link.old })
+            (record { sent = L.sent link.new; faults = L.faults link.new })
             self.old.report self.new.report }
-        ensures ready { (settings : SettingsText) (to : RemoteText) (items : List FlushItem) → IsWritten settings to items self.old.writer dropped → IsReady settings to self.new.writer }
+        ensures ready { (settings : SettingsText) (to : RemoteText) (items : List FlushItem)
+            → IsWritten settings to items self.old.writer dropped
+            → IsReady settings to self.new.writer }
         ensures marks { self.new.marks ≡ self.old.marks }
         ensures aimed { L.aimed link.new ≡ L.aimed link.old }
         ensures never_falls { L.faults link.old ≤ L.faults link.new }
@@ -139,7 +146,11 @@ pub(crate) fn lines_exporter(
     settings: &Settings,
     prefix: Option<String>,
 ) -> Result<State, Memory>
-    ensures settings { IfOk result (λ exporter. exporter.settings ≡ record (dogstatsd_settings (settings_of settings.now)) { name_prefix = option_map string_bytes prefix }) }
+    ensures settings { IfOk result (λ exporter. exporter.settings
+        ≡ record (dogstatsd_settings (settings_of settings.now)) {
+          name_prefix = option_map
+              string_bytes prefix;
+        }) }
     ensures series { IfOk result (λ exporter. exporter.series ≡ no_cells) }
 {
     let agg_mode = if settings.dsd_aggressive {

@@ -40,9 +40,11 @@ impl<'a> Model for LaneTask<'a> {
 
     ghost Value = { TaskText };
 
-    ghost view = { λ task. record { number = task.number; moment = task.moment; table = task.table.now; calls = task.calls.now } };
+    ghost view = { λ task.
+        record { number = task.number; moment = task.moment; table = task.table.now; calls = task.calls.now } };
 
-    ghost invariant = { λ task. IfOk task.lane (λ lane. IfSome lane (IsLaneOf (record { number = task.number; moment = task.moment; table = task.table.now; calls = task.calls.now }))) };
+    ghost invariant = { λ task. IfOk task.lane (λ lane. IfSome lane (IsLaneOf
+        (record { number = task.number; moment = task.moment; table = task.table.now; calls = task.calls.now }))) };
 }
 
 impl<'a> LaneTask<'a> {
@@ -96,7 +98,8 @@ pub(crate) fn gather_beside<R: Threads + Sync>(
     requires fit { All (λ line. FitsHandle handles.now (call_line_of line)) calls.now }
     requires line_fit { All (λ line. FitsHandle line_handles.now (call_line_of line)) calls.now }
     requires lanes { All (λ line. line.lane < counts.now.lanes) calls.now }
-    ensures gathered { IfOk result (λ gathered. AreGathered exporters.now handles.now line_handles.now moment calls.now gathered.items) }
+    ensures gathered { IfOk result (λ gathered.
+        AreGathered exporters.now handles.now line_handles.now moment calls.now gathered.items) }
     ensures numbered { IsNumbered exporters.now.dogstatsd.series }
 {
     let table = table_of(
@@ -121,7 +124,8 @@ fn table_of(
     line_handles: &[SeriesId],
     line_guesses: &mut [u32],
 ) -> Result<Vec<Places>, Memory>
-    ensures table { IfOk result (λ table. IsTable (ids_of exporters.now) handles.now line_handles.now table.items) }
+    ensures table { IfOk result (λ table.
+        IsTable (ids_of exporters.now) handles.now line_handles.now table.items) }
     ensures numbered { IsNumbered exporters.now.dogstatsd.series }
 {
     let first = exporters.dogstatsd.series_count();

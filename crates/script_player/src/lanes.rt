@@ -65,11 +65,13 @@ pub(crate) fn lanes_of<R: Threads + Sync>(
     ensures numbers { IfOk result (λ lanes. Distinct (map lane_number lanes.items)) }
     ensures prometheus { IfOk result (λ lanes. (j l : ℕ)
         → numbered_at (first_prometheus exporters.now + j) lanes.items l
-        ≡ map exporter.Prometheus (calls_at moment (P.ids_of exporters.now.prometheus) handles.now l j calls.now)) }
+        ≡ map exporter.Prometheus
+        (calls_at moment (P.ids_of exporters.now.prometheus) handles.now l j calls.now)) }
     ensures dogstatsd { IfOk result (λ lanes. (j l : ℕ)
         → j < first_prometheus exporters.now
         → numbered_at j lanes.items l
-        ≡ map exporter.DogStatsD (calls_at moment (D.ids_of exporters.now.dogstatsd) line_handles.now l j calls.now)) }
+        ≡ map exporter.DogStatsD
+        (calls_at moment (D.ids_of exporters.now.dogstatsd) line_handles.now l j calls.now)) }
     ensures lines { IfOk result (λ lanes. (l : ℕ) → numbered_asked lanes.items l
         ≡ flat_map on_both (lane_asks moment l calls.now)) }
     ensures busy { IfOk result (λ lanes. (i : ℕ) (lane : Lane ExporterCall)
@@ -106,7 +108,8 @@ fn gathered_of<R: Threads + Sync>(
 ) -> Result<Vec<LaneCalls>, Memory>
     requires fit { All (λ line. FitsHandle handles.now (call_line_of line)) calls.now }
     requires line_fit { All (λ line. FitsHandle line_handles.now (call_line_of line)) calls.now }
-    ensures gathered { IfOk result (λ gathered. AreGathered exporters.now handles.now line_handles.now moment calls.now gathered.items) }
+    ensures gathered { IfOk result (λ gathered.
+        AreGathered exporters.now handles.now line_handles.now moment calls.now gathered.items) }
     ensures numbered { IsNumbered exporters.now.dogstatsd.series }
 {
     let counts = count_calls(calls);
@@ -154,7 +157,8 @@ fn gather_all(
 ) -> Result<Vec<LaneCalls>, Memory>
     requires fit { All (λ line. FitsHandle handles.now (call_line_of line)) calls.now }
     requires line_fit { All (λ line. FitsHandle line_handles.now (call_line_of line)) calls.now }
-    ensures gathered { IfOk result (λ gathered. AreGathered exporters.now handles.now line_handles.now moment calls.now gathered.items) }
+    ensures gathered { IfOk result (λ gathered.
+        AreGathered exporters.now handles.now line_handles.now moment calls.now gathered.items) }
     ensures numbered { IsNumbered exporters.now.dogstatsd.series }
 {
     let first = exporters.dogstatsd.series_count();
@@ -427,7 +431,8 @@ impl LaneCalls {
         table: &[Places],
         calls: &[CallLine],
     ) -> Result<LaneCalls, Memory>
-        ensures { IfOk result (IsLaneOf (record { number = number; moment = moment; table = table.now; calls = calls.now })) }
+        ensures { IfOk result (IsLaneOf
+            (record { number = number; moment = moment; table = table.now; calls = calls.now })) }
     {
         let mut lane = LaneCalls::with_room(alloc, number, count, room)?;
         for line in calls {

@@ -8,6 +8,7 @@
 
 mod agent;
 mod benching;
+mod both;
 mod flushes;
 mod gates;
 mod guesses;

@@ -1,35 +1,33 @@
 //! The play of a script: what each round does to both exporters, the page that it writes, and the flush that it sends.
 
-ghost use Rattle.std.specs.Prelude.{◌≡◌, ◌≤◌, [], All, fold, map, length, IfOk, IfErr, OnOk, OnErr, Some};
+ghost use Rattle.std.specs.Prelude.{◌≡◌, ◌≤◌, IfOk, IfErr, OnOk, OnErr, Some};
 ghost use Rattle.metrics_core.specs.Outside.{Rose, GrewBy, GrewByPrefix};
 ghost use Rattle.dsd_addresses.specs.Remotes.{remote_text};
-ghost use Rattle.drive_script.specs.Texts.{script_of, settings_of, round_of};
-ghost use Rattle.script_player.specs.Faults.{IsAllowed, IsPlayFault};
-ghost use Rattle.script_player.specs.Fitting.{CallsFit};
+ghost use Rattle.drive_script.specs.Texts.{script_of};
+ghost use Rattle.script_player.specs.Faults.{CanPlay, IsPlayFault};
 ghost use Rattle.script_player.specs.Orders.{ForSomeRun};
-ghost use Rattle.script_player.specs.Play.{exporter_settings};
-ghost use Rattle.script_player.specs.Recorded.{AllRecordSome};
 ghost use Rattle.script_player.specs.InPart.{IsCutOff};
 ghost use Rattle.script_player.specs.Sent.{IsSent};
-ghost use Rattle.script_player.specs.Timely.{RiseFrom};
 
 use crate::flushes::{Flushes, lines_exporter};
 use crate::gates::GateHook;
 use crate::guesses::Guesses;
 use crate::lanes::{LineRoom, keep_rooms, lanes_of};
 use crate::page::write_both;
-use crate::set_up::{SetupCounts, lines_for_flushes, set_up_both};
+use crate::set_up::{lines_for_flushes, make_room, set_up_both};
 use crate::settings::builder_of;
 use crate::{Gate, Report};
 use cell_lanes::run_lanes;
 use drive_script::{CallLine, DriveFault, Round, Script, Settings, Setup};
 use dsd_addresses::RemoteAddr;
-use dsd_exporter::Link;
+use dsd_exporter::{FlushReport, Link};
 use exporter_lanes::Exporters;
 use hash_starts::HashStart;
-use metrics_core::{Memory, MetricKind, SeriesId, Sink};
+use metrics_core::{Memory, SeriesId, Sink};
 use std::alloc::Global;
+use std::marker::Model;
 use std::mem;
+use std::snapshot::Snapshot;
 use std::sync::Wait;
 use std::thread::Threads;
 
@@ -48,17 +46,19 @@ pub fn play_script<R: Threads + Wait + Sync, G: Gate + Sync, K: Sink, L: Link>(
     out: &mut K,
     link: &mut L,
 ) -> Result<Report, DriveFault>
-    requires allowed { IsAllowed (remote_text to.now) (script_of script) }
-    requires fit { CallsFit [] (map round_of script.rounds.items) }
-    requires some { All AllRecordSome (map round_of script.rounds.items) }
-    requires moments { RiseFrom 0 (map round_of script.rounds.items) }
+    requires can { CanPlay (remote_text to.now) (script_of script) }
     requires aimed { L.aimed link.old ≡ Some (remote_text to.now) }
-    ensures pages { OnOk result (ForSomeRun (script_of script) (GrewBy (K.written out.old) (K.written out.new))) }
-    ensures prefix { OnErr result (ForSomeRun (script_of script) (GrewByPrefix (K.written out.old) (K.written out.new))) }
+    ensures pages { OnOk result (ForSomeRun (script_of script) (GrewBy
+        (K.written out.old) (K.written out.new))) }
+    ensures prefix { OnErr result
+        (ForSomeRun (script_of script) (GrewByPrefix (K.written out.old) (K.written out.new))) }
     ensures sent { IfOk result (IsSent (script_of script) (remote_text to.now)
-        (record { sent = L.sent link.old; faults = L.faults link.old }) (record { sent = L.sent link.new; faults = L.faults link.new })) }
-    ensures in_part { OnErr result (IsCutOff (script_of script) (remote_text to.now) (K.written out.old) (K.written out.new)
-        (record { sent = L.sent link.old; faults = L.faults link.old }) (record { sent = L.sent link.new; faults = L.faults link.new })) }
+        (record { sent = L.sent link.old; faults = L.faults link.old })
+        (record { sent = L.sent link.new; faults = L.faults link.new })) }
+    ensures in_part { OnErr result (IsCutOff (script_of script) (remote_text to.now)
+        (K.written out.old) (K.written out.new)
+        (record { sent = L.sent link.old; faults = L.faults link.old })
+        (record { sent = L.sent link.new; faults = L.faults link.new })) }
     ensures aims { L.aimed link.new ≡ L.aimed link.old }
     ensures cause { IfErr result (IsPlayFault (Rose (K.faults out.old) (K.faults out.new))) }
     ensures never_falls { K.faults out.old ≤ K.faults out.new }
@@ -67,8 +67,7 @@ pub fn play_script<R: Threads + Wait + Sync, G: Gate + Sync, K: Sink, L: Link>(
     let pages = rounds.len() as u64;
     let mut player = Player::new(alloc, start, settings, to)?;
     let played = player.play_rounds(rt, alloc, gate, rounds, out, link);
-    let report = player.flushes.report;
-    player.end(rt);
+    let report = player.end(rt);
     played?;
     Ok(Report {
         pages,
@@ -78,44 +77,59 @@ pub fn play_script<R: Threads + Wait + Sync, G: Gate + Sync, K: Sink, L: Link>(
     })
 }
 
-/// The exporters, and the series of each that a register line so far was given. It can't be let go: end it by `end`.
+/// The exporters, and the series of each that a register line so far was given. It can't be let go: end it by `end`. Contracts see
+/// what it was made for, both states of the play and what was sent.
 pub struct Player {
-    pub exporters: Exporters,
+    /// The settings that it was made for, and where payloads go. Proofs alone see them, and they have no bytes.
+    made_for: Snapshot<Settings>,
+    aimed_at: Snapshot<RemoteAddr>,
+    pub(crate) exporters: Exporters,
     /// The series on the pages.
-    pub handles: Vec<SeriesId>,
+    handles: Vec<SeriesId>,
     /// For each handle, where to look for its series first.
-    pub guesses: Guesses,
+    guesses: Guesses,
     /// The series in the flushes.
-    pub line_handles: Vec<SeriesId>,
+    line_handles: Vec<SeriesId>,
     /// For each of these handles, where to look for its series first.
-    pub line_guesses: Guesses,
-    pub flushes: Flushes,
+    line_guesses: Guesses,
+    flushes: Flushes,
     /// What the lanes of the next round put their lines in.
-    pub rooms: Vec<LineRoom>,
+    rooms: Vec<LineRoom>,
+}
+
+impl Model for Player {
+    ghost use Rattle.dsd_addresses.specs.Remotes.{remote_text};
+    ghost use Rattle.drive_script.specs.Texts.{settings_of};
+    ghost use Rattle.script_player.specs.Player.{IsMadeFor, PlayerText, lines_state, rows_state};
+
+    ghost Value = { PlayerText };
+
+    ghost view = { λ p. record {
+      settings = settings_of p.made_for.value;
+      to = remote_text p.aimed_at.value;
+      pages = rows_state p.exporters.prometheus p.handles.items;
+      flushes = lines_state p.flushes.marks p.exporters.dogstatsd p.line_handles.items;
+      waiting = p.flushes.writer.lines;
+      report = p.flushes.report;
+    } };
+
+    ghost invariant = { λ p. IsMadeFor (settings_of p.made_for.value) (remote_text p.aimed_at.value)
+        p.exporters.prometheus p.exporters.dogstatsd p.flushes.writer };
 }
 
 impl Player {
-    ghost use Rattle.std.specs.Prelude.{◌≡◌, ◌≤◌, ℕ, All, [], ◌∷◌, fold, map, IfOk, IfErr, OnOk, OnErr};
-    ghost use Rattle.metrics_core.specs.Outside.{Rose, GrewBy, GrewByPrefix};
-    ghost use Rattle.prom_format.specs.Pages.{page_text};
-    ghost use Rattle.prom_exporter.specs.State.{page_step};
-    ghost use Rattle.prom_exporter.specs.Exporter.{page_families, state_of as prometheus_of};
-    ghost use Rattle.dsd_addresses.specs.Remotes.{RemoteText, remote_text};
-    ghost use Rattle.dsd_exporter.specs.Resting.{AllRest as LinesRest};
-    ghost use Rattle.dsd_exporter.specs.State.{flush_items, flush_step};
-    ghost use Rattle.drive_script.specs.Script.{RoundText, SettingsText};
+    ghost use Rattle.std.specs.Prelude.{◌≡◌, ◌≤◌, [], ◌∷◌, fold, map, IfOk, IfErr, OnOk, OnErr};
+    ghost use Rattle.metrics_core.specs.Outside.{Rose};
+    ghost use Rattle.dsd_addresses.specs.Remotes.{remote_text};
+    ghost use Rattle.drive_script.specs.Script.{RoundText};
     ghost use Rattle.drive_script.specs.Texts.{round_of, settings_of, setup_of, call_line_of};
     ghost use Rattle.script_player.specs.Faults.{AreAllowed, IsPlayFault};
-    ghost use Rattle.script_player.specs.Orders.{ForSomeOrders, ForSomeRounds, IsCalled, round_text};
-    ghost use Rattle.script_player.specs.Play.{after_round, play_start, setup_step, exporter_settings};
-    ghost use Rattle.script_player.specs.Flushes.{ForSomeFlushes, ForSomeFlushOrders, IsFlushCalled, after_flush, dogstatsd_settings, flush_of, flush_start, register_step};
-    ghost use Rattle.script_player.specs.Player.{AsksFor, flush_state_of, state_of};
-    ghost use Rattle.script_player.specs.InPart.{EndsWithin};
-    ghost use Rattle.script_player.specs.Sent.{Delivers, none_sent};
-    ghost use Rattle.script_player.specs.Resting.{AllRest};
-    ghost use Rattle.script_player.specs.Fitting.{CallsFit, FitsHandle};
-    ghost use Rattle.script_player.specs.Recorded.{AllRecordSome, RecordsSome};
-    ghost use Rattle.script_player.specs.Timely.{IsTimelyState, RiseFrom};
+    ghost use Rattle.script_player.specs.Orders.{IsCalled};
+    ghost use Rattle.script_player.specs.Play.{setup_step};
+    ghost use Rattle.script_player.specs.Flushes.{IsFlushCalled, register_step};
+    ghost use Rattle.script_player.specs.Player.{CanSend, FitsCalls, IsReadyFor, SendsNothing, first_player};
+    ghost use Rattle.script_player.specs.Rounds.{CutsPage, CutsRound, CutsRounds, EndsRound, PlaysRound, PlaysRounds};
+    ghost use Rattle.script_player.specs.Timely.{IsTimelyState};
 
     /// A player before its first round, over exporters with these settings, whose payloads go to an address. Names, labels and
     /// keys are looked up by hashes from a start.
@@ -126,14 +140,10 @@ impl Player {
         to: &RemoteAddr,
     ) -> Result<Player, Memory>
         requires allowed { AreAllowed (remote_text to.now) (settings_of settings) }
-        ensures start { IfOk result (λ player. state_of player ≡ play_start) }
-        ensures settings { IfOk result (λ player. player.exporters.prometheus.settings ≡ exporter_settings (settings_of settings)) }
-        ensures rest { IfOk result (λ player. AllRest player.exporters.prometheus) }
-        ensures flush_start { IfOk result (λ player. flush_state_of player ≡ flush_start) }
-        ensures asks { IfOk result (λ player. AsksFor (settings_of settings) (remote_text to.now) player) }
-        ensures lines_rest { IfOk result (λ player. LinesRest player.exporters.dogstatsd) }
-        ensures none { IfOk result (λ player. player.flushes.report ≡ none_sent) }
+        ensures { IfOk result (λ player. player ≡ first_player (settings_of settings)
+            (remote_text to.now)) }
     {
+        let made_for = Snapshot::of(&settings);
         let mut settings = settings;
         let prefix = settings.dsd_prefix.take();
         let tags = mem::replace(&mut settings.dsd_globals, Vec::new(alloc));
@@ -142,6 +152,8 @@ impl Player {
         let builder = builder_of(alloc, start, settings)?;
         match builder.build_state(alloc) {
             Ok(prometheus) => Ok(Player {
+                made_for,
+                aimed_at: Snapshot::of(to),
                 exporters: Exporters {
                     prometheus,
                     dogstatsd,
@@ -157,6 +169,31 @@ impl Player {
         }
     }
 
+    /// Ends the exporter of the pages, where the program ends behind it: the memory of the series isn't given back block by block.
+    /// Answers what was sent.
+    pub(crate) fn end<R: Wait>(self, rt: &R) -> FlushReport
+        ensures { result ≡ self.report }
+    {
+        let Player {
+            made_for: _,
+            aimed_at: _,
+            exporters,
+            handles: _,
+            guesses: _,
+            line_handles: _,
+            line_guesses: _,
+            flushes,
+            rooms: _,
+        } = self;
+        let Exporters {
+            prometheus,
+            dogstatsd,
+        } = exporters;
+        mem::forget(dogstatsd);
+        prometheus.end_with_program(rt);
+        flushes.report
+    }
+
     /// Plays rounds, one after another, up to the first that fails.
     fn play_rounds<R: Threads + Wait + Sync, G: Gate + Sync, K: Sink, L: Link>(
         &mut self,
@@ -167,27 +204,15 @@ impl Player {
         out: &mut K,
         link: &mut L,
     ) -> Result<(), DriveFault>
-        requires fit { CallsFit self.old.handles.items (map round_of rounds.items) }
-        requires lines_fit { CallsFit self.old.line_handles.items (map round_of rounds.items) }
-        requires some { All AllRecordSome (map round_of rounds.items) }
-        requires timely { (moment : ℕ) × IsTimelyState moment (prometheus_of self.old.exporters.prometheus) × RiseFrom moment (map round_of rounds.items) }
-        requires rest { AllRest self.old.exporters.prometheus }
-        requires lines_rest { LinesRest self.old.exporters.dogstatsd }
-        requires settings { (settings : SettingsText) × (self.old.exporters.prometheus.settings ≡ exporter_settings settings) }
-        requires asks { (settings : SettingsText) × (to : RemoteText) × AsksFor settings to self.old × (L.aimed link.old ≡ Some to) }
-        ensures pages { (settings : SettingsText) → self.old.exporters.prometheus.settings ≡ exporter_settings settings
-            → OnOk result (ForSomeRounds settings (state_of self.old) (map round_of rounds.items) (GrewBy (K.written out.old) (K.written out.new))) }
-        ensures prefix { (settings : SettingsText) → self.old.exporters.prometheus.settings ≡ exporter_settings settings
-            → OnErr result (ForSomeRounds settings (state_of self.old) (map round_of rounds.items) (GrewByPrefix (K.written out.old) (K.written out.new))) }
-        ensures sent { (settings : SettingsText) (to : RemoteText) → AsksFor settings to self.old → L.aimed link.old ≡ Some to
-            → OnOk result (ForSomeFlushes settings (flush_state_of self.old) (map round_of rounds.items) (λ flushes. Delivers settings to flushes
-            (record { sent = L.sent link.old; faults = L.faults link.old }) (record { sent = L.sent link.new; faults = L.faults link.new })
-            self.old.flushes.report self.new.flushes.report)) }
-        ensures in_part { (settings : SettingsText) (to : RemoteText) → self.old.exporters.prometheus.settings ≡ exporter_settings settings
-            → AsksFor settings to self.old → L.aimed link.old ≡ Some to
-            → OnErr result (EndsWithin settings to (state_of self.old) (flush_state_of self.old) (map round_of rounds.items) (K.written out.old) (K.written out.new)
-            (record { sent = L.sent link.old; faults = L.faults link.old }) (record { sent = L.sent link.new; faults = L.faults link.new })
-            self.old.flushes.report) }
+        requires ready { IsReadyFor 0 (map round_of rounds.items) (L.aimed link.old) self.old }
+        ensures played { OnOk result (PlaysRounds (map round_of rounds.items) self.old self.new
+            (K.written out.old) (K.written out.new)
+            (record { sent = L.sent link.old; faults = L.faults link.old })
+            (record { sent = L.sent link.new; faults = L.faults link.new })) }
+        ensures cut { OnErr result (CutsRounds (map round_of rounds.items) self.old
+            (K.written out.old) (K.written out.new)
+            (record { sent = L.sent link.old; faults = L.faults link.old })
+            (record { sent = L.sent link.new; faults = L.faults link.new })) }
         ensures aims { L.aimed link.new ≡ L.aimed link.old }
         ensures cause { IfErr result (IsPlayFault (Rose (K.faults out.old) (K.faults out.new))) }
         ensures never_falls { K.faults out.old ≤ K.faults out.new }
@@ -196,25 +221,6 @@ impl Player {
             self.play_round(rt, alloc, gate, round, out, link)?;
         }
         Ok(())
-    }
-
-    /// Ends the exporter of the pages, where the program ends behind it: the memory of the series isn't given back block by block.
-    pub(crate) fn end<R: Wait>(self, rt: &R) {
-        let Player {
-            exporters,
-            handles: _,
-            guesses: _,
-            line_handles: _,
-            line_guesses: _,
-            flushes: _,
-            rooms: _,
-        } = self;
-        let Exporters {
-            prometheus,
-            dogstatsd,
-        } = exporters;
-        mem::forget(dogstatsd);
-        prometheus.end_with_program(rt);
     }
 
     /// Plays a round: its setup, its calls, its page, its flush.
@@ -227,30 +233,16 @@ impl Player {
         out: &mut K,
         link: &mut L,
     ) -> Result<(), DriveFault>
-        requires fit { CallsFit self.old.handles.items (round_of round ∷ []) }
-        requires lines_fit { CallsFit self.old.line_handles.items (round_of round ∷ []) }
-        requires some { AllRecordSome (round_of round) }
-        requires timely { IsTimelyState round.moment (prometheus_of self.old.exporters.prometheus) }
-        requires rest { AllRest self.old.exporters.prometheus }
-        requires lines_rest { LinesRest self.old.exporters.dogstatsd }
-        ensures rest { OnOk result (AllRest self.new.exporters.prometheus) }
-        ensures lines_rest { OnOk result (LinesRest self.new.exporters.dogstatsd) }
-        ensures settings { self.new.exporters.prometheus.settings ≡ self.old.exporters.prometheus.settings }
-        ensures played { (settings : SettingsText) → self.old.exporters.prometheus.settings ≡ exporter_settings settings
-            → OnOk result (ForSomeOrders (state_of self.old) (round_of round) (λ orders.
-            (state_of self.new ≡ after_round settings (state_of self.old) (round_of round) orders)
-            × GrewBy (K.written out.old) (K.written out.new) (round_text settings (state_of self.old) (round_of round) orders))) }
-        ensures prefix { (settings : SettingsText) → self.old.exporters.prometheus.settings ≡ exporter_settings settings
-            → OnErr result (ForSomeOrders (state_of self.old) (round_of round) (λ orders.
-            GrewByPrefix (K.written out.old) (K.written out.new) (round_text settings (state_of self.old) (round_of round) orders))) }
-        ensures flushed { (settings : SettingsText) (to : RemoteText) → AsksFor settings to self.old → L.aimed link.old ≡ Some to
-            → OnOk result (AsksFor settings to self.new × ForSomeFlushOrders (flush_state_of self.old) (round_of round) (λ orders.
-            (flush_state_of self.new ≡ after_flush (flush_state_of self.old) (round_of round) orders)
-            × Delivers settings to (flush_of settings (flush_state_of self.old) (round_of round) orders ∷ [])
-            (record { sent = L.sent link.old; faults = L.faults link.old }) (record { sent = L.sent link.new; faults = L.faults link.new })
-            self.old.flushes.report self.new.flushes.report)) }
-        ensures unsent { OnErr result (link.new ≡ link.old) }
-        ensures aimed { L.aimed link.new ≡ L.aimed link.old }
+        requires ready { IsReadyFor round.moment (round_of round ∷ []) (L.aimed link.old) self.old }
+        ensures played { OnOk result (PlaysRound (round_of round) self.old self.new
+            (K.written out.old) (K.written out.new)
+            (record { sent = L.sent link.old; faults = L.faults link.old })
+            (record { sent = L.sent link.new; faults = L.faults link.new })) }
+        ensures cut { OnErr result (CutsRound (round_of round) self.old
+            (K.written out.old) (K.written out.new)
+            (record { sent = L.sent link.old; faults = L.faults link.old })
+            (record { sent = L.sent link.new; faults = L.faults link.new })) }
+        ensures aims { L.aimed link.new ≡ L.aimed link.old }
         ensures cause { IfErr result (IsPlayFault (Rose (K.faults out.old) (K.faults out.new))) }
         ensures never_falls { K.faults out.old ≤ K.faults out.new }
     {
@@ -262,17 +254,7 @@ impl Player {
         self.set_up(rt, alloc, setup)?;
         let work = self.handles.len().saturating_add(calls.len());
         self.make_calls(rt, alloc, gate, moment, calls)?;
-        let dropped = write_both(
-            rt,
-            alloc,
-            moment,
-            work,
-            &mut self.exporters,
-            &mut self.flushes,
-            out,
-        )?;
-        self.flushes.hand_out(dropped, link);
-        Ok(())
+        self.end_round(rt, alloc, moment, work, out, link)
     }
 
     /// Does the setup lines in order, those for the flushes on copies of their keys.
@@ -282,51 +264,34 @@ impl Player {
         alloc: Global,
         mut setup: Vec<Setup>,
     ) -> Result<(), Memory>
-        ensures settings { self.new.exporters.prometheus.settings ≡ self.old.exporters.prometheus.settings }
-        ensures rest { AllRest self.old.exporters.prometheus → AllRest self.new.exporters.prometheus }
-        ensures lines_settings { self.new.exporters.dogstatsd.settings ≡ self.old.exporters.dogstatsd.settings }
-        ensures lines_rest { LinesRest self.old.exporters.dogstatsd → LinesRest self.new.exporters.dogstatsd }
-        ensures flushes { self.new.flushes ≡ self.old.flushes }
-        ensures stepped { OnOk result (state_of self.new ≡ fold setup_step (state_of self.old) (map setup_of setup.items)) }
-        ensures registered { OnOk result (flush_state_of self.new ≡ fold register_step (flush_state_of self.old) (map setup_of setup.items)) }
+        ensures unsent { SendsNothing self.old self.new }
+        ensures stepped { OnOk result
+            (self.new.pages ≡ fold setup_step self.old.pages (map setup_of setup.items)) }
+        ensures registered { OnOk result
+            (self.new.flushes ≡ fold register_step self.old.flushes (map setup_of setup.items)) }
     {
-        self.make_room(&setup)?;
+        make_room(
+            &setup,
+            &mut self.exporters,
+            &mut self.handles,
+            &mut self.guesses,
+            &mut self.line_handles,
+            &mut self.line_guesses,
+        )?;
         let mut copies = lines_for_flushes(rt, alloc, &setup)?;
+        let exporters = &mut self.exporters;
         set_up_both(
             rt,
             alloc,
-            &mut self.exporters,
+            &mut exporters.dogstatsd,
             &mut self.line_handles,
             &mut self.line_guesses,
             &mut copies,
+            &mut exporters.prometheus,
             &mut self.handles,
             &mut self.guesses,
             &mut setup,
         )
-    }
-
-    /// Makes room for what register lines make, where they are at least as many as those before them.
-    fn make_room(&mut self, setup: &[Setup]) -> Result<(), Memory>
-        ensures exporters { (self.new.exporters.prometheus ≡ self.old.exporters.prometheus) × (self.new.exporters.dogstatsd ≡ self.old.exporters.dogstatsd) }
-        ensures handles { self.new.handles.items ≡ self.old.handles.items }
-        ensures line_handles { self.new.line_handles.items ≡ self.old.line_handles.items }
-        ensures flushes { self.new.flushes ≡ self.old.flushes }
-    {
-        let SetupCounts {
-            counters,
-            gauges,
-            registrations,
-        } = SetupCounts::of(setup);
-        if registrations < self.handles.len() {
-            return Ok(());
-        }
-        self.exporters.prometheus.reserve(counters, gauges)?;
-        self.exporters.dogstatsd.reserve(counters, gauges)?;
-        self.handles.reserve(registrations)?;
-        self.guesses.reserve(registrations)?;
-        self.line_handles.reserve(registrations)?;
-        self.line_guesses.reserve(registrations)?;
-        Ok(())
     }
 
     /// Makes the calls of a round: its lanes run side by side, each with its own passes, and all passes are back at the end.
@@ -339,18 +304,14 @@ impl Player {
         moment: u64,
         calls: Vec<CallLine>,
     ) -> Result<(), Memory>
-        requires fit { All (λ line. FitsHandle self.old.handles.items (call_line_of line)) calls.items }
-        requires lines_fit { All (λ line. FitsHandle self.old.line_handles.items (call_line_of line)) calls.items }
-        requires some { All (λ call. RecordsSome call.act) (map call_line_of calls.items) }
-        requires rest { AllRest self.old.exporters.prometheus }
-        requires lines_rest { LinesRest self.old.exporters.dogstatsd }
-        ensures rest { AllRest self.new.exporters.prometheus }
-        ensures lines_rest { LinesRest self.new.exporters.dogstatsd }
-        ensures settings { self.new.exporters.prometheus.settings ≡ self.old.exporters.prometheus.settings }
-        ensures lines_settings { self.new.exporters.dogstatsd.settings ≡ self.old.exporters.dogstatsd.settings }
-        ensures flushes { self.new.flushes ≡ self.old.flushes }
-        ensures flush_called { OnOk result ((round : RoundText) → round.moment ≡ moment → round.calls ≡ map call_line_of calls.items → IsFlushCalled (flush_state_of self.old) round (flush_state_of self.new)) }
-        ensures called { OnOk result ((round : RoundText) → round.moment ≡ moment → round.calls ≡ map call_line_of calls.items → IsCalled (state_of self.old) round (state_of self.new)) }
+        requires fit { FitsCalls self.old calls.items }
+        ensures unsent { SendsNothing self.old self.new }
+        ensures called { OnOk result ((round : RoundText) → round.moment ≡ moment
+            → round.calls ≡ map call_line_of calls.items
+            → IsCalled self.old.pages round self.new.pages) }
+        ensures flush_called { OnOk result ((round : RoundText) → round.moment ≡ moment
+            → round.calls ≡ map call_line_of calls.items
+            → IsFlushCalled self.old.flushes round self.new.flushes) }
     {
         let lanes = lanes_of(
             rt,
@@ -368,5 +329,43 @@ impl Player {
         let run = run_lanes(rt, alloc, &GateHook { gate }, &mut self.exporters, &lanes);
         keep_rooms(&mut self.rooms, lanes);
         run
+    }
+
+    /// Writes the page of a round at its moment, and hands its flush to the link. For much work the flush is made beside the page.
+    fn end_round<R: Threads + Wait + Sync, K: Sink, L: Link>(
+        &mut self,
+        rt: &R,
+        alloc: Global,
+        moment: u64,
+        work: usize,
+        out: &mut K,
+        link: &mut L,
+    ) -> Result<(), DriveFault>
+        requires timely { IsTimelyState moment self.old.pages.prometheus }
+        requires sends { CanSend (L.aimed link.old) self.old }
+        ensures ended { OnOk result (EndsRound moment self.old self.new
+            (K.written out.old) (K.written out.new)
+            (record { sent = L.sent link.old; faults = L.faults link.old })
+            (record { sent = L.sent link.new; faults = L.faults link.new })) }
+        ensures cut { OnErr result (CutsPage moment self.old (K.written out.old) (K.written out.new)
+            (record { sent = L.sent link.old; faults = L.faults link.old })
+            (record { sent = L.sent link.new; faults = L.faults link.new })) }
+        ensures aims { L.aimed link.new ≡ L.aimed link.old }
+        ensures cause { IfErr result (IsPlayFault (Rose (K.faults out.old) (K.faults out.new))) }
+        ensures never_falls { K.faults out.old ≤ K.faults out.new }
+    {
+        let exporters = &mut self.exporters;
+        let dropped = write_both(
+            rt,
+            alloc,
+            moment,
+            work,
+            &mut exporters.prometheus,
+            &mut exporters.dogstatsd,
+            &mut self.flushes,
+            out,
+        )?;
+        self.flushes.hand_out(dropped, link);
+        Ok(())
     }
 }

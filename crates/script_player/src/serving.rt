@@ -1,16 +1,13 @@
 //! Serving the page of a script: its rounds are played without pages between, and those who fetch the page are answered.
 
-ghost use Rattle.std.specs.Prelude.{◌≡◌, ◌+◌, ◌≤◌, All, [], map, option_copied, IfErr, IfOk, OnOk};
+ghost use Rattle.std.specs.Prelude.{◌≡◌, ◌+◌, ◌≤◌, option_copied, IfErr, IfOk, OnOk};
 ghost use Rattle.metrics_core.specs.Outside.{Rose};
 ghost use Rattle.prom_serve.specs.Connections.{CountedOn};
 ghost use Rattle.prom_serve.specs.Refusals.{excepted};
-ghost use Rattle.drive_script.specs.Texts.{round_of, script_of};
+ghost use Rattle.drive_script.specs.Texts.{script_of};
 ghost use Rattle.script_player.specs.Agent.{default_agent};
-ghost use Rattle.script_player.specs.Faults.{IsAllowed};
-ghost use Rattle.script_player.specs.Fitting.{CallsFit};
-ghost use Rattle.script_player.specs.Recorded.{AllRecordSome};
+ghost use Rattle.script_player.specs.Faults.{CanPlay};
 ghost use Rattle.script_player.specs.Served.{Answers, AnswersInPart, ForSomePage, HasListenerCause, listed};
-ghost use Rattle.script_player.specs.Timely.{RiseFrom};
 
 use crate::Gate;
 use crate::agent::default_agent;
@@ -42,17 +39,20 @@ pub fn play_and_serve<
     listener: &mut N,
     count: u32,
 ) -> Result<Served, ServeError>
-    requires allowed { IsAllowed default_agent (script_of script) }
-    requires fit { CallsFit [] (map round_of script.rounds.items) }
-    requires some { All AllRecordSome (map round_of script.rounds.items) }
-    requires moments { RiseFrom 0 (map round_of script.rounds.items) }
-    ensures served { OnOk result (ForSomePage (script_of script) (λ page. Answers networks.now page count 0
-        (record { given = N.given listener.old; finished = N.finished listener.old }) (record { given = N.given listener.new; finished = N.finished listener.new }))) }
-    ensures in_part { IfErr result (λ error. ForSomePage (script_of script) (λ page. AnswersInPart networks.now page count (excepted error)
-        (record { given = N.given listener.old; finished = N.finished listener.old }) (record { given = N.given listener.new; finished = N.finished listener.new }))) }
+    requires can { CanPlay default_agent (script_of script) }
+    ensures served { OnOk result (ForSomePage (script_of script)
+        (λ page. Answers networks.now page count 0
+        (record { given = N.given listener.old; finished = N.finished listener.old })
+        (record { given = N.given listener.new; finished = N.finished listener.new }))) }
+    ensures in_part { IfErr result (λ error. ForSomePage (script_of script)
+        (λ page. AnswersInPart networks.now page count (excepted error)
+        (record { given = N.given listener.old; finished = N.finished listener.old })
+        (record { given = N.given listener.new; finished = N.finished listener.new }))) }
     ensures total { IfOk result (λ served. served.served + served.failed ≡ count) }
-    ensures lost { IfOk result (λ served. CountedOn (N.lost listener.old) (N.lost listener.new) served.failed) }
-    ensures cause { IfErr result (HasListenerCause (Rose (N.faults listener.old) (N.faults listener.new))) }
+    ensures lost { IfOk result (λ served. CountedOn (N.lost listener.old)
+        (N.lost listener.new) served.failed) }
+    ensures cause { IfErr result (HasListenerCause
+        (Rose (N.faults listener.old) (N.faults listener.new))) }
     ensures never_falls { N.faults listener.old ≤ N.faults listener.new }
 {
     let Script { settings, rounds } = script;
@@ -63,22 +63,17 @@ pub fn play_and_serve<
 }
 
 impl Player {
-    ghost use Rattle.std.specs.Prelude.{◌≡◌, ◌+◌, ◌≤◌, All, [], ◌∷◌, map, IfErr, IfOk, OnOk};
+    ghost use Rattle.std.specs.Prelude.{◌≡◌, ◌+◌, ◌≤◌, [], ◌∷◌, map, IfErr, IfOk, OnOk};
     ghost use Rattle.metrics_core.specs.Outside.{Rose};
-    ghost use Rattle.dsd_exporter.specs.Resting.{AllRest as LinesRest};
-    ghost use Rattle.prom_exporter.specs.Exporter.{body_shown};
     ghost use Rattle.prom_serve.specs.Connections.{CountedOn};
     ghost use Rattle.prom_serve.specs.Refusals.{excepted};
     ghost use Rattle.drive_script.specs.Texts.{round_of};
-    ghost use Rattle.script_player.specs.Fitting.{CallsFit};
     ghost use Rattle.script_player.specs.Flushes.{after_registers};
     ghost use Rattle.script_player.specs.Orders.{ForSomeOrders};
     ghost use Rattle.script_player.specs.Play.{after_calls, after_setup};
-    ghost use Rattle.script_player.specs.Player.{flush_state_of, state_of};
-    ghost use Rattle.script_player.specs.Recorded.{AllRecordSome};
-    ghost use Rattle.script_player.specs.Resting.{AllRest};
+    ghost use Rattle.script_player.specs.Player.{Awaits};
     ghost use Rattle.script_player.specs.Served.{Answers, AnswersInPart, ForSomeServed, HasListenerCause, moment_from};
-    ghost use Rattle.script_player.specs.Timely.{IsTimelyState, RiseFrom};
+    ghost use Rattle.script_player.specs.Shown.{ForSomeShown};
 
     /// Plays rounds, and serves the page behind them.
     fn serve_rounds<
@@ -95,22 +90,20 @@ impl Player {
         listener: &mut N,
         count: u32,
     ) -> Result<Served, ServeError>
-        requires fit { CallsFit self.old.handles.items (map round_of rounds.items) }
-        requires lines_fit { CallsFit self.old.line_handles.items (map round_of rounds.items) }
-        requires some { All AllRecordSome (map round_of rounds.items) }
-        requires timely { IsTimelyState 0 (state_of self.old).prometheus }
-        requires moments { RiseFrom 0 (map round_of rounds.items) }
-        requires rest { AllRest self.old.exporters.prometheus }
-        requires lines_rest { LinesRest self.old.exporters.dogstatsd }
-        ensures served { OnOk result (ForSomeServed (state_of self.old) (map round_of rounds.items) (λ play.
-            Answers networks.now (body_shown self.old.exporters.prometheus.settings (moment_from 0 (map round_of rounds.items)) play.prometheus) count 0
-            (record { given = N.given listener.old; finished = N.finished listener.old }) (record { given = N.given listener.new; finished = N.finished listener.new }))) }
-        ensures in_part { IfErr result (λ error. ForSomeServed (state_of self.old) (map round_of rounds.items) (λ play.
-            AnswersInPart networks.now (body_shown self.old.exporters.prometheus.settings (moment_from 0 (map round_of rounds.items)) play.prometheus) count (excepted error)
-            (record { given = N.given listener.old; finished = N.finished listener.old }) (record { given = N.given listener.new; finished = N.finished listener.new }))) }
+        requires awaits { Awaits 0 (map round_of rounds.items) self.old }
+        ensures served { OnOk result (ForSomeShown (map round_of rounds.items) self.old
+            (λ page. Answers networks.now page count 0
+            (record { given = N.given listener.old; finished = N.finished listener.old })
+            (record { given = N.given listener.new; finished = N.finished listener.new }))) }
+        ensures in_part { IfErr result (λ error. ForSomeShown (map round_of rounds.items) self.old
+            (λ page. AnswersInPart networks.now page count (excepted error)
+            (record { given = N.given listener.old; finished = N.finished listener.old })
+            (record { given = N.given listener.new; finished = N.finished listener.new }))) }
         ensures total { IfOk result (λ served. served.served + served.failed ≡ count) }
-        ensures lost { IfOk result (λ served. CountedOn (N.lost listener.old) (N.lost listener.new) served.failed) }
-        ensures cause { IfErr result (HasListenerCause (Rose (N.faults listener.old) (N.faults listener.new))) }
+        ensures lost { IfOk result (λ served. CountedOn (N.lost listener.old)
+            (N.lost listener.new) served.failed) }
+        ensures cause { IfErr result (HasListenerCause
+            (Rose (N.faults listener.old) (N.faults listener.new))) }
         ensures never_falls { N.faults listener.old ≤ N.faults listener.new }
     {
         let moment = self.play_unshown(rt, alloc, gate, rounds)?;
@@ -134,15 +127,13 @@ impl Player {
         gate: &G,
         rounds: Vec<Round>,
     ) -> Result<u64, Memory>
-        requires fit { CallsFit self.old.handles.items (map round_of rounds.items) }
-        requires lines_fit { CallsFit self.old.line_handles.items (map round_of rounds.items) }
-        requires some { All AllRecordSome (map round_of rounds.items) }
-        requires rest { AllRest self.old.exporters.prometheus }
-        requires lines_rest { LinesRest self.old.exporters.dogstatsd }
-        ensures rest { OnOk result (AllRest self.new.exporters.prometheus) }
-        ensures settings { self.new.exporters.prometheus.settings ≡ self.old.exporters.prometheus.settings }
-        ensures played { OnOk result (ForSomeServed (state_of self.old) (map round_of rounds.items) (λ play. state_of self.new ≡ play)) }
-        ensures moment { IfOk result (λ moment. moment ≡ moment_from 0 (map round_of rounds.items)) }
+        requires awaits { Awaits 0 (map round_of rounds.items) self.old }
+        ensures settings { self.new.settings ≡ self.old.settings }
+        ensures played { OnOk result
+            (ForSomeServed self.old.pages (map round_of rounds.items) (λ play. self.new.pages
+            ≡ play)) }
+        ensures moment { IfOk result (λ moment. moment
+            ≡ moment_from 0 (map round_of rounds.items)) }
     {
         let mut moment = 0;
         for round in rounds {
@@ -160,17 +151,14 @@ impl Player {
         gate: &G,
         round: Round,
     ) -> Result<(), Memory>
-        requires fit { CallsFit self.old.handles.items (round_of round ∷ []) }
-        requires lines_fit { CallsFit self.old.line_handles.items (round_of round ∷ []) }
-        requires some { AllRecordSome (round_of round) }
-        requires rest { AllRest self.old.exporters.prometheus }
-        requires lines_rest { LinesRest self.old.exporters.dogstatsd }
-        ensures rest { OnOk result (AllRest self.new.exporters.prometheus) }
-        ensures lines_rest { OnOk result (LinesRest self.new.exporters.dogstatsd) }
-        ensures settings { self.new.exporters.prometheus.settings ≡ self.old.exporters.prometheus.settings }
-        ensures lines_handles { OnOk result ((flush_state_of self.new).handles ≡ (after_registers (flush_state_of self.old) (round_of round)).handles) }
-        ensures played { OnOk result (ForSomeOrders (state_of self.old) (round_of round) (λ orders.
-            state_of self.new ≡ after_calls (after_setup (state_of self.old) (round_of round)) (round_of round) orders)) }
+        requires awaits { Awaits round.moment (round_of round ∷ []) self.old }
+        ensures settings { self.new.settings ≡ self.old.settings }
+        ensures played { OnOk result (ForSomeOrders self.old.pages (round_of round) (λ orders.
+            self.new.pages ≡ after_calls (after_setup self.old.pages (round_of round))
+            (round_of round) orders)) }
+        ensures lines_handles { OnOk result
+            (self.new.flushes.handles ≡ (after_registers self.old.flushes
+            (round_of round)).handles) }
     {
         let Round {
             moment,

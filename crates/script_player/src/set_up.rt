@@ -11,6 +11,7 @@ ghost use Rattle.script_player.specs.Play.{setup_step};
 ghost use Rattle.script_player.specs.Player.{lines_state, rows_state};
 ghost use Rattle.script_player.specs.Resting.{AllRest};
 
+use crate::both::join_if;
 use crate::guesses::Guesses;
 use drive_script::Setup;
 use dsd_exporter::State;
@@ -19,7 +20,7 @@ use metrics_core::{Key, KeyName, Memory, MetricKind, SeriesId, SharedString, Uni
 use prom_exporter::PrometheusState;
 use std::alloc::Global;
 use std::sync::Wait;
-use std::thread::{Threads, join_mut, map_chunks};
+use std::thread::{Threads, map_chunks};
 
 /// From how many setup lines on those for the flushes are done beside those for the pages. Fewer aren't worth a thread.
 const MANY: usize = 4096;
@@ -87,7 +88,8 @@ fn copies_for_flushes(alloc: Global, setup: &[Setup]) -> Result<Vec<Setup>, Memo
 /// Appends a copy of a setup line, where it registers.
 fn push_for_flushes(alloc: Global, copies: &mut Vec<Setup>, line: &Setup) -> Result<(), Memory>
     ensures { OnOk result ((p : FlushPlay) → fold register_step p (map setup_of copies.new.items)
-        ≡ register_step (fold register_step p (map setup_of copies.old.items)) (setup_of line.now)) }
+        ≡ register_step (fold register_step p (map setup_of copies.old.items))
+        (setup_of line.now)) }
 {
     match line {
         Setup::Describe { .. } => Ok(()),
@@ -106,49 +108,6 @@ fn push_for_flushes(alloc: Global, copies: &mut Vec<Setup>, line: &Setup) -> Res
 pub(crate) fn set_up_both<R: Threads + Wait + Sync>(
     rt: &R,
     alloc: Global,
-    exporters: &mut Exporters,
-    line_handles: &mut Vec<SeriesId>,
-    line_guesses: &mut Guesses,
-    copies: &mut Vec<Vec<Setup>>,
-    handles: &mut Vec<SeriesId>,
-    guesses: &mut Guesses,
-    setup: &mut Vec<Setup>,
-) -> Result<(), Memory>
-    ensures settings { exporters.new.prometheus.settings ≡ exporters.old.prometheus.settings }
-    ensures rest { AllRest exporters.old.prometheus → AllRest exporters.new.prometheus }
-    ensures lines_settings { exporters.new.dogstatsd.settings ≡ exporters.old.dogstatsd.settings }
-    ensures lines_rest { LinesRest exporters.old.dogstatsd → LinesRest exporters.new.dogstatsd }
-    ensures stepped { OnOk result (rows_state exporters.new.prometheus handles.new.items
-        ≡ fold setup_step (rows_state exporters.old.prometheus handles.old.items) (map setup_of setup.old.items)) }
-    ensures registered { OnOk result ((marks : List Bool) → lines_state marks exporters.new.dogstatsd line_handles.new.items
-        ≡ fold register_step (lines_state marks exporters.old.dogstatsd line_handles.old.items) (map setup_of (in_parts copies.old.items))) }
-{
-    if setup.len() < MANY {
-        let lines = &mut exporters.dogstatsd;
-        set_up_lines(rt, alloc, lines, line_handles, line_guesses, copies)?;
-        let pages = &mut exporters.prometheus;
-        set_up_rows(rt, alloc, pages, handles, guesses, setup)
-    } else {
-        set_up_beside(
-            rt,
-            alloc,
-            &mut exporters.dogstatsd,
-            line_handles,
-            line_guesses,
-            copies,
-            &mut exporters.prometheus,
-            handles,
-            guesses,
-            setup,
-        )
-    }
-}
-
-/// Does setup lines on both exporters side by side. Both calls borrow the runtime: the borrow checker doesn't cover two closures
-/// side by side of which only one does.
-fn set_up_beside<R: Threads + Wait + Sync>(
-    rt: &R,
-    alloc: Global,
     lines: &mut State,
     line_handles: &mut Vec<SeriesId>,
     line_guesses: &mut Guesses,
@@ -162,12 +121,17 @@ fn set_up_beside<R: Threads + Wait + Sync>(
     ensures rest { AllRest pages.old → AllRest pages.new }
     ensures lines_settings { lines.new.settings ≡ lines.old.settings }
     ensures lines_rest { LinesRest lines.old → LinesRest lines.new }
-    ensures stepped { OnOk result (rows_state pages.new handles.new.items ≡ fold setup_step (rows_state pages.old handles.old.items) (map setup_of setup.old.items)) }
-    ensures registered { OnOk result ((marks : List Bool) → lines_state marks lines.new line_handles.new.items
-        ≡ fold register_step (lines_state marks lines.old line_handles.old.items) (map setup_of (in_parts copies.old.items))) }
+    ensures stepped { OnOk result (rows_state pages.new handles.new.items
+        ≡ fold setup_step (rows_state pages.old handles.old.items) (map setup_of setup.old.items)) }
+    ensures registered { OnOk result ((marks : List Bool)
+        → lines_state marks lines.new line_handles.new.items
+        ≡ fold register_step (lines_state marks lines.old line_handles.old.items)
+        (map setup_of (in_parts copies.old.items))) }
 {
-    let (first, second) = join_mut(
+    let beside = setup.len() >= MANY;
+    let (first, second) = join_if(
         rt,
+        beside,
         &mut || set_up_lines(rt, alloc, lines, line_handles, line_guesses, copies),
         &mut || set_up_rows(rt, alloc, pages, handles, guesses, setup),
     );
@@ -187,8 +151,10 @@ pub(crate) fn set_up_lines<R>(
 ) -> Result<(), Memory>
     ensures settings { lines.new.settings ≡ lines.old.settings }
     ensures rest { LinesRest lines.old → LinesRest lines.new }
-    ensures registered { OnOk result ((marks : List Bool) → lines_state marks lines.new handles.new.items
-        ≡ fold register_step (lines_state marks lines.old handles.old.items) (map setup_of (in_parts parts.old.items))) }
+    ensures registered { OnOk result ((marks : List Bool)
+        → lines_state marks lines.new handles.new.items
+        ≡ fold register_step (lines_state marks lines.old handles.old.items)
+        (map setup_of (in_parts parts.old.items))) }
 {
     for mut part in parts.drain(..) {
         set_up_part(alloc, lines, handles, guesses, &mut part)?;
@@ -207,8 +173,10 @@ fn set_up_part(
 ) -> Result<(), Memory>
     ensures settings { lines.new.settings ≡ lines.old.settings }
     ensures rest { LinesRest lines.old → LinesRest lines.new }
-    ensures registered { OnOk result ((marks : List Bool) → lines_state marks lines.new handles.new.items
-        ≡ fold register_step (lines_state marks lines.old handles.old.items) (map setup_of setup.old.items)) }
+    ensures registered { OnOk result ((marks : List Bool)
+        → lines_state marks lines.new handles.new.items
+        ≡ fold register_step (lines_state marks lines.old handles.old.items)
+        (map setup_of setup.old.items)) }
 {
     setup.reverse();
     while let Some(line) = setup.pop() {
@@ -228,7 +196,8 @@ fn set_up_line(
 ) -> Result<(), Memory>
     ensures settings { lines.new.settings ≡ lines.old.settings }
     ensures rest { LinesRest lines.old → LinesRest lines.new }
-    ensures registered { OnOk result ((marks : List Bool) → lines_state marks lines.new handles.new.items
+    ensures registered { OnOk result ((marks : List Bool)
+        → lines_state marks lines.new handles.new.items
         ≡ register_step (lines_state marks lines.old handles.old.items) (setup_of line)) }
 {
     match line {
@@ -248,7 +217,8 @@ fn register_line(
 ) -> Result<(), Memory>
     ensures settings { lines.new.settings ≡ lines.old.settings }
     ensures rest { LinesRest lines.old → LinesRest lines.new }
-    ensures registered { OnOk result ((marks : List Bool) → lines_state marks lines.new handles.new.items
+    ensures registered { OnOk result ((marks : List Bool)
+        → lines_state marks lines.new handles.new.items
         ≡ register_step (lines_state marks lines.old handles.old.items) (Register kind key)) }
 {
     let id = match kind {
@@ -272,7 +242,8 @@ pub(crate) fn set_up_rows<R: Wait>(
 ) -> Result<(), Memory>
     ensures settings { pages.new.settings ≡ pages.old.settings }
     ensures rest { AllRest pages.old → AllRest pages.new }
-    ensures stepped { OnOk result (rows_state pages.new handles.new.items ≡ fold setup_step (rows_state pages.old handles.old.items) (map setup_of setup.old.items)) }
+    ensures stepped { OnOk result (rows_state pages.new handles.new.items
+        ≡ fold setup_step (rows_state pages.old handles.old.items) (map setup_of setup.old.items)) }
 {
     setup.reverse();
     while let Some(line) = setup.pop() {
@@ -293,7 +264,8 @@ fn set_up_row<R: Wait>(
 ) -> Result<(), Memory>
     ensures settings { pages.new.settings ≡ pages.old.settings }
     ensures rest { AllRest pages.old → AllRest pages.new }
-    ensures stepped { OnOk result (rows_state pages.new handles.new.items ≡ setup_step (rows_state pages.old handles.old.items) (setup_of line)) }
+    ensures stepped { OnOk result (rows_state pages.new handles.new.items
+        ≡ setup_step (rows_state pages.old handles.old.items) (setup_of line)) }
 {
     match line {
         Setup::Describe {
@@ -318,7 +290,9 @@ fn describe<R: Wait>(
 ) -> Result<(), Memory>
     ensures settings { pages.new.settings ≡ pages.old.settings }
     ensures rest { AllRest pages.old → AllRest pages.new }
-    ensures stepped { OnOk result ((handles : List SeriesId) → rows_state pages.new handles ≡ setup_step (rows_state pages.old handles) (Describe kind (string_bytes name) unit (string_bytes text))) }
+    ensures stepped { OnOk result ((handles : List SeriesId) → rows_state pages.new handles
+        ≡ setup_step (rows_state pages.old handles) (Describe kind (string_bytes name) unit
+        (string_bytes text))) }
 {
     let name = KeyName::from(name);
     let text = SharedString::from_owned(text);
@@ -340,7 +314,8 @@ fn register_row(
 ) -> Result<(), Memory>
     ensures settings { pages.new.settings ≡ pages.old.settings }
     ensures rest { AllRest pages.old → AllRest pages.new }
-    ensures stepped { OnOk result (rows_state pages.new handles.new.items ≡ setup_step (rows_state pages.old handles.old.items) (Register kind key)) }
+    ensures stepped { OnOk result (rows_state pages.new handles.new.items
+        ≡ setup_step (rows_state pages.old handles.old.items) (Register kind key)) }
 {
     let id = match kind {
         MetricKind::Counter => pages.register_owned_counter(alloc, key)?,
@@ -352,17 +327,48 @@ fn register_row(
     Ok(())
 }
 
+/// Makes room for what register lines make, where they are at least as many as those before them.
+pub(crate) fn make_room(
+    setup: &[Setup],
+    exporters: &mut Exporters,
+    handles: &mut Vec<SeriesId>,
+    guesses: &mut Guesses,
+    line_handles: &mut Vec<SeriesId>,
+    line_guesses: &mut Guesses,
+) -> Result<(), Memory>
+    ensures exporters { (exporters.new.prometheus ≡ exporters.old.prometheus)
+        × (exporters.new.dogstatsd ≡ exporters.old.dogstatsd) }
+    ensures handles { handles.new.items ≡ handles.old.items }
+    ensures line_handles { line_handles.new.items ≡ line_handles.old.items }
+{
+    let SetupCounts {
+        counters,
+        gauges,
+        registrations,
+    } = SetupCounts::of(setup);
+    if registrations < handles.len() {
+        return Ok(());
+    }
+    exporters.prometheus.reserve(counters, gauges)?;
+    exporters.dogstatsd.reserve(counters, gauges)?;
+    handles.reserve(registrations)?;
+    guesses.reserve(registrations)?;
+    line_handles.reserve(registrations)?;
+    line_guesses.reserve(registrations)?;
+    Ok(())
+}
+
 /// How many setup lines register a series, and how many of them a counter and a gauge.
 #[derive(Clone, Copy)]
-pub(crate) struct SetupCounts {
-    pub(crate) counters: usize,
-    pub(crate) gauges: usize,
-    pub(crate) registrations: usize,
+struct SetupCounts {
+    counters: usize,
+    gauges: usize,
+    registrations: usize,
 }
 
 impl SetupCounts {
     /// The counts of setup lines.
-    pub(crate) fn of(setup: &[Setup]) -> SetupCounts {
+    fn of(setup: &[Setup]) -> SetupCounts {
         let mut counts = SetupCounts {
             counters: 0,
             gauges: 0,

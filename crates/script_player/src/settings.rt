@@ -46,7 +46,12 @@ fn with_quantiles(
     builder: PrometheusBuilder,
     quantiles: Option<Vec<Fixed>>,
 ) -> Result<PrometheusBuilder, Memory>
-    ensures { IfOk result (λ told. told ≡ record builder { settings = record builder.settings { quantiles = unwrap_or (option_map (λ numbers. values_of numbers.items) quantiles) builder.settings.quantiles } }) }
+    ensures { IfOk result (λ told. told ≡ record builder {
+      settings = record builder.settings {
+        quantiles = unwrap_or (option_map (λ numbers. values_of numbers.items) quantiles)
+            builder.settings.quantiles;
+      };
+    }) }
 {
     let Some(quantiles) = quantiles else {
         return Ok(builder);
@@ -61,7 +66,11 @@ fn with_buckets(
     buckets: Option<Vec<Fixed>>,
 ) -> Result<PrometheusBuilder, Memory>
     requires { builder.settings.buckets ≡ None }
-    ensures { IfOk result (λ told. told ≡ record builder { settings = record builder.settings { buckets = option_map (λ numbers. values_of numbers.items) buckets } }) }
+    ensures { IfOk result (λ told. told ≡ record builder {
+      settings = record builder.settings {
+        buckets = option_map (λ numbers. values_of numbers.items) buckets;
+      };
+    }) }
 {
     let Some(buckets) = buckets else {
         return Ok(builder);
@@ -75,7 +84,11 @@ fn with_rules(
     builder: PrometheusBuilder,
     rules: Vec<(Matcher, Vec<Fixed>)>,
 ) -> Result<PrometheusBuilder, Memory>
-    ensures { IfOk result (λ told. told ≡ record builder { settings = record builder.settings { buckets_for = builder.settings.buckets_for ++ map rule_told rules.items } }) }
+    ensures { IfOk result (λ told. told ≡ record builder {
+      settings = record builder.settings {
+        buckets_for = builder.settings.buckets_for ++ map rule_told rules.items;
+      };
+    }) }
 {
     let mut builder = builder;
     for (matcher, bounds) in rules {
@@ -90,7 +103,11 @@ fn with_native_rules(
     builder: PrometheusBuilder,
     rules: Vec<(Matcher, Fixed, u32, Fixed)>,
 ) -> Result<PrometheusBuilder, Memory>
-    ensures { IfOk result (λ told. told ≡ record builder { settings = record builder.settings { native_for = builder.settings.native_for ++ map native_told rules.items } }) }
+    ensures { IfOk result (λ told. told ≡ record builder {
+      settings = record builder.settings {
+        native_for = builder.settings.native_for ++ map native_told rules.items;
+      };
+    }) }
 {
     let mut builder = builder;
     for (matcher, factor, max_buckets, threshold) in rules {
@@ -121,8 +138,10 @@ fn with_window(
 ) -> Result<PrometheusBuilder, Memory>
     ensures { IfOk result (λ told. told ≡ record builder {
       settings = record builder.settings {
-        bucket_count = unwrap_or (option_map (λ window. non_zero_u32_get window.0) summary) builder.settings.bucket_count;
-        bucket_duration = unwrap_or (option_map (λ window. window.1) summary) builder.settings.bucket_duration;
+        bucket_count = unwrap_or (option_map (λ window. non_zero_u32_get window.0) summary)
+            builder.settings.bucket_count;
+        bucket_duration = unwrap_or (option_map (λ window. window.1) summary)
+            builder.settings.bucket_duration;
       };
     }) }
 {
@@ -139,7 +158,12 @@ fn with_window(
 /// A builder that is told which series fall idle, and when, if any do.
 fn with_idle(builder: PrometheusBuilder, idle: Option<(MetricKindMask, u64)>) -> PrometheusBuilder
     requires { builder.settings.idle ≡ None }
-    ensures { result ≡ record builder { settings = record builder.settings { idle = option_map (λ (mask, timeout). record { mask = mask; timeout = timeout }) idle } } }
+    ensures { result ≡ record builder {
+      settings = record builder.settings {
+        idle = option_map
+            (λ (mask, timeout). record { mask = mask; timeout = timeout }) idle;
+      };
+    } }
 {
     match idle {
         Some((mask, timeout)) => builder.idle_timeout(mask, Some(timeout)),
@@ -165,7 +189,11 @@ fn with_globals(
     builder: PrometheusBuilder,
     globals: Vec<(String, String)>,
 ) -> Result<PrometheusBuilder, Memory>
-    ensures { IfOk result (λ told. told ≡ record builder { settings = record builder.settings { globals = fold put_label builder.settings.globals (labels_of globals.items) } }) }
+    ensures { IfOk result (λ told. told ≡ record builder {
+      settings = record builder.settings {
+        globals = fold put_label builder.settings.globals (labels_of globals.items);
+      };
+    }) }
 {
     let mut builder = builder;
     for (key, value) in globals {

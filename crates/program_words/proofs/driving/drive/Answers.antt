@@ -20,16 +20,11 @@ use Rattle.program_words.proofs.RecordedRounds.{script_records}
 use Rattle.script_player.proofs.TimelyRounds.{rise_from_start}
 use Rattle.program_words.proofs.driving.drive.Goals as goal
 
-pub play_script-requires-clause-fit : goal.play_script-requires-clause-fit
-play_script-requires-clause-fit g c κs within = ([], refl, c.in_ok-script.ensures.read.good.1.1.handles)
-
-pub play_script-requires-clause-some : goal.play_script-requires-clause-some
-play_script-requires-clause-some g c κs within =
-    let read = c.in_ok-script.ensures.read in
-    script_records _ (script_of c.in_ok-script.script) read.good.1.0
-
-pub play_script-requires-clause-moments : goal.play_script-requires-clause-moments
-play_script-requires-clause-moments g c κs within = rise_from_start (script_of c.in_ok-script.script).rounds c.in_ok-script.ensures.read.good.1.1.moments
+pub play_script-requires-clause-can : goal.play_script-requires-clause-can
+play_script-requires-clause-can g c κs within =
+    let script = script_of c.in_ok-script.script in
+    let good = c.in_ok-script.ensures.read.good in
+    record { allowed = c.in_ok-check_settings.ensures.allowed; fit = ([], refl, good.1.1.handles); some = script_records _ script good.1.0; moments = rise_from_start script.rounds good.1.1.moments }
 
 pub returns-in_err-script-clause-complete : goal.returns-in_err-script-clause-complete
 returns-in_err-script-clause-complete g c =
@@ -98,11 +93,13 @@ returns-clause-in_part g c =
 pub returns-clause-unsent : goal.returns-clause-unsent
 returns-clause-unsent g c = played_on _ _ c.play_script.result c.play_script.ensures.cause
 
-pub returns-clause-aimed : goal.returns-clause-aimed
-returns-clause-aimed g c = now_aimed (remote_text c.args.to.now) (g.L.Link.aimed c.args.link.now) (g.L.Link.aimed c.play_script.new.link) (end_status c.play_script.result) (c.play_script.ensures.aims ∙ c.in_ok-aim.ensures.aimed)
-
-pub returns-clause-left : goal.returns-clause-left
-returns-clause-left g c = play_reads _ (g.S.Source.left c.args.source.now) (g.S.Source.left c.read_whole_script.new.source) c.play_script.result c.play_script.ensures.cause c.in_ok-script.ensures.left
+pub returns-clause-devices : goal.returns-clause-devices
+returns-clause-devices g c = record {
+  aimed_at =
+      now_aimed (remote_text c.args.to.now) (g.L.Link.aimed c.args.link.now) (g.L.Link.aimed c.play_script.new.link) (end_status c.play_script.result) (c.play_script.ensures.aims ∙ c.in_ok-aim.ensures.aimed);
+  source =
+      play_reads _ (g.S.Source.left c.args.source.now) (g.S.Source.left c.read_whole_script.new.source) c.play_script.result c.play_script.ensures.cause c.in_ok-script.ensures.left;
+}
 
 -- ---- no script was read
 
@@ -118,18 +115,18 @@ returns-in_err-script-clause-in_part g c =
     if_handed_on c.from_residual.result _ (λ fault. IfSome left (λ bytes. LeavesInPart (remote_text c.args.to.now) bytes written written told told fault)) c.from_residual.ensures.1
     (unread_in_part _ left SourceFailed written told c.in_err-script.field-0.0 c.in_err-script.ensures.refused)
 
-pub returns-in_err-script-clause-aimed : goal.returns-in_err-script-clause-aimed
-returns-in_err-script-clause-aimed g c =
-    let aimed = g.L.Link.aimed c.args.link.now in
-    let SourceFailed : Type 0 = Rose (g.S.Source.faults c.args.source.now) (g.S.Source.faults c.read_whole_script.new.source) in
-    status_handed_on c.from_residual.result c.in_err-script.field-0.0 (IsAimed (remote_text c.args.to.now) aimed aimed) c.from_residual.ensures.1
-    (unread_aimed _ (g.S.Source.left c.args.source.now) SourceFailed aimed c.in_err-script.field-0.0 c.in_err-script.ensures.refused)
-
-pub returns-in_err-script-clause-left : goal.returns-in_err-script-clause-left
-returns-in_err-script-clause-left g c =
-    let left = g.S.Source.left c.args.source.now in
-    let left_now = g.S.Source.left c.read_whole_script.new.source in
-    status_handed_on c.from_residual.result c.in_err-script.field-0.0 (λ status. IfSome left (λ bytes. LeavesSource bytes left_now status)) c.from_residual.ensures.1 c.in_err-script.ensures.left
+pub returns-in_err-script-clause-devices : goal.returns-in_err-script-clause-devices
+returns-in_err-script-clause-devices g c = record {
+  aimed_at =
+      let aimed = g.L.Link.aimed c.args.link.now in
+      let SourceFailed : Type 0 = Rose (g.S.Source.faults c.args.source.now) (g.S.Source.faults c.read_whole_script.new.source) in
+      status_handed_on c.from_residual.result c.in_err-script.field-0.0 (IsAimed (remote_text c.args.to.now) aimed aimed) c.from_residual.ensures.1
+      (unread_aimed _ (g.S.Source.left c.args.source.now) SourceFailed aimed c.in_err-script.field-0.0 c.in_err-script.ensures.refused);
+  source =
+      let left = g.S.Source.left c.args.source.now in
+      let left_now = g.S.Source.left c.read_whole_script.new.source in
+      status_handed_on c.from_residual.result c.in_err-script.field-0.0 (λ status. IfSome left (λ bytes. LeavesSource bytes left_now status)) c.from_residual.ensures.1 c.in_err-script.ensures.left;
+}
 
 -- ---- a setting is refused
 
@@ -141,18 +138,18 @@ returns-in_err-check_settings-clause-in_part g c =
     if_handed_on c.from_residual-in_err-check_settings.result _ (λ fault. IfSome left (λ bytes. LeavesInPart (remote_text c.args.to.now) bytes written written told told fault)) c.from_residual-in_err-check_settings.ensures.1
     (refused_in_part (remote_text c.args.to.now) left written told told c.in_err-check_settings.field-0.0)
 
-pub returns-in_err-check_settings-clause-aimed : goal.returns-in_err-check_settings-clause-aimed
-returns-in_err-check_settings-clause-aimed g c =
-    let aimed = g.L.Link.aimed c.args.link.now in
-    status_handed_on c.from_residual-in_err-check_settings.result (faults.Setting c.in_err-check_settings.field-0.0) (IsAimed (remote_text c.args.to.now) aimed aimed) c.from_residual-in_err-check_settings.ensures.1
-    (still_aimed _ aimed aimed 4 refl (λ e. omega (arith, e)) (λ e. omega (arith, e)))
-
-pub returns-in_err-check_settings-clause-left : goal.returns-in_err-check_settings-clause-left
-returns-in_err-check_settings-clause-left g c =
-    let left = g.S.Source.left c.args.source.now in
-    let left_now = g.S.Source.left c.read_whole_script.new.source in
-    status_handed_on c.from_residual-in_err-check_settings.result (faults.Setting c.in_err-check_settings.field-0.0) (λ status. IfSome left (λ bytes. LeavesSource bytes left_now status))
-    c.from_residual-in_err-check_settings.ensures.1 (read_out left left_now 4 c.in_ok-script.ensures.left (λ e. omega (arith, e)))
+pub returns-in_err-check_settings-clause-devices : goal.returns-in_err-check_settings-clause-devices
+returns-in_err-check_settings-clause-devices g c = record {
+  aimed_at =
+      let aimed = g.L.Link.aimed c.args.link.now in
+      status_handed_on c.from_residual-in_err-check_settings.result (faults.Setting c.in_err-check_settings.field-0.0) (IsAimed (remote_text c.args.to.now) aimed aimed) c.from_residual-in_err-check_settings.ensures.1
+      (still_aimed _ aimed aimed 4 refl (λ e. omega (arith, e)) (λ e. omega (arith, e)));
+  source =
+      let left = g.S.Source.left c.args.source.now in
+      let left_now = g.S.Source.left c.read_whole_script.new.source in
+      status_handed_on c.from_residual-in_err-check_settings.result (faults.Setting c.in_err-check_settings.field-0.0) (λ status. IfSome left (λ bytes. LeavesSource bytes left_now status))
+      c.from_residual-in_err-check_settings.ensures.1 (read_out left left_now 4 c.in_ok-script.ensures.left (λ e. omega (arith, e)));
+}
 
 -- ---- the link could not be aimed
 
@@ -165,16 +162,16 @@ returns-in_err-aim-clause-in_part g c =
     if_handed_on c.from_residual-in_err-aim.result faults.Memory (λ fault. IfSome left (λ bytes. LeavesInPart (remote_text c.args.to.now) bytes written written told aimed fault)) c.from_residual-in_err-aim.ensures.1
     (unaimed_in_part _ left written told aimed c.in_err-aim.ensures.sent)
 
-pub returns-in_err-aim-clause-aimed : goal.returns-in_err-aim-clause-aimed
-returns-in_err-aim-clause-aimed g c =
-    let before = g.L.Link.aimed c.args.link.now in
-    let after = g.L.Link.aimed c.aim.new.self in
-    status_handed_on c.from_residual-in_err-aim.result faults.Memory (IsAimed (remote_text c.args.to.now) before after) c.from_residual-in_err-aim.ensures.1
-    (still_aimed _ before after 8 c.in_err-aim.ensures.refused (λ e. omega (arith, e)) (λ e. omega (arith, e)))
-
-pub returns-in_err-aim-clause-left : goal.returns-in_err-aim-clause-left
-returns-in_err-aim-clause-left g c =
-    let left = g.S.Source.left c.args.source.now in
-    let left_now = g.S.Source.left c.read_whole_script.new.source in
-    status_handed_on c.from_residual-in_err-aim.result faults.Memory (λ status. IfSome left (λ bytes. LeavesSource bytes left_now status)) c.from_residual-in_err-aim.ensures.1
-    (read_out left left_now 8 c.in_ok-script.ensures.left (λ e. omega (arith, e)))
+pub returns-in_err-aim-clause-devices : goal.returns-in_err-aim-clause-devices
+returns-in_err-aim-clause-devices g c = record {
+  aimed_at =
+      let before = g.L.Link.aimed c.args.link.now in
+      let after = g.L.Link.aimed c.aim.new.self in
+      status_handed_on c.from_residual-in_err-aim.result faults.Memory (IsAimed (remote_text c.args.to.now) before after) c.from_residual-in_err-aim.ensures.1
+      (still_aimed _ before after 8 c.in_err-aim.ensures.refused (λ e. omega (arith, e)) (λ e. omega (arith, e)));
+  source =
+      let left = g.S.Source.left c.args.source.now in
+      let left_now = g.S.Source.left c.read_whole_script.new.source in
+      status_handed_on c.from_residual-in_err-aim.result faults.Memory (λ status. IfSome left (λ bytes. LeavesSource bytes left_now status)) c.from_residual-in_err-aim.ensures.1
+      (read_out left left_now 8 c.in_ok-script.ensures.left (λ e. omega (arith, e)));
+}

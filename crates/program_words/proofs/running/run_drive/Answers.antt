@@ -24,7 +24,7 @@ returns-in-Ok-clause-ends g c =
     let Aimed : Result Report DriveFault → Type 0 = λ r. IsAimed to link.aimed link.aimed' (end_status r) in
     let Left : Result Report DriveFault → Type 0 = λ r. IfSome source.left (λ bytes. LeavesSource bytes source.left' (end_status r)) in
     let Whole : Result Report DriveFault → Type 0 = λ r. IfSome source.left (λ bytes. IsComplete to bytes (Rose source.faults source.faults') (Rose out.faults out.faults') (end_status r)) in
-    played_ends to source out err link c.in-Ok.report c.in-Ok.ensures.played c.in-Ok.ensures.sent (subst Aimed c.in-Ok.is c.drive.ensures.aimed) (subst Left c.in-Ok.is c.drive.ensures.left)
+    played_ends to source out err link c.in-Ok.report c.in-Ok.ensures.played c.in-Ok.ensures.sent (subst Aimed c.in-Ok.is c.drive.ensures.devices.aimed_at) (subst Left c.in-Ok.is c.drive.ensures.devices.source)
     (subst Whole c.in-Ok.is c.drive.ensures.complete)
     (record { text = line (report_text c.in-Ok.report); meant = done c.in-Ok.report c.in-Ok.ensures.sent; written = c.say_report.ensures.said })
 
@@ -42,7 +42,7 @@ returns-in-Err-clause-ends g c =
     let P : ℕ → Type 0 = λ status. IsDriveEnd to source out err link status in
     subst P (sym c.status_of.ensures)
     (failed_ends to source out err link fault c.in-Err.ensures.cause c.in-Err.ensures.device c.in-Err.ensures.unplayed c.in-Err.ensures.prefix c.in-Err.ensures.in_part
-    (subst Aimed c.in-Err.is c.drive.ensures.aimed) (subst Left c.in-Err.is c.drive.ensures.left) (subst Whole c.in-Err.is c.drive.ensures.complete)
+    (subst Aimed c.in-Err.is c.drive.ensures.devices.aimed_at) (subst Left c.in-Err.is c.drive.ensures.devices.source) (subst Whole c.in-Err.is c.drive.ensures.complete)
     (record { text = line (fault_text fault); meant = fault_line to source.left link.told link.told' _ _ fault c.in-Err.ensures.cause; written = c.say_fault.ensures.said }))
 
 pub returns-in-Err-clause-unsent : goal.returns-in-Err-clause-unsent

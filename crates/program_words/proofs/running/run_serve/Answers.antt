@@ -21,7 +21,7 @@ returns-in-Ok-clause-ends g c =
     (λ bytes. IsServeComplete bytes (Rose source.faults source.faults') (Rose listener.faults listener.faults') (serve_end_status r)) in
     served_ends c.args.count c.args.networks.now source err listener c.in-Ok.ensures.served c.in-Ok.ensures.given (subst Left c.in-Ok.is c.serve_script.ensures.left)
     (subst Whole c.in-Ok.is c.serve_script.ensures.complete)
-    (record { text = line (served_text c.in-Ok.served); meant = done c.in-Ok.served c.in-Ok.ensures.total c.in-Ok.ensures.lost; written = c.say_served.ensures.said })
+    (record { text = line (served_text c.in-Ok.served); meant = done c.in-Ok.served c.in-Ok.ensures.counted.total c.in-Ok.ensures.counted.lost; written = c.say_served.ensures.said })
 
 pub returns-in-Err-clause-ends : goal.returns-in-Err-clause-ends
 returns-in-Err-clause-ends g c =

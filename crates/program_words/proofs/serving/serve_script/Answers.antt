@@ -17,19 +17,16 @@ use Rattle.program_words.proofs.ServingSteps.{leaves_served, listener_cause, lis
 use Rattle.script_player.proofs.TimelyRounds.{rise_from_start}
 use Rattle.program_words.proofs.serving.serve_script.Goals as goal
 
-pub play_and_serve-requires-clause-fit : goal.play_and_serve-requires-clause-fit
-play_and_serve-requires-clause-fit g c κs within = ([], refl, c.in_ok-script.ensures.read.good.1.1.handles)
-
-pub play_and_serve-requires-clause-allowed : goal.play_and_serve-requires-clause-allowed
-play_and_serve-requires-clause-allowed g c κs within = subst (λ to. refused_setting (script_of c.in_ok-script.script).settings to ≡ None) c.default_agent.ensures c.in_ok-check_settings.ensures.allowed
-
-pub play_and_serve-requires-clause-some : goal.play_and_serve-requires-clause-some
-play_and_serve-requires-clause-some g c κs within =
-    let read = c.in_ok-script.ensures.read in
-    script_records _ (script_of c.in_ok-script.script) read.good.1.0
-
-pub play_and_serve-requires-clause-moments : goal.play_and_serve-requires-clause-moments
-play_and_serve-requires-clause-moments g c κs within = rise_from_start (script_of c.in_ok-script.script).rounds c.in_ok-script.ensures.read.good.1.1.moments
+pub play_and_serve-requires-clause-can : goal.play_and_serve-requires-clause-can
+play_and_serve-requires-clause-can g c κs within =
+    let script = script_of c.in_ok-script.script in
+    let good = c.in_ok-script.ensures.read.good in
+    record {
+      allowed = subst (λ to. refused_setting script.settings to ≡ None) c.default_agent.ensures c.in_ok-check_settings.ensures.allowed;
+      fit = ([], refl, good.1.1.handles);
+      some = script_records _ script good.1.0;
+      moments = rise_from_start script.rounds good.1.1.moments;
+    }
 
 -- ---- no script was read
 
@@ -143,6 +140,9 @@ returns-clause-served g c =
     let allowed : IsAllowed default_agent (script_of c.in_ok-script.script)
     = subst (λ to. refused_setting (script_of c.in_ok-script.script).settings to ≡ None) c.default_agent.ensures c.in_ok-check_settings.ensures.allowed in
     script_served (g.S.Source.left c.args.source.now) (script_of c.in_ok-script.script) c.args.networks.now c.args.count _ _ c.in_ok-script.ensures.read allowed c.in_ok-served.ensures.served
+
+pub returns-clause-counted : goal.returns-clause-counted
+returns-clause-counted g c = record { total = c.in_ok-served.ensures.total; lost = c.in_ok-served.ensures.lost }
 
 pub returns-clause-given : goal.returns-clause-given
 returns-clause-given g c = c.in_ok-served.ensures.served.2.given

@@ -2,14 +2,12 @@ use Rattle.std.proofs.Common.{ap, sym, subst, ◌∙◌}
 use Rattle.std.specs.Prelude.{Some}
 use Rattle.dsd_addresses.specs.Remotes.{remote_text}
 use Rattle.dsd_exporter.specs.declared.sending.FlushReport.{FlushReport}
-use Rattle.drive_script.specs.Texts.{settings_of}
 use Rattle.bench_scripts.specs.Bench.{bench_script, bench_settings_text}
 use Rattle.script_player.specs.Agent.{default_agent}
 use Rattle.script_player.specs.Faults.{AreAllowed}
 use Rattle.script_player.specs.Benched.{keeps_none}
 use Rattle.script_player.specs.Flushes.{ForSomeFlushes, flush_start}
-use Rattle.script_player.specs.Play.{exporter_settings}
-use Rattle.script_player.specs.Player.{AsksFor}
+use Rattle.script_player.specs.Player.{first_player}
 use Rattle.script_player.specs.Sent.{Delivers, none_sent}
 use Rattle.script_player.proofs.BenchSteps.{bench_report, unbenched}
 use Rattle.script_player.proofs.Returned.{on_handed_on}
@@ -20,13 +18,8 @@ new-requires g c =
     let to = remote_text c.default_agent-to.result in
     record { allowed = subst (AreAllowed to) (sym c.in_ok-settings.ensures) (c.settings_are_allowed.ensures to) }
 
-pub play_bench-played-requires-clause-settings : goal.play_bench-played-requires-clause-settings
-play_bench-played-requires-clause-settings g c κs within = c.in_ok-player.ensures.settings ∙ ap exporter_settings c.in_ok-settings.ensures
-
-pub play_bench-played-requires-clause-asks : goal.play_bench-played-requires-clause-asks
-play_bench-played-requires-clause-asks g c κs within =
-    subst (λ settings. AsksFor settings default_agent c.in_ok-player.player) c.in_ok-settings.ensures
-    (subst (λ to. AsksFor (settings_of c.in_ok-settings.settings) to c.in_ok-player.player) c.default_agent-to.ensures c.in_ok-player.ensures.asks)
+pub play_bench-played-requires-clause-start : goal.play_bench-played-requires-clause-start
+play_bench-played-requires-clause-start g c κs within = c.in_ok-player.ensures ∙ (λ i. first_player (c.in_ok-settings.ensures i) (c.default_agent-to.ensures i))
 
 pub play_bench-played-requires-clause-aimed : goal.play_bench-played-requires-clause-aimed
 play_bench-played-requires-clause-aimed g c κs within = c.in_ok-aim.ensures.aimed ∙ ap Some c.default_agent-to.ensures
@@ -43,7 +36,6 @@ returns-in_err-player-clause-prefix g c = on_handed_on c.from_residual-in_err-pl
 pub returns-clause-reported : goal.returns-clause-reported
 returns-clause-reported g c =
     let report = c.report_of.result in
-    let P : FlushReport → FlushReport → Type 0
-    = λ before now. ForSomeFlushes bench_settings_text flush_start (bench_script c.args.count).rounds (λ flushes. Delivers bench_settings_text default_agent flushes keeps_none keeps_none before now) in
-    bench_report c.args.count report c.report_of.ensures.pages c.report_of.ensures.fits
-    (subst (P none_sent) (sym c.report_of.ensures.counts) (subst (λ before. P before c.play_bench-played.new.self.flushes.report) c.in_ok-player.ensures.none c.in_ok-played.ensures.sent))
+    let P : FlushReport → Type 0
+    = λ now. ForSomeFlushes bench_settings_text flush_start (bench_script c.args.count).rounds (λ flushes. Delivers bench_settings_text default_agent flushes keeps_none keeps_none none_sent now) in
+    bench_report c.args.count report c.report_of.ensures.pages c.report_of.ensures.fits (subst P (sym (c.report_of.ensures.counts ∙ c.end-report.ensures)) c.in_ok-played.ensures.sent)

@@ -1,4 +1,4 @@
-use Rattle.std.proofs.Common.{◌≡◌, ◌<◌, ℕ, List, Result, subst, ◌∙◌, length, arith}
+use Rattle.std.proofs.Common.{◌≡◌, ◌<◌, ℕ, Result, subst, ◌∙◌, length, arith}
 use Rattle.std.specs.Prelude.{IfOk, slice_index_or, vec_len}
 use Rattle.std.specs.Fork.{slice_chunk}
 use Rattle.std.specs.declared.vec.Vec.{Vec}

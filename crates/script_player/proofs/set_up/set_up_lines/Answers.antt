@@ -1,4 +1,4 @@
-use Rattle.std.proofs.Common.{rules, ◌≡◌, ◌∷◌, [], ◌++◌, ◌-◌, ◌∙◌, sym, ap, fold, map, arith}
+use Rattle.std.proofs.Common.{◌≡◌, ◌∷◌, [], ◌-◌, ◌∙◌, sym, ap, fold, map, arith}
 use Rattle.std.specs.Vec.Iter.{drain_items}
 use Rattle.std.proofs.lemmas.List.{take_all}
 use Rattle.drive_script.specs.Texts.{setup_of}

@@ -6,12 +6,12 @@ use Rattle.metrics_core.proofs.kinds.SeriesId.TheSendSync as ids
 use Rattle.drive_script.proofs.script.Setup.TheSendSync as setups
 use Rattle.script_player.proofs.guesses.Guesses.TheSendSync as guesses
 use Rattle.script_player.proofs.Crossing.{alloc-lent, closure-send, lines-lent}
-use Rattle.script_player.proofs.set_up.set_up_beside.Lts.{arg-0-1}
-use Rattle.script_player.proofs.set_up.set_up_beside.Goals as goal
+use Rattle.script_player.proofs.set_up.set_up_both.Lts.{arg-1-1}
+use Rattle.script_player.proofs.set_up.set_up_both.Goals as goal
 
-pub join_mut-first-requires-send-F : goal.join_mut-first-requires-send-F
-join_mut-first-requires-send-F g c κs within =
-    param_send 1 (arg-0-1 g.row.R g.R.laws g.R.Threads-dict g.R.Wait-dict κs) (arg_send _ no _ (closure-send _ (_ ∷ _ ∷ _ ∷ _ ∷ _ ∷ _ ∷ []) (
+pub join_if-first-requires-send-F : goal.join_if-first-requires-send-F
+join_if-first-requires-send-F g c κs within =
+    param_send 1 (arg-1-1 g.row.R g.R.laws g.R.Threads-dict g.R.Wait-dict κs) (arg_send _ no _ (closure-send _ (_ ∷ _ ∷ _ ∷ _ ∷ _ ∷ _ ∷ []) (
       shr_send _ _ _ c.type_bounds.sync-R,
       (
         alloc-lent _ _,
