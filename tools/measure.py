@@ -236,13 +236,11 @@ def rules(program, _names):
 
 
 def threads(program, _names):
-    print("| Counters before | In each of 8 threads | Pages beside | By passes of their own | Through the lock |\n|---|---|---|---|---|")
+    print("| Counters before | In each of 8 threads | Pages beside | Seconds |\n|---|---|---|---|")
     for before, each, pages_ in ((0, 25_000, 0), (100_000, 25_000, 0), (100_000, 25_000, 20)):
-        told = []
-        for way in ("turns", "lock"):
-            with written(()) as file:
-                told.append(least([program, way, *map(str, (before, each, pages_))], file)[0])
-        print("| %d | %d | %d | %.2f | %.2f |" % (before, each, pages_, *told), flush=True)
+        with written(()) as file:
+            seconds, _size = least([program, *map(str, (before, each, pages_))], file)
+        print("| %d | %d | %d | %.2f |" % (before, each, pages_, seconds), flush=True)
 
 
 MODES = {it.__name__: it for it in (times, instructions, series, costly, receive, rules, threads)}

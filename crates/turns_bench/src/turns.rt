@@ -136,7 +136,31 @@ fn take_all(recorder: &PrometheusRecorder, root: &mut SharedPass, mut turned: Ve
     all
 }
 
-/// Runs the tasks, and answers how many counters there are then.
+/// Runs the tasks on a recorder, and answers how many counters there are then.
+fn run_on<R: Threads + Wait + Sync>(
+    rt: &R,
+    alloc: Global,
+    recorder: &PrometheusRecorder,
+    root: &mut SharedPass,
+    before: u64,
+    each: u64,
+    pages: u64,
+) -> Result<usize>
+    requires pass { IsPass recorder.now root.old }
+    requires root { (view_of root.old).number ≡ 0 }
+    requires few { root.old.splits ≡ 1 }
+{
+    register(rt, alloc, recorder, root, 0, before)?;
+    let jobs = lend_all(alloc, recorder, root, before, each, pages)?;
+    let turned = all_beside(rt, recorder, jobs)?;
+    if !take_all(recorder, root, turned) {
+        bail!("no memory");
+    }
+    let page = recorder.shared().render(rt, alloc, root, 0)?;
+    Ok(counters_on(page.as_str()))
+}
+
+/// Runs the tasks on a new recorder. Here alone a recorder is dropped.
 pub fn run<R: Threads + Wait + Sync>(
     rt: &R,
     alloc: Global,
@@ -145,12 +169,5 @@ pub fn run<R: Threads + Wait + Sync>(
     pages: u64,
 ) -> Result<usize> {
     let (recorder, mut root) = PrometheusBuilder::new(alloc)?.build_recorder_seen(alloc)?;
-    register(rt, alloc, &recorder, &mut root, 0, before)?;
-    let jobs = lend_all(alloc, &recorder, &mut root, before, each, pages)?;
-    let turned = all_beside(rt, &recorder, jobs)?;
-    if !take_all(&recorder, &mut root, turned) {
-        bail!("no memory");
-    }
-    let page = recorder.shared().render(rt, alloc, &mut root, 0)?;
-    Ok(counters_on(page.as_str()))
+    run_on(rt, alloc, &recorder, &mut root, before, each, pages)
 }
