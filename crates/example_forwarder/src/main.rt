@@ -36,15 +36,21 @@ fn send<R: Wait + Print>(rt: &R, alloc: Global, forwarder: &mut Forwarder) -> Re
     Ok(())
 }
 
+/// The builder for an agent at this address.
+fn builder_for(alloc: Global, address: &Option<String>) -> Result<DogStatsDBuilder> {
+    let builder = DogStatsDBuilder::new(alloc)?;
+    match address {
+        Some(address) => Ok(builder.with_remote_address(alloc, address)?),
+        None => Ok(builder),
+    }
+}
+
 fn main(rt: HostRuntime) -> Result<()> {
     let alloc = rt.alloc();
+    let address = env::args(&rt)?.nth(1);
+    let builder = builder_for(alloc, &address)?;
     let cell = RecorderOnceCell::new(alloc);
     let mut note = cell.note();
-    let mut builder = DogStatsDBuilder::new(alloc)?;
-    let address = env::args(&rt)?.nth(1);
-    if let Some(address) = &address {
-        builder = builder.with_remote_address(alloc, address)?;
-    }
     let mut forwarder = builder.install(alloc, &cell, &mut note)?;
     if let Some(recorder) = cell.try_load(&mut note) {
         let more = || serve(&rt, alloc, recorder, 4);
