@@ -131,7 +131,7 @@ impl DogStatsDBuilder {
         }
     }
 
-    /// Sets how long a write may take. No timer of this crate acts on it.
+    /// Sets how long a write may take, in nanoseconds. Who makes a link asks for it.
     pub fn with_write_timeout(self, timeout: u64) -> DogStatsDBuilder
         ensures { result ≡ record self { write_timeout = timeout } }
     {
@@ -243,6 +243,13 @@ impl DogStatsDBuilder {
             Some(limit) => limit,
             None => self.remote_addr.default_max_payload_len(),
         }
+    }
+
+    /// How long a write may take, in nanoseconds: what was set, or 1 s.
+    pub fn get_write_timeout(&self) -> u64
+        ensures { result ≡ self.now.write_timeout }
+    {
+        self.write_timeout
     }
 
     /// How long to wait between two flushes: what was set, or 3 s, and 10 s in aggressive mode.

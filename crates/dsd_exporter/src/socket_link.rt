@@ -12,6 +12,7 @@ use std::io::{ErrorKind, Write};
 use std::marker::Model;
 use std::net::{IpAddr, Ipv4Addr, Ipv6Addr, Net, SocketAddr, UdpSocket};
 use std::os::unix::net::UnixStream;
+use std::time::Duration;
 
 /// A socket that is open to the address that a link is aimed at.
 #[derive(Drop)]
@@ -30,6 +31,7 @@ pub struct SocketLink<'a, R: Net> {
     runtime: &'a R,
     aimed: Option<RemoteAddr>,
     open: Option<Open>,
+    patience: Option<Duration>,
     faults: u64,
 }
 
@@ -52,11 +54,18 @@ fn any_source(to: &SocketAddr) -> SocketAddr {
     SocketAddr::new(source, 0)
 }
 
+/// A stream to the socket at a path, of which a write waits so long.
+fn connected<R: Net>(rt: &R, path: &str, patience: Option<Duration>) -> io::Result<UnixStream> {
+    let stream = UnixStream::connect(rt, path)?;
+    stream.set_write_timeout(patience)?;
+    Ok(stream)
+}
+
 /// A socket that sends to an address.
-fn opened<R: Net>(rt: &R, to: &RemoteAddr) -> io::Result<Open> {
+fn opened<R: Net>(rt: &R, to: &RemoteAddr, patience: Option<Duration>) -> io::Result<Open> {
     match to {
         RemoteAddr::Udp(socket) => Ok(Open::Udp(UdpSocket::bind(rt, any_source(socket))?)),
-        RemoteAddr::Unix(path) => Ok(Open::Unix(UnixStream::connect(rt, path.as_str())?)),
+        RemoteAddr::Unix(path) => Ok(Open::Unix(connected(rt, path.as_str(), patience)?)),
         RemoteAddr::Unixgram(_) => Err(io::Error::from(ErrorKind::Unsupported)),
     }
 }
@@ -86,6 +95,7 @@ fn send_whole<R: Net>(
     rt: &R,
     open: Option<Open>,
     to: &Option<RemoteAddr>,
+    patience: Option<Duration>,
     payload: &[u8],
 ) -> io::Result<Open> {
     let Some(to) = to else {
@@ -93,7 +103,7 @@ fn send_whole<R: Net>(
     };
     let mut open = match open {
         Some(open) => open,
-        None => opened(rt, to)?,
+        None => opened(rt, to, patience)?,
     };
     send_by(&mut open, to, payload)?;
     Ok(open)
@@ -108,8 +118,21 @@ impl<'a, R: Net> SocketLink<'a, R> {
             runtime: rt,
             aimed: None,
             open: None,
+            patience: None,
             faults: 0,
         }
+    }
+
+    /// Sets how long a write to a stream may wait, in nanoseconds; 0 sets no limit, as none is at first. A send that would wait
+    /// longer fails, and lets its socket go.
+    pub fn with_write_timeout(self, timeout: u64) -> SocketLink<'a, R>
+        ensures { result ≡ self.entry }
+    {
+        let patience = match timeout {
+            0 => None,
+            timeout => Some(Duration::from_nanos(timeout)),
+        };
+        SocketLink { patience, ..self }
     }
 
     /// How many sends failed; past 2^64 - 1 it is no longer counted.
@@ -146,7 +169,7 @@ impl<'a, R: Net> Link for SocketLink<'a, R> {
 
     fn send(&mut self, payload: &[u8]) -> Result<(), Failed> {
         let open = self.open.take();
-        match send_whole(self.runtime, open, &self.aimed, payload) {
+        match send_whole(self.runtime, open, &self.aimed, self.patience, payload) {
             Ok(open) => {
                 self.open = Some(open);
                 Ok(())

@@ -248,12 +248,19 @@ impl PrometheusBuilder {
         self
     }
 
-    /// Sets how often queues are to be drained, in nanoseconds. No timer of this crate acts on it.
+    /// Sets how often queues are to be drained, in nanoseconds. No timer of this crate acts on it; who runs a service asks for it.
     pub fn upkeep_timeout(mut self, timeout: u64) -> PrometheusBuilder
         ensures { result ≡ record self { upkeep_timeout = timeout } }
     {
         self.upkeep_timeout = timeout;
         self
+    }
+
+    /// How often queues are to be drained, in nanoseconds.
+    pub fn get_upkeep_timeout(&self) -> u64
+        ensures { result ≡ self.now.upkeep_timeout }
+    {
+        self.upkeep_timeout
     }
 
     /// Sets which kinds of series a page removes, and after how many nanoseconds without an update; none where there is no
