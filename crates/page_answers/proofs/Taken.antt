@@ -6,7 +6,7 @@ use Rattle.std.proofs.lemmas.List.{append-nil, take_at}
 use Rattle.page_answers.specs.Connections.{Told, Took}
 use Rattle.page_answers.specs.Readings.{WereRead, AreDecided, CallForMore, with_read}
 
--- these bytes were read of a connection, and before the last read so few that called for more
+-- these bytes were read of a connection, and those before the last read, if one was made, were few and called for more
 pub record WereTaken (before : Told) (after : Option Told) (bytes : List ℕ) : Type 0 where
   pub earlier : List ℕ
   pub left : List ℕ

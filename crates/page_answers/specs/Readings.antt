@@ -23,7 +23,7 @@ pub record EndsReading (earlier bytes left : List ℕ) : Type 0 where
   pub had_room : length earlier < 65536
   pub ends : AreDecided bytes ⊎ ((length bytes ≡ 65536) ⊎ (left ≡ []))
 
--- these bytes were read on, and those of them that stand first before the last read
+-- these bytes were read on, of them `earlier` before the last read
 abbrev pub with_read : Told → List ℕ → List ℕ → List ℕ → Told
 with_read told earlier bytes left = record told { earlier = told.taken ++ earlier; taken = told.taken ++ bytes; left = left }
 
