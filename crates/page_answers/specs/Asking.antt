@@ -19,5 +19,5 @@ IsAllowed (Some networks) (Some address) = Any (λ network. Holds network addres
 pub record IsAnswered (networks : Option (List NetworkText)) (page : List ℕ) (who : Option IpAddr) (told : Told) : Type 0 where
   pub allowed : Bool
   pub is_allowed : IsTrue allowed ↔ IsAllowed networks who
-  pub ends : EndsReading told.taken told.left
+  pub ends : EndsReading told.earlier told.taken told.left
   pub answer : IsAnswer allowed told.taken page told.written

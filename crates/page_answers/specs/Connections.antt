@@ -3,8 +3,9 @@ use Rattle.std.specs.Prelude.{◌≡◌, ℕ, ◌+◌, ◌%◌, ◌^◌, ◌<◌
 use Rattle.std.specs.declared.net.ip_addr.IpAddr.{IpAddr}
 use Rattle.metrics_core.specs.Outside.{Rose}
 
--- what a connection tells: the bytes read of it so far, those still to come, and those written to it
+-- what a connection tells: the bytes read of it before its last read, those read so far, those still to come, and those written to it
 pub record Told : Type 0 where
+  pub earlier : List ℕ
   pub taken : List ℕ
   pub left : List ℕ
   pub written : List ℕ
@@ -15,9 +16,9 @@ pub record Ended : Type 0 where
   pub told : Told
   pub faults : ℕ
 
--- these bytes were read on
+-- these bytes were read on, by one read
 abbrev pub with_taken : Told → List ℕ → List ℕ → Told
-with_taken told bytes left = record told { taken = told.taken ++ bytes; left = left }
+with_taken told bytes left = record told { earlier = told.taken; taken = told.taken ++ bytes; left = left }
 
 -- these bytes were written on
 abbrev pub with_written : Told → List ℕ → Told

@@ -12,7 +12,8 @@ pub trait Conn {
     /// The peer's address, where it is known.
     ghost who: { Self → Option IpAddr };
 
-    /// The bytes read of the connection, those still to come and those written to it, where it tells them.
+    /// The bytes read of the connection, those read before its last read, those still to come and those written to it, where it
+    /// tells them.
     ghost told: { Self → Option Told };
 
     /// How often the connection has failed, in either direction. The count never falls.

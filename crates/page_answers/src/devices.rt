@@ -19,6 +19,7 @@ use std::net::{IpAddr, Net, TcpListener, TcpStream};
 pub struct Exchange {
     peer: Option<IpAddr>,
     bytes: Vec<u8>,
+    earlier: usize,
     at: usize,
     most: usize,
     reads: FailingCalls,
@@ -34,6 +35,7 @@ impl Model for Exchange {
     ghost view = { λ exchange. record {
       who = exchange.peer;
       told = record {
+        earlier = take exchange.earlier exchange.bytes.items;
         taken = take exchange.at exchange.bytes.items;
         left = drop exchange.at exchange.bytes.items;
         written = exchange.sink.written;
@@ -61,6 +63,7 @@ impl Exchange {
         requires { 0 < most }
         ensures who { result.who ≡ peer }
         ensures told { result.told ≡ record {
+          earlier = [];
           taken = [];
           left = bytes.items;
           written = sink.written;
@@ -73,6 +76,7 @@ impl Exchange {
         Exchange {
             peer,
             bytes,
+            earlier: 0,
             at: 0,
             most,
             reads: FailingCalls::new(failing),
@@ -138,6 +142,7 @@ impl Conn for Exchange {
             return Err(Failed);
         }
         let count = copy_prefix(&self.bytes[self.at..], self.most, buf);
+        self.earlier = self.at;
         self.at += count;
         Ok(count)
     }

@@ -1,10 +1,9 @@
 //! The reading of a head.
 
 ghost use Rattle.std.specs.Prelude.{◌≡◌, ℕ, ◌≤◌, ◌⊎◌, length, take, MatchBool, IsSome, IfSome, IfOk, OnErr, OnOk};
-ghost use Rattle.httparse.specs.Grammar.{HasNoRequest};
 ghost use Rattle.httparse.specs.Spans.{RequestExceeds};
 ghost use Rattle.page_answers.specs.Connections.{CountsFaults};
-ghost use Rattle.page_answers.specs.Readings.{AreDecided, WereRead};
+ghost use Rattle.page_answers.specs.Readings.{AreDecided, CallForMore, WereRead};
 
 use crate::Conn;
 use httparse::spans::{EMPTY_HEADER_SPAN, HeaderSpan, parse_request};
@@ -19,9 +18,10 @@ const MOST_BYTES: usize = 65_536;
 /// More fields than so many bytes hold.
 const MOST_FIELDS: usize = 32_768;
 
-/// Whether some bytes begin with a complete head, or never will. Where there is no room for its fields that isn't known.
+/// Whether some bytes begin with a complete head, or never will; where they don't, they call for more. Where there is no room for its
+/// fields that isn't known.
 fn are_decided(bytes: &[u8], fields: &mut [HeaderSpan]) -> bool
-    ensures { MatchBool result (AreDecided bytes.now) (HasNoRequest bytes.now
+    ensures { MatchBool result (AreDecided bytes.now) (CallForMore bytes.now
         ⊎ RequestExceeds (length fields.old) bytes.now) }
 {
     match parse_request(bytes, fields) {
@@ -32,7 +32,8 @@ fn are_decided(bytes: &[u8], fields: &mut [HeaderSpan]) -> bool
 }
 
 /// Reads a head to the front of a buffer of 65,536 bytes, and answers how many bytes were read. The reading ends as soon as
-/// the bytes begin with a complete head, or never will, or the buffer is full, or the input ends.
+/// the bytes begin with a complete head, or never will, or the buffer is full, or the input ends: nothing is read of a peer while
+/// it waits for its answer.
 ///
 /// A peer may send any number of bytes and then wait for the answer, so the bytes are looked at after each read. A read takes
 /// all that has come, so a head that comes at once is looked at once; one that comes in pieces is looked at once a piece.
@@ -41,7 +42,8 @@ fn read_head<C: Conn>(
     bytes: &mut [u8],
     fields: &mut [HeaderSpan],
 ) -> Result<usize, Failed>
-    requires { length bytes.old ≡ 65536 }
+    requires room { length bytes.old ≡ 65536 }
+    requires fields { length fields.old ≡ 32768 }
     ensures bound { IfOk result (λ n. n ≤ length bytes.old) }
     ensures read { IfSome (C.told conn.old)
         (λ before. IfOk result (λ n. WereRead before (C.told conn.new) (take n bytes.new))) }
@@ -77,7 +79,8 @@ impl Model for HeadRoom {
 
     ghost view = { λ room. room.bytes.items };
 
-    ghost invariant = { λ room. length room.bytes.items ≡ 65536 };
+    ghost invariant = { λ room. (length room.bytes.items ≡ 65536)
+        × (length room.fields.items ≡ 32768) };
 }
 
 impl HeadRoom {

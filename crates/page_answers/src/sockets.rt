@@ -1,7 +1,10 @@
 //! The listener and the connections of the program's real edge: TCP, with counts of their failures, and with limits on how long a
 //! peer may take. They tell nothing of what is read and written.
 
-ghost use Rattle.std.specs.Prelude.{◌≡◌, ◌≤◌, length, Some, None, IfOk};
+ghost use Rattle.std.specs.Prelude.{◌≡◌, ◌≤◌, length, Some, None, IsSome, IfOk, OnErr, OnOk};
+ghost use Rattle.metrics_core.specs.Outside.{Rose};
+ghost use Rattle.page_answers.specs.Connections.{CountedOn, CountsGiven, IsNew, losses};
+ghost use Rattle.page_answers.specs.Sockets.{StaysBound};
 
 use crate::{Conn, Listener};
 use metrics_core::Failed;
@@ -117,8 +120,8 @@ impl<'a, R: Clock> Conn for SocketConn<'a, R> {
 }
 
 /// A TCP listener, which binds its address at its first `accept`. A peer of its connections that sends or takes nothing for five
-/// seconds fails, as does one whose head takes ten seconds in all, or whose connection takes a minute. A contract sees it as its
-/// counts.
+/// seconds fails, as does one whose head takes ten seconds in all, or whose connection takes a minute. A contract sees it as
+/// its counts and the system's listener that it holds.
 #[derive(Drop)]
 pub struct SocketListener<'a, R: Clock> {
     clock: &'a R,
@@ -130,11 +133,12 @@ pub struct SocketListener<'a, R: Clock> {
 }
 
 impl<'a, R: Clock> Model for SocketListener<'a, R> {
-    ghost use Rattle.page_answers.specs.Sockets.{CountsText};
+    ghost use Rattle.page_answers.specs.Sockets.{PortText};
 
-    ghost Value = { CountsText };
+    ghost Value = { PortText };
 
     ghost view = { λ listener. record {
+      bound = listener.bound;
       faults = listener.faults;
       given = listener.given;
       lost = listener.lost;
@@ -146,7 +150,10 @@ fn next_stream<R: Net<Listener = TcpListener, Stream = TcpStream>>(
     rt: &R,
     address: SocketAddr,
     bound: &mut Option<TcpListener>,
-) -> io::Result<(TcpStream, SocketAddr)> {
+) -> io::Result<(TcpStream, SocketAddr)>
+    ensures stays { StaysBound bound.old bound.new }
+    ensures is_bound { OnOk result (IsSome bound.new) }
+{
     let listener = match bound.take() {
         Some(listener) => listener,
         None => TcpListener::bind(rt, address)?,
@@ -170,7 +177,7 @@ fn accept_one(listener: &TcpListener) -> io::Result<(TcpStream, SocketAddr)> {
 impl<'a, R: Clock> SocketListener<'a, R> {
     /// The listener at this address, which is not bound yet.
     pub fn new(clock: &'a R, address: SocketAddr) -> SocketListener<'a, R>
-        ensures { result ≡ record { faults = 0; given = 0; lost = 0 } }
+        ensures { result ≡ record { bound = None; faults = 0; given = 0; lost = 0 } }
     {
         SocketListener {
             clock,
@@ -189,7 +196,9 @@ impl<'a, R: Clock> SocketListener<'a, R> {
         clock: &'a R,
         address: SocketAddr,
     ) -> io::Result<SocketListener<'a, R>>
-        ensures { IfOk result (λ listener. listener ≡ record { faults = 0; given = 0; lost = 0 }) }
+        ensures bound { IfOk result (λ listener. IsSome listener.bound) }
+        ensures counts { IfOk result (λ listener. listener
+            ≡ record { bound = listener.bound; faults = 0; given = 0; lost = 0 }) }
     {
         SocketListener::over(clock, TcpListener::bind(rt, address)?)
     }
@@ -201,7 +210,8 @@ impl<'a, R: Clock> SocketListener<'a, R> {
 
     /// The listener over one of the system's that is bound already.
     pub fn over(clock: &'a R, bound: TcpListener) -> io::Result<SocketListener<'a, R>>
-        ensures { IfOk result (λ listener. listener ≡ record { faults = 0; given = 0; lost = 0 }) }
+        ensures { IfOk result (λ listener. listener
+            ≡ record { bound = Some bound; faults = 0; given = 0; lost = 0 }) }
     {
         Ok(SocketListener {
             clock,
@@ -219,7 +229,9 @@ impl<'a, R: Clock> SocketListener<'a, R> {
         rt: &N,
     ) -> io::Result<SocketConn<'a, R>>
         ensures fresh { IfOk result (λ conn. conn.faults ≡ 0) }
-        ensures same { self.new ≡ self.old }
+        ensures stays { StaysBound self.old.bound self.new.bound }
+        ensures is_bound { OnOk result (IsSome self.new.bound) }
+        ensures same { self.new ≡ record self.old { bound = self.new.bound } }
     {
         let (stream, peer) = next_stream(rt, self.address, &mut self.bound)?;
         SocketConn::new(self.clock, stream, peer.ip())
@@ -237,10 +249,19 @@ impl<'a, R: Clock> Listener for SocketListener<'a, R> {
 
     ghost finished = { λ _. None };
 
+    /// Binds the address where that was not done yet. What is bound stays bound, and a connection comes only of what is bound.
     fn accept<N: Net<Listener = TcpListener, Stream = TcpStream>>(
         &mut self,
         rt: &N,
-    ) -> Result<SocketConn<'a, R>, Failed> {
+    ) -> Result<SocketConn<'a, R>, Failed>
+        ensures fresh { IfOk result (λ conn. IsNew None None conn.faults) }
+        ensures given { CountsGiven result self.old.given self.new.given }
+        ensures lost { self.new.lost ≡ self.old.lost }
+        ensures cause { OnErr result (Rose self.old.faults self.new.faults) }
+        ensures never_falls { self.old.faults ≤ self.new.faults }
+        ensures stays { StaysBound self.old.bound self.new.bound }
+        ensures is_bound { OnOk result (IsSome self.new.bound) }
+    {
         match self.next_conn(rt) {
             Ok(conn) => {
                 self.given = self.given.wrapping_add(1);
@@ -253,7 +274,10 @@ impl<'a, R: Clock> Listener for SocketListener<'a, R> {
         }
     }
 
-    fn done(&mut self, conn: SocketConn<'a, R>) {
+    fn done(&mut self, conn: SocketConn<'a, R>)
+        ensures lost { CountedOn self.old.lost self.new.lost (losses conn.entry.faults) }
+        ensures others { self.new ≡ record self.old { lost = self.new.lost } }
+    {
         if conn.faults > 0 {
             self.lost = self.lost.wrapping_add(1);
         }

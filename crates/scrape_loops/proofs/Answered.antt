@@ -11,16 +11,16 @@ use Rattle.page_answers.specs.Answers.{IsAnswer}
 use Rattle.page_answers.specs.Asked.{asked_text}
 use Rattle.page_answers.specs.Asking.{IsAllowed, IsAnswered}
 use Rattle.page_answers.specs.declared.answers.Asked.{Asked}
-use Rattle.page_answers.specs.Connections.{Told, Ended, CountedOn, IsFresh, Wrote, with_taken, with_written}
-use Rattle.page_answers.specs.Readings.{WereRead}
+use Rattle.page_answers.specs.Connections.{Told, Ended, CountedOn, IsFresh, Wrote, with_written}
+use Rattle.page_answers.specs.Readings.{WereRead, with_read}
 use Rattle.scrape_loops.specs.Serving.{IsAnsweredBy, IsAnsweredFirst}
 
 module _ {S : Type 0} (shows : S → ℕ → List ℕ → S → Type 0) (networks : Option (List NetworkText)) (moment : ℕ) (old new : S) (who : Option IpAddr) (middle after : Option Told) (allowed : Bool)
     (head answer : List ℕ) where
   -- what is told of a new connection whose head was read and whose answer was written
-  first_told : (before : Told) (left : List ℕ) → IsFresh before
-      → (let told : Told = record { taken = head; left = left; written = answer } in with_written (with_taken before head left) answer ≡ told)
-  first_told before left fresh = rw (fresh.0, fresh.1) refl
+  first_told : (before : Told) (earlier left : List ℕ) → IsFresh before
+      → (let told : Told = record { earlier = earlier; taken = head; left = left; written = answer } in with_written (with_read before earlier head left) answer ≡ told)
+  first_told before earlier left fresh = rw (fresh.0, fresh.1) refl
 
   -- the answer is one by the page that was shown, or one whatever the page is
   abbrev Answered : Type 0
@@ -35,9 +35,9 @@ module _ {S : Type 0} (shows : S → ℕ → List ℕ → S → Type 0) (network
   answered_first None is_allowed answers read wrote = tt
   answered_first (Some before) is_allowed answers read wrote = λ fresh.
       let written = subst (λ (o : Option Told). Wrote o after answer) read.told wrote in
-      let told : Told = record { taken = head; left = read.left; written = answer } in (
+      let told : Told = record { earlier = read.earlier; taken = head; left = read.left; written = answer } in (
         told,
-        written ∙ ap Some (first_told before read.left fresh),
+        written ∙ ap Some (first_told before read.earlier read.left fresh),
         answered_either told (λ page is_answer. record { allowed = allowed; is_allowed = is_allowed; ends = read.ends; answer = is_answer }) answers,
       )
 
