@@ -1,5 +1,5 @@
 -- What the exporters hear of a call on a metric of a service, and what is new of a metric that was registered.
-use Rattle.std.specs.Prelude.{◌≡◌, ◌⊎◌, ℕ, ℤ, List, [], Option, Some, None, Result, Ok, Err}
+use Rattle.std.specs.Prelude.{◌≡◌, ◌⊎◌, ℕ, [], Option, Some, None, Result, Ok, Err}
 use Rattle.legal_history.specs.declared.history.View.{View}
 use Rattle.legal_history.specs.History.{child}
 use Rattle.metrics_core.specs.Calls.{Call, Add, Subtract, Set, Record}

@@ -1,0 +1,6 @@
+use Rattle.std.proofs.Common.{ap}
+use Rattle.service_metrics.proofs.Parts.{is_part, uncalled_histogram}
+use Rattle.service_metrics.proofs.metrics.Metrics.paged_histogram.Goals as goal
+
+pub returns : goal.returns
+returns g c = is_part _ _ (ap (λ metrics. metrics.pages) c.self.view_is) c.in-Some.is (uncalled_histogram c.in_ok-lent.lent c.into_handle.result c.in_ok-lent.ensures.answer c.into_handle.ensures)
