@@ -1,47 +1,61 @@
-//! A service with metrics: eight workers answer requests side by side and count them, and the page says what they did.
+//! A service with its metrics: eight workers answer requests side by side, while the page is served over HTTP and counts go to an agent.
+//! It takes how many seconds it is to run, and the address of its page; then it prints what was counted.
 #![tactic(auto)]
 
 use anyhow::Result;
-use metrics_core::{Fixed, Key, Level, Metadata};
-use metrics_facade::Recorder;
+use dsd_exporter::{DogStatsDBuilder, SocketLink};
+use metrics_core::Fixed;
 use prom_exporter::PrometheusBuilder;
-use prom_recorder::{BuildRecorder, IntoHandle, PrometheusRecorder};
+use service_exporters::{open_flushes, open_pages, run_exporters};
+use service_metrics::Metrics;
 use std::alloc::Global;
 use std::sync::Wait;
-use std::thread;
-use std::time::{Clock, Duration, SystemTime, UNIX_EPOCH};
+use std::time::{Clock, Duration, Instant, SystemTime, UNIX_EPOCH};
+use std::{env, thread};
 
-/// The moment, in nanoseconds since 1970. Samples and pages have theirs by the same clock.
-fn moment<R: Clock>(rt: &R) -> Result<u64> {
-    let since = SystemTime::now(rt)?.duration_since(UNIX_EPOCH)?;
-    Ok(u64::try_from(since.as_nanos())?)
-}
-
-/// Answers a hundred requests, and counts them.
-fn work<R: Wait + Clock>(rt: &R, alloc: Global, recorder: &PrometheusRecorder) -> Result<()> {
-    let about = Metadata::new("example_service", Level::Info, None);
-    let requests = Key::from_static_name("requests_total");
-    let seconds = Key::from_static_name("request_seconds");
-    let requests = recorder.register_counter(rt, alloc, &requests, &about)?;
-    let seconds = recorder.register_histogram(rt, alloc, &seconds, &about)?;
-    let (mut requests, mut seconds) = (requests.into_handle(), seconds.into_handle());
-    for request in 0..100 {
-        let took = Duration::from_millis(request % 4 * 100);
-        seconds.record(rt, alloc, took, moment(rt)?)?;
+/// Answers requests for so long, at least a hundred, and counts them.
+fn work<R: Wait + Clock>(rt: &R, metrics: &Metrics<'_, R>, length: Duration) -> Result<u64> {
+    let mut requests = metrics.counter("requests_total", &[("path", "/")])?;
+    let mut seconds = metrics.histogram("request_seconds", &[])?;
+    let begun = Instant::now(rt)?;
+    for answered in 0..u64::MAX {
+        if answered >= 100 && begun.elapsed(rt)? >= length {
+            return Ok(answered);
+        }
+        let started = seconds.start()?;
+        thread::sleep(rt, Duration::from_millis(1));
+        seconds.stop(started)?;
         requests.increment(1);
     }
-    Ok(())
+    Ok(u64::MAX)
+}
+
+/// What an exporter of pages is built with: its address, or any free port of this host.
+fn page_builder(alloc: Global, address: Option<String>) -> Result<PrometheusBuilder> {
+    let address = address.as_deref().unwrap_or("127.0.0.1:0").parse()?;
+    let builder = PrometheusBuilder::new(alloc)?.with_http_listener(address);
+    Ok(builder.set_buckets(alloc, &[Fixed(10_000_000), Fixed(100_000_000)])?)
+}
+
+/// Seconds in words; none are 0.
+fn seconds_of(word: Option<String>) -> Result<Duration> {
+    Ok(Duration::from_secs(word.as_deref().unwrap_or("0").parse()?))
 }
 
 fn main(rt: HostRuntime) -> Result<()> {
     let alloc = rt.alloc();
-    let builder = PrometheusBuilder::new(alloc)?;
-    let bounds = [Fixed(100_000_000), Fixed(250_000_000)];
-    let recorder = builder.set_buckets(alloc, &bounds)?.build_recorder(alloc)?;
-    let handle = recorder.handle()?;
-    for outcome in thread::map_indices(&rt, alloc, 8, &|_| work(&rt, alloc, &recorder))? {
-        outcome?;
+    let mut words = env::args(&rt)?;
+    let length = seconds_of(words.nth(1))?;
+    let (recorder, pages) = open_pages(&rt, alloc, page_builder(alloc, words.next())?)?;
+    let agent = DogStatsDBuilder::new(alloc)?;
+    let link = SocketLink::new(&rt).with_write_timeout(agent.get_write_timeout());
+    let (sender, flushes) = open_flushes(alloc, agent, link)?;
+    let metrics = Metrics::new(&rt, alloc, Some(&recorder), Some(&sender));
+    let ended = run_exporters(&rt, alloc, Some(pages), Some(flushes), || {
+        thread::map_indices(&rt, alloc, 8, &|_| work(&rt, &metrics, length))
+    })?;
+    for answered in ended.out? {
+        print!(rt; "answered {}\n", answered?)?;
     }
-    print!(rt; "{}", handle.render(&rt, alloc, moment(&rt)?)?)?;
     Ok(())
 }

@@ -3,8 +3,9 @@
 //!
 //! Both exporters, each from its builder, and the service's own work:
 //!
-//!     let (recorder, pages) = open_pages(rt, alloc, builder, step)?;
-//!     let (sender, flushes) = open_flushes(alloc, agent_builder, SocketLink::new(rt))?;
+//!     let (recorder, pages) = open_pages(rt, alloc, builder)?;
+//!     let link = SocketLink::new(rt).with_write_timeout(agent_builder.get_write_timeout());
+//!     let (sender, flushes) = open_flushes(alloc, agent_builder, link)?;
 //!     let ended = run_exporters(rt, alloc, Some(pages), Some(flushes), || work(rt, &recorder))?;
 #![tactic(auto)]
 

@@ -65,16 +65,16 @@ fn copied(alloc: Global, networks: Option<&[Network]>) -> Result<Option<Vec<Netw
     }
 }
 
-/// A recorder, and the exporter that shows its pages at the address and to the networks that the builder was given. An address that
-/// can't be bound, as one that is taken, is refused with its cause.
+/// A recorder, and the exporter that shows its pages at the address and to the networks that the builder was given, and drains its queues
+/// as often as the builder says. An address that can't be bound, as one that is taken, is refused with its cause.
 pub fn open_pages<R: Net<Listener = TcpListener, Stream = TcpStream>>(
     rt: &R,
     alloc: Global,
     builder: PrometheusBuilder,
-    upkeep_step: Duration,
 ) -> Result<(PrometheusRecorder, PageExporter), OpenError> {
     let listener = bind(rt, builder.destination())?;
     let networks = copied(alloc, builder.allowed())?;
+    let upkeep_step = Duration::from_nanos(builder.get_upkeep_timeout());
     let (recorder, mut root) = builder.build_recorder_seen(alloc)?;
     let pages = lend_pages(alloc, &recorder, &mut root, LANES)?;
     let upkeep = RecorderUpkeep::new(alloc, &recorder, root)?;

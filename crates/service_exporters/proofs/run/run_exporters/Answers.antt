@@ -21,3 +21,9 @@ run_service-requires-2-send-K g c κs within = search (sendable, crosses, upkeep
 
 pub run_service-requires-2-send-F : goal.run_service-requires-2-send-F
 run_service-requires-2-send-F g c κs within = param_send 3 _ (arg_send _ no _ (flushes-send _ c.type_bounds.send-L))
+
+pub returns-in_default-clause-flushes : goal.returns-in_default-clause-flushes
+returns-in_default-clause-flushes g c = rw (← c.flushes_of-flushes.ensures) c.run_service.ensures.flushes
+
+pub returns-clause-flushes : goal.returns-clause-flushes
+returns-clause-flushes g c = rw (← c.flushes_of-flushes.ensures) c.run_service-2.ensures.flushes
