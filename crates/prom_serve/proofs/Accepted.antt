@@ -20,7 +20,7 @@ use Rattle.page_answers.specs.Connections.{Ended, Told, IsFresh, CountedOn}
 use Rattle.prom_serve.specs.Refusals.{excepted}
 use Rattle.prom_serve.specs.declared.errors.ServeError.{ServeError}
 use Rattle.prom_serve.specs.declared.errors.ServeError.TheVariants.{FailedToCreateHTTPListener, Memory}
-use Rattle.prom_serve.specs.Serving.{MayRender, StaysHome, Renders, IsAnsweredBy, IsAnsweredFirst, IsRendered, IsServed, IsShown, Listening, Accepts, AcceptsOne, ShowsPage}
+use Rattle.prom_serve.specs.Serving.{MayRender, StaysHome, Renders, IsAnsweredBy, IsAnsweredFirst, IsRendered, IsServed, IsShown, Listening, Accepts, AcceptsOne, AcceptsNone, ShowsPage}
 
 -- ---- counts
 
@@ -199,17 +199,17 @@ module _ (networks : Option (List NetworkText)) (moment : ℕ) where
       }
 
       -- none was accepted, and nothing changed
-      pub same_next : Accepts networks moment n 0 start old first now → new ≡ old → after.given ≡ now.given → after.finished ≡ now.finished → Accepts networks moment n 0 start new first after
-      same_next some is_exporter is_given is_finished = record {
-        given = rw is_given some.given;
-        renders = rw is_exporter some.renders;
-        finished = rw is_finished some.finished;
+      pub same_next : Accepts networks moment n 0 start old first now → AcceptsNone old new now after → Accepts networks moment n 0 start new first after
+      same_next some none = record {
+        given = rw none.given some.given;
+        renders = rw none.state some.renders;
+        finished = rw none.finished some.finished;
       }
 
       -- where the next one was refused
       pub refused_by : (error : ServeError) (count : ℕ) → n < count → Accepts networks moment n 0 start old first now
           → (error ≡ Memory → AcceptsOne networks moment false old new now after)
-          → (error ≡ FailedToCreateHTTPListener → new ≡ old) → (error ≡ FailedToCreateHTTPListener → after.given ≡ now.given) → (error ≡ FailedToCreateHTTPListener → after.finished ≡ now.finished)
+          → (error ≡ FailedToCreateHTTPListener → AcceptsNone old new now after)
           → (accepted : ℕ) × (accepted ≤ count) × Accepts networks moment accepted (excepted error) start new first after
-      refused_by FailedToCreateHTTPListener count room some memory is_exporter is_given is_finished = (n, omega (arith, room), same_next some (is_exporter refl) (is_given refl) (is_finished refl))
-      refused_by Memory count room some memory is_exporter is_given is_finished = (n + 1, omega (arith, room), refused_next some (memory refl))
+      refused_by FailedToCreateHTTPListener count room some memory failed = (n, omega (arith, room), same_next some (failed refl))
+      refused_by Memory count room some memory failed = (n + 1, omega (arith, room), refused_next some (memory refl))

@@ -81,6 +81,15 @@ pub record AcceptsOne (networks : Option (List NetworkText)) (moment : ℕ) (was
       (ended : Ended) × (new.finished ≡ Some (before ++ ended ∷ []))
       × (IsTrue was_served → ended.faults ≡ 0 → IsAnsweredBy networks moment exporter_old exporter_new ended.who ended.told))
 
+-- no connection was accepted
+pub record AcceptsNone (exporter_old exporter_new : Exporter) (old new : Listening) : Type 0 where
+  -- the exporter is as it was
+  pub state : exporter_new ≡ exporter_old
+  -- no connection was given
+  pub given : new.given ≡ old.given
+  -- and none was given back
+  pub finished : new.finished ≡ old.finished
+
 -- Where no pass is out, each peer that was served saw the page of the exporter as it was.
 abbrev pub ShowsPage : Option (List NetworkText) → ℕ → ℕ → ℕ → Exporter → Option (List Ended) → Option (List Ended) → Type 0
 ShowsPage networks moment accepted last exporter old new =

@@ -6,7 +6,7 @@ ghost use Rattle.prom_exporter.specs.Exporter.{AllHome};
 ghost use Rattle.page_answers.specs.Asked.{asked_text};
 ghost use Rattle.page_answers.specs.Connections.{CountedOn};
 ghost use Rattle.prom_serve.specs.Refusals.{excepted};
-ghost use Rattle.prom_serve.specs.Serving.{IsRendered, IsPageAt, MayRender, StaysHome, ShowsPage, ShowsPageInPart, IsAnsweredFirst, Accepts, AcceptsOne};
+ghost use Rattle.prom_serve.specs.Serving.{IsRendered, IsPageAt, MayRender, StaysHome, ShowsPage, ShowsPageInPart, IsAnsweredFirst, Accepts, AcceptsOne, AcceptsNone};
 ghost use Rattle.prom_serve.specs.declared.serving.GivenUp.TheVariants as given_up;
 
 use crate::ServeError;
@@ -134,11 +134,10 @@ fn serve_next<R: Net<Listener = TcpListener, Stream = TcpStream> + Wait, N: List
         → AcceptsOne (option_copied allowed.entry) moment false state.old state.new
         (record { given = N.given listener.old; finished = N.finished listener.old })
         (record { given = N.given listener.new; finished = N.finished listener.new }) }
-    ensures state { result ≡ Err ServeError.FailedToCreateHTTPListener → state.new ≡ state.old }
-    ensures given { result ≡ Err ServeError.FailedToCreateHTTPListener
-        → N.given listener.new ≡ N.given listener.old }
-    ensures finished { result ≡ Err ServeError.FailedToCreateHTTPListener
-        → N.finished listener.new ≡ N.finished listener.old }
+    ensures refused { result ≡ Err ServeError.FailedToCreateHTTPListener
+        → AcceptsNone state.old state.new
+        (record { given = N.given listener.old; finished = N.finished listener.old })
+        (record { given = N.given listener.new; finished = N.finished listener.new }) }
     ensures cause { result ≡ Err ServeError.FailedToCreateHTTPListener
         → Rose (N.faults listener.old) (N.faults listener.new) }
     ensures never_falls { N.faults listener.old ≤ N.faults listener.new }

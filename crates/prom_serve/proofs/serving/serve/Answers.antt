@@ -43,13 +43,13 @@ returns-in_err-has_failed-clause-refused g c =
     at_err _ _ c.from_residual-in_err-has_failed.result c.from_residual-in_err-has_failed.ensures.1 (λ error is.
     let same : error ≡ c.in_err-has_failed.field-0.0 = is in
     rw same (refused_by _ _ _ _ _ _ _ _ _ c.in_err-has_failed.field-0.0 c.args.count c.loop-accepted-test.true c.loop-accepted.invariant.served
-    (λ is. next.memory (ap Err is)) (λ is. next.state (ap Err is)) (λ is. next.given (ap Err is)) (λ is. next.finished (ap Err is))))
+    (λ is. next.memory (ap Err is)) (λ is. next.refused (ap Err is))))
 
 pub returns-in_err-has_failed-clause-home : goal.returns-in_err-has_failed-clause-home
 returns-in_err-has_failed-clause-home g c home =
     let next = c.in_err-has_failed.ensures in
     let refused = refused_by _ _ _ _ _ _ _ _ _ c.in_err-has_failed.field-0.0 c.args.count c.loop-accepted-test.true c.loop-accepted.invariant.served
-    (λ is. next.memory (ap Err is)) (λ is. next.state (ap Err is)) (λ is. next.given (ap Err is)) (λ is. next.finished (ap Err is)) in
+    (λ is. next.memory (ap Err is)) (λ is. next.refused (ap Err is)) in
     renders_home c.args.moment refused.0 c.args.state.now c.serve_next.new.state home refused.2.renders
 
 pub returns-clause-home : goal.returns-clause-home
@@ -80,5 +80,5 @@ returns-in_err-has_failed-clause-pages_in_part g c =
     at_err _ _ c.from_residual-in_err-has_failed.result c.from_residual-in_err-has_failed.ensures.1 (λ error is.
     let same : error ≡ c.in_err-has_failed.field-0.0 = is in
     let refused = refused_by _ _ _ _ _ _ _ _ _ c.in_err-has_failed.field-0.0 c.args.count c.loop-accepted-test.true c.loop-accepted.invariant.served
-    (λ is. next.memory (ap Err is)) (λ is. next.state (ap Err is)) (λ is. next.given (ap Err is)) (λ is. next.finished (ap Err is)) in
+    (λ is. next.memory (ap Err is)) (λ is. next.refused (ap Err is)) in
     rw same (refused.0, refused.1, refused.2.given, shows_page _ _ _ _ _ _ _ _ refused.2))
