@@ -142,7 +142,7 @@ returns-clause-served g c =
     script_served (g.S.Source.left c.args.source.now) (script_of c.in_ok-script.script) c.args.networks.now c.args.count _ _ c.in_ok-script.ensures.read allowed c.in_ok-served.ensures.served
 
 pub returns-clause-counted : goal.returns-clause-counted
-returns-clause-counted g c = record { total = c.in_ok-served.ensures.total; lost = c.in_ok-served.ensures.lost }
+returns-clause-counted g c = record { total = c.in_ok-served.ensures.counted.total; lost = c.in_ok-served.ensures.counted.lost }
 
 pub returns-clause-given : goal.returns-clause-given
 returns-clause-given g c = c.in_ok-served.ensures.served.2.given
