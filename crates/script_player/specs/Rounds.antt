@@ -19,6 +19,7 @@ use Rattle.script_player.specs.Player.{PlayerText}
 use Rattle.script_player.specs.Resting.{AllRest}
 use Rattle.script_player.specs.Sent.{Delivers, IsReady, IsWritten, LinkTold}
 use Rattle.script_player.specs.Timely.{IsTimelyState}
+use Rattle.script_player.specs.declared.flushes.Flushes.{Flushes}
 
 -- ---- rounds
 
@@ -98,3 +99,19 @@ pub record IsFlushed (moment : ℕ) (old new : DogStatsDExporter) (marks marks' 
   pub stepped : state_seen marks' new ≡ flush_step (state_seen marks old)
   pub written : (settings : SettingsText) (to : RemoteText) → IsReady settings to writer → old.settings ≡ dogstatsd_settings settings
       → IsWritten settings to (flush_items (dogstatsd_settings settings) settings.dsd_globals moment [] (state_seen marks old)) writer' left_out
+
+-- ---- both exporters
+
+-- both rest still
+pub record BothRestOn (pages pages' : PrometheusExporter) (lines lines' : DogStatsDExporter) (old new : Flushes) : Type 0 where
+  -- that of the pages, with the same settings
+  pub pages_rest : RestsOn pages pages'
+  -- and that of the flushes, with the same settings as what these go through, and nothing more was reported
+  pub lines_rest : FlushesOn lines lines' old.writer new.writer old.report new.report
+
+-- the page was written, and beside it the flush, of which so many points were left out
+pub record EndsBoth (moment : ℕ) (pages pages' : PrometheusExporter) (lines lines' : DogStatsDExporter) (old new : Flushes) (written written' : Option (List ℕ)) (left_out : ℕ) : Type 0 where
+  -- the page to the sink, behind its page step
+  pub shown : IsShown moment pages pages' written written'
+  -- and the flush into payloads, with its flush step
+  pub flushed : IsFlushed moment lines lines' old.marks new.marks old.writer new.writer left_out
