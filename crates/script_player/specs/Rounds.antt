@@ -10,16 +10,17 @@ use Rattle.dsd_exporter.specs.Exporter.{Exporter as DogStatsDExporter, state_see
 use Rattle.dsd_exporter.specs.Resting.{AllRest as LinesRest}
 use Rattle.dsd_exporter.specs.State.{flush_items, flush_step}
 use Rattle.dsd_exporter.specs.declared.sending.FlushReport.{FlushReport}
-use Rattle.drive_script.specs.Script.{RoundText, SettingsText}
+use Rattle.drive_script.specs.Script.{RoundText, ScriptText, SettingsText}
 use Rattle.script_player.specs.Flushes.{ForSomeFlushOrders, ForSomeFlushes, after_flush, dogstatsd_settings, flush_of}
-use Rattle.script_player.specs.InPart.{EndsWithin}
-use Rattle.script_player.specs.Orders.{ForSomeOrders, ForSomeRounds, round_text}
+use Rattle.script_player.specs.InPart.{EndsWithin, IsCutOff}
+use Rattle.script_player.specs.Orders.{ForSomeOrders, ForSomeRounds, ForSomeRun, round_text}
 use Rattle.script_player.specs.Play.{after_round, exporter_settings}
 use Rattle.script_player.specs.Player.{PlayerText}
 use Rattle.script_player.specs.Resting.{AllRest}
-use Rattle.script_player.specs.Sent.{Delivers, IsReady, IsWritten, LinkTold}
+use Rattle.script_player.specs.Sent.{Delivers, IsReady, IsSent, IsWritten, LinkTold}
 use Rattle.script_player.specs.Timely.{IsTimelyState}
 use Rattle.script_player.specs.declared.flushes.Flushes.{Flushes}
+use Rattle.script_player.specs.declared.report.Report.{Report}
 
 -- ---- rounds
 
@@ -47,6 +48,22 @@ pub record PlaysRounds (rounds : List RoundText) (old new : PlayerText) (written
 pub record CutsRounds (rounds : List RoundText) (old : PlayerText) (written written' : Option (List ℕ)) (told tells : LinkTold) : Type 0 where
   pub prefix : ForSomeRounds old.settings old.pages rounds (GrewByPrefix written written')
   pub in_part : EndsWithin old.settings old.to old.pages old.flushes rounds written written' told tells old.report
+
+-- ---- a script
+
+-- a script was played whose payloads go to this address
+pub record PlaysScript (script : ScriptText) (to : RemoteText) (written written' : Option (List ℕ)) (told tells : LinkTold) (report : Report) : Type 0 where
+  -- for one order of the calls on each series in each round, what the sink tells grew by the pages
+  pub pages : ForSomeRun script (GrewBy written written')
+  -- and the link was handed the payloads of the flushes, as the report says
+  pub sent : IsSent script to told tells report
+
+-- its play was cut off
+pub record CutsScript (script : ScriptText) (to : RemoteText) (written written' : Option (List ℕ)) (told tells : LinkTold) : Type 0 where
+  -- what the sink tells grew by a prefix of those pages
+  pub prefix : ForSomeRun script (GrewByPrefix written written')
+  -- of which the link has the flushes of the whole ones, but for the last of them maybe
+  pub in_part : IsCutOff script to written written' told tells
 
 -- ---- the end of a round
 
