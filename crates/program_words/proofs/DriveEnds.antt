@@ -5,7 +5,7 @@ use Rattle.dsd_addresses.specs.Remotes.{RemoteText}
 use Rattle.drive_script.specs.declared.faults.DriveFault.{DriveFault}
 use Rattle.drive_script.specs.declared.faults.DriveFault.TheVariants as faults
 use Rattle.drive_script.specs.declared.faults.SettingFault.{SettingFault}
-use Rattle.program_words.specs.Answers.{HasCause, HasDeviceCause, IsAimed, IsBadScript, IsComplete, IsLineOf, IsRefusedSetting, IsReported, IsReportedInPart, IsUnbegun, LeavesInPart, LeavesPrefix, LeavesSource, LeavesUnplayed, Says, fault_status}
+use Rattle.program_words.specs.Answers.{ComesBy, IfUnplayed, IsAimed, IsBadScript, IsComplete, IsLineOf, IsRefusedSetting, IsReported, IsReportedInPart, IsUnbegun, LeavesInPart, LeavesPrefix, LeavesSource, Says, fault_status}
 use Rattle.program_words.specs.Devices.{SourceRun, SinkRun, LinkRun, SourceFailed, SinkFailed}
 use Rattle.program_words.specs.Ends.{IsDriveEnd}
 use Rattle.script_player.specs.Headline.{IsPlayed, IsPlayedInPart}
@@ -42,16 +42,15 @@ played_ends to source out err link report played sent aimed left complete said =
 
 -- it was not valid, or not read, or a device failed, or memory was wanting
 pub failed_ends : (to : RemoteText) (source : SourceRun) (out err : SinkRun) (link : LinkRun) (fault : DriveFault)
-    → IfSome source.left (λ bytes. HasCause to bytes (SourceFailed source) (SinkFailed out) fault) → HasDeviceCause (SourceFailed source) (SinkFailed out) fault
-    → LeavesUnplayed out.written out.written' fault → IfSome source.left (λ bytes. LeavesPrefix to bytes out.written out.written' fault)
+    → ComesBy to source.left (SourceFailed source) (SinkFailed out) fault → IfUnplayed (out.written' ≡ out.written) fault → IfSome source.left (λ bytes. LeavesPrefix to bytes out.written out.written' fault)
     → IfSome source.left (λ bytes. LeavesInPart to bytes out.written out.written' link.told link.told' fault)
     → IsAimed to link.aimed link.aimed' (fault_status fault) → IfSome source.left (λ bytes. LeavesSource bytes source.left' (fault_status fault))
     → IfSome source.left (λ bytes. IsComplete to bytes (SourceFailed source) (SinkFailed out) (fault_status fault))
     → Says err (IsLineOf to source.left link.told link.told' (fault_status fault)) → IsDriveEnd to source out err link (fault_status fault)
-failed_ends to source out err link (faults.Script l) cause device unplayed prefix in_part aimed left complete said = record {
+failed_ends to source out err link (faults.Script l) comes unplayed prefix in_part aimed left complete said = record {
   played = λ e. absurd (omega (arith, e));
   flushed = λ e. absurd (omega (arith, e));
-  bad_script = λ e. some_of source.left (λ bytes. IsBadScript bytes l) (λ bytes. (m : ℕ) × IsBadScript bytes m) (λ bytes is. (l, is)) cause;
+  bad_script = λ e. some_of source.left (λ bytes. IsBadScript bytes l) (λ bytes. (m : ℕ) × IsBadScript bytes m) (λ bytes is. (l, is)) comes.told;
   refused_setting = λ e. absurd (omega (arith, e));
   too_long = λ e. absurd (omega (arith, e));
   read_failed = λ e. absurd (omega (arith, e));
@@ -67,11 +66,11 @@ failed_ends to source out err link (faults.Script l) cause device unplayed prefi
   complete = complete;
   said = said;
 }
-failed_ends to source out err link (faults.Setting fault) cause device unplayed prefix in_part aimed left complete said = record {
+failed_ends to source out err link (faults.Setting fault) comes unplayed prefix in_part aimed left complete said = record {
   played = λ e. absurd (omega (arith, e));
   flushed = λ e. absurd (omega (arith, e));
   bad_script = λ e. absurd (omega (arith, e));
-  refused_setting = λ e. some_of source.left (λ bytes. IsRefusedSetting to bytes fault) (λ bytes. (refused : SettingFault) × IsRefusedSetting to bytes refused) (λ bytes is. (fault, is)) cause;
+  refused_setting = λ e. some_of source.left (λ bytes. IsRefusedSetting to bytes fault) (λ bytes. (refused : SettingFault) × IsRefusedSetting to bytes refused) (λ bytes is. (fault, is)) comes.told;
   too_long = λ e. absurd (omega (arith, e));
   read_failed = λ e. absurd (omega (arith, e));
   write_failed = λ e. absurd (omega (arith, e));
@@ -86,12 +85,12 @@ failed_ends to source out err link (faults.Setting fault) cause device unplayed 
   complete = complete;
   said = said;
 }
-failed_ends to source out err link faults.TooLong cause device unplayed prefix in_part aimed left complete said = record {
+failed_ends to source out err link faults.TooLong comes unplayed prefix in_part aimed left complete said = record {
   played = λ e. absurd (omega (arith, e));
   flushed = λ e. absurd (omega (arith, e));
   bad_script = λ e. absurd (omega (arith, e));
   refused_setting = λ e. absurd (omega (arith, e));
-  too_long = λ e. cause;
+  too_long = λ e. comes.told;
   read_failed = λ e. absurd (omega (arith, e));
   write_failed = λ e. absurd (omega (arith, e));
   prefix = λ e. absurd (omega (arith, e));
@@ -105,13 +104,13 @@ failed_ends to source out err link faults.TooLong cause device unplayed prefix i
   complete = complete;
   said = said;
 }
-failed_ends to source out err link faults.ReadFault cause device unplayed prefix in_part aimed left complete said = record {
+failed_ends to source out err link faults.ReadFault comes unplayed prefix in_part aimed left complete said = record {
   played = λ e. absurd (omega (arith, e));
   flushed = λ e. absurd (omega (arith, e));
   bad_script = λ e. absurd (omega (arith, e));
   refused_setting = λ e. absurd (omega (arith, e));
   too_long = λ e. absurd (omega (arith, e));
-  read_failed = λ e. device;
+  read_failed = λ e. comes.untold;
   write_failed = λ e. absurd (omega (arith, e));
   prefix = λ e. absurd (omega (arith, e));
   flushed_in_part = λ e. absurd (omega (arith, e));
@@ -124,14 +123,14 @@ failed_ends to source out err link faults.ReadFault cause device unplayed prefix
   complete = complete;
   said = said;
 }
-failed_ends to source out err link faults.WriteFault cause device unplayed prefix in_part aimed left complete said = record {
+failed_ends to source out err link faults.WriteFault comes unplayed prefix in_part aimed left complete said = record {
   played = λ e. absurd (omega (arith, e));
   flushed = λ e. absurd (omega (arith, e));
   bad_script = λ e. absurd (omega (arith, e));
   refused_setting = λ e. absurd (omega (arith, e));
   too_long = λ e. absurd (omega (arith, e));
   read_failed = λ e. absurd (omega (arith, e));
-  write_failed = λ e. device;
+  write_failed = λ e. comes.untold;
   prefix = λ e. prefix;
   flushed_in_part = λ e. in_part;
   no_memory = λ e. absurd (omega (arith, e));
@@ -143,7 +142,7 @@ failed_ends to source out err link faults.WriteFault cause device unplayed prefi
   complete = complete;
   said = said;
 }
-failed_ends to source out err link faults.Memory cause device unplayed prefix in_part aimed left complete said = record {
+failed_ends to source out err link faults.Memory comes unplayed prefix in_part aimed left complete said = record {
   played = λ e. absurd (omega (arith, e));
   flushed = λ e. absurd (omega (arith, e));
   bad_script = λ e. absurd (omega (arith, e));

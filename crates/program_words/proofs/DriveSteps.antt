@@ -18,12 +18,13 @@ use Rattle.script_player.specs.Orders.{ForSomeRun, run_text}
 use Rattle.drive_script.specs.Settings.{refusal_of, refused_setting}
 use Rattle.drive_script.specs.declared.faults.SettingFault.{SettingFault}
 use Rattle.script_player.specs.Faults.{IsAllowed, IsPlayFault}
-use Rattle.program_words.specs.Answers.{IfUnplayed, IsAimed, IsComplete, IsBadScript, IsRefusedSetting, IsReported, IsReportedInPart, IsTooLong, IsUnplayed, LeavesInPart, LeavesPrefix, LeavesSource, end_status, fault_status}
+use Rattle.program_words.specs.Answers.{ComesBy, HasCause, HasDeviceCause, IfUnplayed, IsAimed, IsComplete, IsBadScript, IsRefusedSetting, IsReported, IsReportedInPart, IsTooLong, IsUnplayed, LeavesInPart, LeavesPrefix, LeavesRun, LeavesSource, end_status, fault_status}
 use Rattle.script_player.specs.InPart.{IsCutOff}
+use Rattle.script_player.specs.Rounds.{CutsScript}
 use Rattle.script_player.specs.Sent.{IsSent, LinkTold}
 use Rattle.program_words.specs.Reading.{IsReadAs, IsReadFault, IsUnread}
 use Rattle.script_player.specs.declared.report.Report.{Report}
-use Rattle.program_words.proofs.ReadingSteps.{read_out}
+use Rattle.program_words.proofs.ReadingSteps.{of_any, read_out, some_of}
 use Rattle.script_player.proofs.RunPages.{run_is_pages}
 
 -- bytes that are a valid script have no bad line
@@ -102,7 +103,7 @@ played_whole to (Some bytes) items script written written' whole good allowed gr
     subst P whole (record { script = script; reading = good; to = to; allowed = allowed; text = run_text script grew.0; pages = run_is_pages script grew.0 grew.1; grew = grew.2 })
 
 -- a script read whole and played in part
-pub played_prefix : (to : RemoteText) (left : Option (List ℕ)) (items : List ℕ) (script : ScriptText) (written written' : Option (List ℕ)) (K : Type 0) (fault : DriveFault)
+played_prefix : (to : RemoteText) (left : Option (List ℕ)) (items : List ℕ) (script : ScriptText) (written written' : Option (List ℕ)) (K : Type 0) (fault : DriveFault)
     → IfSome left (λ bytes. items ≡ bytes) → IsGoodScript items script → IsAllowed to script → ForSomeRun script (GrewByPrefix written written')
     → IsPlayFault K fault → IfSome left (λ bytes. LeavesPrefix to bytes written written' fault)
 played_prefix to None items script written written' K fault whole good allowed grew cause = tt
@@ -132,7 +133,7 @@ reported (Some bytes) items script to told tells (Ok report) whole good allowed 
     subst P whole (record { script = script; reading = good; allowed = allowed; sent = sent })
 
 -- a script read whole, whose play ended within a round
-pub cut_off : (to : RemoteText) (left : Option (List ℕ)) (items : List ℕ) (script : ScriptText) (written written' : Option (List ℕ)) (told tells : LinkTold) (K : Type 0) (fault : DriveFault)
+cut_off : (to : RemoteText) (left : Option (List ℕ)) (items : List ℕ) (script : ScriptText) (written written' : Option (List ℕ)) (told tells : LinkTold) (K : Type 0) (fault : DriveFault)
     → IfSome left (λ bytes. items ≡ bytes) → IsGoodScript items script → IsAllowed to script → IsCutOff script to written written' told tells
     → IsPlayFault K fault → IfSome left (λ bytes. LeavesInPart to bytes written written' told tells fault)
 cut_off to None items script written written' told tells K fault whole good allowed ended cause = tt
@@ -152,7 +153,17 @@ cut_off to (Some bytes) items script written written' told tells K fault whole g
     by faults.Memory c = inr in_part
 
 -- no script was read, so nothing was written or sent
-pub unread_in_part : (to : RemoteText) (left : Option (List ℕ)) (S : Type 0) (written : Option (List ℕ)) (told : LinkTold) (fault : DriveFault) → IsUnread left S fault
+unread_prefix : (to : RemoteText) (left : Option (List ℕ)) (S : Type 0) (written : Option (List ℕ)) (fault : DriveFault) → IsUnread left S fault
+    → IfSome left (λ bytes. LeavesPrefix to bytes written written fault)
+unread_prefix to None S written fault h = tt
+unread_prefix to (Some bytes) S written (faults.Script l) h = tt
+unread_prefix to (Some bytes) S written (faults.Setting fault) h = tt
+unread_prefix to (Some bytes) S written faults.TooLong h = tt
+unread_prefix to (Some bytes) S written faults.ReadFault h = tt
+unread_prefix to (Some bytes) S written faults.WriteFault h = absurd h
+unread_prefix to (Some bytes) S written faults.Memory h = inl refl
+
+unread_in_part : (to : RemoteText) (left : Option (List ℕ)) (S : Type 0) (written : Option (List ℕ)) (told : LinkTold) (fault : DriveFault) → IsUnread left S fault
     → IfSome left (λ bytes. LeavesInPart to bytes written written told told fault)
 unread_in_part to None S written told fault h = tt
 unread_in_part to (Some bytes) S written told (faults.Script l) h = tt
@@ -163,12 +174,12 @@ unread_in_part to (Some bytes) S written told faults.WriteFault h = absurd h
 unread_in_part to (Some bytes) S written told faults.Memory h = inl (refl, refl)
 
 -- a setting was refused, or memory to aim the link
-pub refused_in_part : (to : RemoteText) (left : Option (List ℕ)) (written : Option (List ℕ)) (told tells : LinkTold) (fault : SettingFault)
+refused_in_part : (to : RemoteText) (left : Option (List ℕ)) (written : Option (List ℕ)) (told tells : LinkTold) (fault : SettingFault)
     → IfSome left (λ bytes. LeavesInPart to bytes written written told tells (faults.Setting fault))
 refused_in_part to None written told tells fault = tt
 refused_in_part to (Some bytes) written told tells fault = tt
 
-pub unaimed_in_part : (to : RemoteText) (left : Option (List ℕ)) (written : Option (List ℕ)) (told tells : LinkTold) → tells.sent ≡ told.sent
+unaimed_in_part : (to : RemoteText) (left : Option (List ℕ)) (written : Option (List ℕ)) (told tells : LinkTold) → tells.sent ≡ told.sent
     → IfSome left (λ bytes. LeavesInPart to bytes written written told tells faults.Memory)
 unaimed_in_part to None written told tells same = tt
 unaimed_in_part to (Some bytes) written told tells same = inl (refl, same)
@@ -208,7 +219,7 @@ pub now_aimed : (to : RemoteText) (before after : Option RemoteText) (status : �
 now_aimed to before after status at = record { only = inr at; played = λ e. at }
 
 -- what is so where a fault came before the play
-pub unplayed_by : (P : Type 0) (fault : DriveFault) → P → IfUnplayed P fault
+unplayed_by : (P : Type 0) (fault : DriveFault) → P → IfUnplayed P fault
 unplayed_by P (faults.Script l) p = p
 unplayed_by P (faults.Setting fault) p = p
 unplayed_by P faults.TooLong p = p
@@ -217,14 +228,76 @@ unplayed_by P faults.WriteFault p = tt
 unplayed_by P faults.Memory p = tt
 
 -- a play's fault is none of those that come before it
-pub played_on : (P K : Type 0) (ended : Result Report DriveFault) → IfErr ended (IsPlayFault K) → IfErr ended (IfUnplayed P)
-played_on P K (Ok report) cause = tt
-played_on P K (Err (faults.Script l)) cause = absurd cause
-played_on P K (Err (faults.Setting fault)) cause = absurd cause
-played_on P K (Err faults.TooLong) cause = absurd cause
-played_on P K (Err faults.ReadFault) cause = absurd cause
-played_on P K (Err faults.WriteFault) cause = tt
-played_on P K (Err faults.Memory) cause = tt
+played_on : (P K : Type 0) (fault : DriveFault) → IsPlayFault K fault → IfUnplayed P fault
+played_on P K (faults.Script l) cause = absurd cause
+played_on P K (faults.Setting fault) cause = absurd cause
+played_on P K faults.TooLong cause = absurd cause
+played_on P K faults.ReadFault cause = absurd cause
+played_on P K faults.WriteFault cause = tt
+played_on P K faults.Memory cause = tt
+
+-- ---- causes
+
+-- a fault that comes by no bytes
+no_bytes : (to : RemoteText) (left : Option (List ℕ)) (S K : Type 0) (fault : DriveFault) → ((bytes : List ℕ) → HasCause to bytes S K fault) → HasDeviceCause S K fault → ComesBy to left S K fault
+no_bytes to left S K fault each device = record { told = of_any left (λ bytes. HasCause to bytes S K fault) each; untold = device }
+
+pub memory_comes : (to : RemoteText) (left : Option (List ℕ)) (S K : Type 0) → ComesBy to left S K faults.Memory
+memory_comes to left S K = no_bytes to left S K faults.Memory (λ bytes. tt) tt
+
+pub unread_comes : (to : RemoteText) (left : Option (List ℕ)) (S K : Type 0) (fault : DriveFault) → IsUnread left S fault → ComesBy to left S K fault
+unread_comes to left S K (faults.Script l) h = record { told = h; untold = tt }
+unread_comes to left S K (faults.Setting fault) h = absurd h
+unread_comes to left S K faults.TooLong h = record { told = some_of left IsTooLong (λ bytes. HasCause to bytes S K faults.TooLong) (λ bytes is. is) h; untold = tt }
+unread_comes to left S K faults.ReadFault h = no_bytes to left S K faults.ReadFault (λ bytes. h) h
+unread_comes to left S K faults.WriteFault h = absurd h
+unread_comes to left S K faults.Memory h = memory_comes to left S K
+
+pub play_comes : (to : RemoteText) (left : Option (List ℕ)) (S K : Type 0) (ended : Result Report DriveFault) → IfErr ended (IsPlayFault K) → IfErr ended (ComesBy to left S K)
+play_comes to left S K (Ok report) cause = tt
+play_comes to left S K (Err (faults.Script l)) cause = absurd cause
+play_comes to left S K (Err (faults.Setting fault)) cause = absurd cause
+play_comes to left S K (Err faults.TooLong) cause = absurd cause
+play_comes to left S K (Err faults.ReadFault) cause = absurd cause
+play_comes to left S K (Err faults.WriteFault) cause = no_bytes to left S K faults.WriteFault (λ bytes. cause) cause
+play_comes to left S K (Err faults.Memory) cause = memory_comes to left S K
+
+-- ---- what is left
+
+pub unread_leaves : (to : RemoteText) (left : Option (List ℕ)) (S : Type 0) (written : Option (List ℕ)) (told : LinkTold) (P : Type 0) (fault : DriveFault) → IsUnread left S fault → P
+    → LeavesRun to left written written told told P fault
+unread_leaves to left S written told P fault unread same = record {
+  unplayed = unplayed_by (written ≡ written) fault refl;
+  unsent = unplayed_by P fault same;
+  prefix = unread_prefix to left S written fault unread;
+  in_part = unread_in_part to left S written told fault unread;
+}
+
+pub refused_leaves : (to : RemoteText) (left written : Option (List ℕ)) (told : LinkTold) (P : Type 0) (fault : SettingFault) → P → LeavesRun to left written written told told P (faults.Setting fault)
+refused_leaves to left written told P fault same = record {
+  unplayed = refl;
+  unsent = same;
+  prefix = of_any left (λ bytes. LeavesPrefix to bytes written written (faults.Setting fault)) (λ bytes. tt);
+  in_part = refused_in_part to left written told told fault;
+}
+
+pub unaimed_leaves : (to : RemoteText) (left written : Option (List ℕ)) (told tells : LinkTold) (P : Type 0) → tells.sent ≡ told.sent → LeavesRun to left written written told tells P faults.Memory
+unaimed_leaves to left written told tells P same = record {
+  unplayed = tt;
+  unsent = tt;
+  prefix = of_any left (λ bytes. LeavesPrefix to bytes written written faults.Memory) (λ bytes. inl refl);
+  in_part = unaimed_in_part to left written told tells same;
+}
+
+pub cut_leaves : (to : RemoteText) (left : Option (List ℕ)) (items : List ℕ) (script : ScriptText) (written written' : Option (List ℕ)) (told tells : LinkTold) (K P : Type 0) (fault : DriveFault)
+    → IfSome left (λ bytes. items ≡ bytes) → IsGoodScript items script → IsAllowed to script → CutsScript script to written written' told tells → IsPlayFault K fault
+    → LeavesRun to left written written' told tells P fault
+cut_leaves to left items script written written' told tells K P fault whole good allowed cut cause = record {
+  unplayed = played_on (written' ≡ written) K fault cause;
+  unsent = played_on P K fault cause;
+  prefix = played_prefix to left items script written written' K fault whole good allowed cut.prefix cause;
+  in_part = cut_off to left items script written written' told tells K fault whole good allowed cut.in_part cause;
+}
 
 -- completeness, where the script was found good
 pub good_answers : (to : RemoteText) (left : Option (List ℕ)) (items : List ℕ) (S K : Type 0) (script : ScriptText) (status : ℕ)

@@ -10,7 +10,7 @@ use Rattle.script_player.specs.Agent.{default_agent}
 use Rattle.program_words.specs.Answers.{IsBadScript, IsRefusedSetting, IsSaidText, LeavesSource, Says}
 use Rattle.program_words.specs.Devices.{SourceRun, SinkRun, ListenerRun, SourceFailed, ListenerFailed}
 use Rattle.program_words.specs.Ends.{IsServeEnd}
-use Rattle.program_words.specs.Serving.{HasServeCause, HasServeDeviceCause, IsScriptServed, IsScriptServedInPart, IsServeComplete, IsServeLineOf, LeavesServed, bad_script, listener_failed, no_memory, read_failed, serve_fault_text, serve_status, setting_refused, too_long}
+use Rattle.program_words.specs.Serving.{IsScriptServed, IsScriptServedInPart, IsServeComplete, IsServeLineOf, LeavesServed, ServeComesBy, bad_script, listener_failed, no_memory, read_failed, serve_fault_text, serve_status, setting_refused, too_long}
 use Rattle.program_words.specs.declared.serving.ServeScriptFault.{ServeScriptFault}
 use Rattle.program_words.specs.declared.serving.ServeScriptFault.TheVariants as serving
 use Rattle.program_words.proofs.ReadingSteps.{of_any, some_of, unread}
@@ -40,14 +40,14 @@ served_ends count networks source err listener served given left complete said =
 
 -- the script was not valid, or not read, or the listener failed, or memory was wanting
 pub unserved_ends : (count : ℕ) (networks : List NetworkText) (source : SourceRun) (err : SinkRun) (listener : ListenerRun) (fault : ServeScriptFault)
-    → IfSome source.left (λ bytes. HasServeCause bytes (SourceFailed source) (ListenerFailed listener) fault) → HasServeDeviceCause (SourceFailed source) (ListenerFailed listener) fault
+    → ServeComesBy source.left (SourceFailed source) (ListenerFailed listener) fault
     → IfSome source.left (λ bytes. LeavesServed bytes networks count listener.told listener.told' fault) → IfSome source.left (λ bytes. LeavesSource bytes source.left' (serve_status fault))
     → IfSome source.left (λ bytes. IsServeComplete bytes (SourceFailed source) (ListenerFailed listener) (serve_status fault))
     → Says err (IsServeLineOf count source.left listener.lost listener.lost' (serve_status fault)) → IsServeEnd count networks source err listener (serve_status fault)
-unserved_ends count networks source err listener (serving.Drive (faults.Script l)) cause device leaves left complete said = record {
+unserved_ends count networks source err listener (serving.Drive (faults.Script l)) comes leaves left complete said = record {
   served = λ e. absurd (omega (arith, e));
   given = λ e. absurd (omega (arith, e));
-  bad_script = λ e. some_of source.left (λ bytes. IsBadScript bytes l) (λ bytes. (m : ℕ) × IsBadScript bytes m) (λ bytes is. (l, is)) cause;
+  bad_script = λ e. some_of source.left (λ bytes. IsBadScript bytes l) (λ bytes. (m : ℕ) × IsBadScript bytes m) (λ bytes is. (l, is)) comes.told;
   refused_setting = λ e. absurd (omega (arith, e));
   too_long = λ e. absurd (omega (arith, e));
   read_failed = λ e. absurd (omega (arith, e));
@@ -59,11 +59,11 @@ unserved_ends count networks source err listener (serving.Drive (faults.Script l
   complete = complete;
   said = said;
 }
-unserved_ends count networks source err listener (serving.Drive (faults.Setting fault)) cause device leaves left complete said = record {
+unserved_ends count networks source err listener (serving.Drive (faults.Setting fault)) comes leaves left complete said = record {
   served = λ e. absurd (omega (arith, e));
   given = λ e. absurd (omega (arith, e));
   bad_script = λ e. absurd (omega (arith, e));
-  refused_setting = λ e. some_of source.left (λ bytes. IsRefusedSetting default_agent bytes fault) (λ bytes. (refused : SettingFault) × IsRefusedSetting default_agent bytes refused) (λ bytes is. (fault, is)) cause;
+  refused_setting = λ e. some_of source.left (λ bytes. IsRefusedSetting default_agent bytes fault) (λ bytes. (refused : SettingFault) × IsRefusedSetting default_agent bytes refused) (λ bytes is. (fault, is)) comes.told;
   too_long = λ e. absurd (omega (arith, e));
   read_failed = λ e. absurd (omega (arith, e));
   no_memory = λ e. absurd (omega (arith, e));
@@ -74,12 +74,12 @@ unserved_ends count networks source err listener (serving.Drive (faults.Setting 
   complete = complete;
   said = said;
 }
-unserved_ends count networks source err listener (serving.Drive faults.TooLong) cause device leaves left complete said = record {
+unserved_ends count networks source err listener (serving.Drive faults.TooLong) comes leaves left complete said = record {
   served = λ e. absurd (omega (arith, e));
   given = λ e. absurd (omega (arith, e));
   bad_script = λ e. absurd (omega (arith, e));
   refused_setting = λ e. absurd (omega (arith, e));
-  too_long = λ e. cause;
+  too_long = λ e. comes.told;
   read_failed = λ e. absurd (omega (arith, e));
   no_memory = λ e. absurd (omega (arith, e));
   listener_failed = λ e. absurd (omega (arith, e));
@@ -89,13 +89,13 @@ unserved_ends count networks source err listener (serving.Drive faults.TooLong) 
   complete = complete;
   said = said;
 }
-unserved_ends count networks source err listener (serving.Drive faults.ReadFault) cause device leaves left complete said = record {
+unserved_ends count networks source err listener (serving.Drive faults.ReadFault) comes leaves left complete said = record {
   served = λ e. absurd (omega (arith, e));
   given = λ e. absurd (omega (arith, e));
   bad_script = λ e. absurd (omega (arith, e));
   refused_setting = λ e. absurd (omega (arith, e));
   too_long = λ e. absurd (omega (arith, e));
-  read_failed = λ e. device;
+  read_failed = λ e. comes.untold;
   no_memory = λ e. absurd (omega (arith, e));
   listener_failed = λ e. absurd (omega (arith, e));
   in_part = λ e. absurd (omega (arith, e));
@@ -104,8 +104,8 @@ unserved_ends count networks source err listener (serving.Drive faults.ReadFault
   complete = complete;
   said = said;
 }
-unserved_ends count networks source err listener (serving.Drive faults.WriteFault) cause device leaves left complete said = absurd device
-unserved_ends count networks source err listener (serving.Drive faults.Memory) cause device leaves left complete said = record {
+unserved_ends count networks source err listener (serving.Drive faults.WriteFault) comes leaves left complete said = absurd comes.untold
+unserved_ends count networks source err listener (serving.Drive faults.Memory) comes leaves left complete said = record {
   served = λ e. absurd (omega (arith, e));
   given = λ e. absurd (omega (arith, e));
   bad_script = λ e. absurd (omega (arith, e));
@@ -120,7 +120,7 @@ unserved_ends count networks source err listener (serving.Drive faults.Memory) c
   complete = complete;
   said = said;
 }
-unserved_ends count networks source err listener serving.FailedToCreateHTTPListener cause device leaves left complete said = record {
+unserved_ends count networks source err listener serving.FailedToCreateHTTPListener comes leaves left complete said = record {
   served = λ e. absurd (omega (arith, e));
   given = λ e. absurd (omega (arith, e));
   bad_script = λ e. absurd (omega (arith, e));
@@ -128,7 +128,7 @@ unserved_ends count networks source err listener serving.FailedToCreateHTTPListe
   too_long = λ e. absurd (omega (arith, e));
   read_failed = λ e. absurd (omega (arith, e));
   no_memory = λ e. absurd (omega (arith, e));
-  listener_failed = λ e. device;
+  listener_failed = λ e. comes.untold;
   in_part = λ e. leaves;
   others = (λ e. omega (arith, e), λ e. omega (arith, e), λ e. omega (arith, e), λ e. omega (arith, e), λ e. omega (arith, e), λ e. omega (arith, e));
   left = left;
@@ -172,15 +172,15 @@ serve_end count other networks others source err listener status number same ali
 
 -- ---- lines on `err`
 
-pub unserved_line : (count : ℕ) (left : Option (List ℕ)) (lost lost' : ℕ) (S N : Type 0) (fault : ServeScriptFault) → IfSome left (λ bytes. HasServeCause bytes S N fault) → HasServeDeviceCause S N fault
+pub unserved_line : (count : ℕ) (left : Option (List ℕ)) (lost lost' : ℕ) (S N : Type 0) (fault : ServeScriptFault) → ServeComesBy left S N fault
     → IsServeLineOf count left lost lost' (serve_status fault) (line (serve_fault_text fault))
-unserved_line count left lost lost' S N (serving.Drive (faults.Script l)) cause device = bad_script l cause
-unserved_line count left lost lost' S N (serving.Drive (faults.Setting fault)) cause device = setting_refused fault cause
-unserved_line count left lost lost' S N (serving.Drive faults.TooLong) cause device = too_long
-unserved_line count left lost lost' S N (serving.Drive faults.ReadFault) cause device = read_failed
-unserved_line count left lost lost' S N (serving.Drive faults.WriteFault) cause device = absurd device
-unserved_line count left lost lost' S N (serving.Drive faults.Memory) cause device = no_memory
-unserved_line count left lost lost' S N serving.FailedToCreateHTTPListener cause device = listener_failed
+unserved_line count left lost lost' S N (serving.Drive (faults.Script l)) comes = bad_script l comes.told
+unserved_line count left lost lost' S N (serving.Drive (faults.Setting fault)) comes = setting_refused fault comes.told
+unserved_line count left lost lost' S N (serving.Drive faults.TooLong) comes = too_long
+unserved_line count left lost lost' S N (serving.Drive faults.ReadFault) comes = read_failed
+unserved_line count left lost lost' S N (serving.Drive faults.WriteFault) comes = absurd comes.untold
+unserved_line count left lost lost' S N (serving.Drive faults.Memory) comes = no_memory
+unserved_line count left lost lost' S N serving.FailedToCreateHTTPListener comes = listener_failed
 
 -- a text that is the line of a fault, said of that fault
 pub served_said_of : (Failed : Type 0) (said said' : Option (List ℕ)) (fault is : ServeScriptFault) (text : List ℕ) → fault ≡ is → text ≡ line (serve_fault_text is)

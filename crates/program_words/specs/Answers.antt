@@ -91,6 +91,13 @@ HasDeviceCause SourceFailed SinkFailed faults.ReadFault = SourceFailed
 HasDeviceCause SourceFailed SinkFailed faults.WriteFault = SinkFailed
 HasDeviceCause SourceFailed SinkFailed _ = Unit {0}
 
+-- why a run over what the source tells ended with a fault
+pub record ComesBy (to : RemoteText) (left : Option (List ℕ)) (SourceFailed SinkFailed : Type 0) (fault : DriveFault) : Type 0 where
+  -- by the cause in its bytes, where it tells them
+  pub told : IfSome left (λ bytes. HasCause to bytes SourceFailed SinkFailed fault)
+  -- and by that of a device in any case
+  pub untold : HasDeviceCause SourceFailed SinkFailed fault
+
 -- what is so where the script wasn't played
 abbrev pub IfUnplayed : Type 0 → DriveFault → Type 0
 IfUnplayed P (faults.Script l) = P
@@ -98,14 +105,6 @@ IfUnplayed P (faults.Setting fault) = P
 IfUnplayed P faults.TooLong = P
 IfUnplayed P faults.ReadFault = P
 IfUnplayed P _ = Unit {0}
-
--- nothing was written where the script wasn't played
-abbrev pub LeavesUnplayed : Option (List ℕ) → Option (List ℕ) → DriveFault → Type 0
-LeavesUnplayed written written' (faults.Script l) = written' ≡ written
-LeavesUnplayed written written' (faults.Setting fault) = written' ≡ written
-LeavesUnplayed written written' faults.TooLong = written' ≡ written
-LeavesUnplayed written written' faults.ReadFault = written' ≡ written
-LeavesUnplayed written written' _ = Unit {0}
 
 -- a failed write leaves a prefix of the pages of a run, and want of memory such a prefix or nothing
 abbrev pub LeavesPrefix : RemoteText → List ℕ → Option (List ℕ) → Option (List ℕ) → DriveFault → Type 0
@@ -129,6 +128,17 @@ abbrev pub LeavesInPart : RemoteText → List ℕ → Option (List ℕ) → Opti
 LeavesInPart to bytes written written' told tells faults.WriteFault = IsReportedInPart bytes to written written' told tells
 LeavesInPart to bytes written written' told tells faults.Memory = IsUnbegun written written' told tells ⊎ IsReportedInPart bytes to written written' told tells
 LeavesInPart to bytes written written' told tells _ = Unit {0}
+
+-- what a fault leaves of the sink and of the link, where `SameLink` says that this is as it was
+pub record LeavesRun (to : RemoteText) (left written written' : Option (List ℕ)) (told tells : LinkTold) (SameLink : Type 0) (fault : DriveFault) : Type 0 where
+  -- where the script wasn't played nothing was written
+  pub unplayed : IfUnplayed (written' ≡ written) fault
+  -- and nothing was sent
+  pub unsent : IfUnplayed SameLink fault
+  -- where it was, the pages of the first rounds were written, and a prefix of the next
+  pub prefix : IfSome left (λ bytes. LeavesPrefix to bytes written written' fault)
+  -- and the payloads of those rounds were handed to the link
+  pub in_part : IfSome left (λ bytes. LeavesInPart to bytes written written' told tells fault)
 
 -- ---- statuses
 

@@ -259,3 +259,10 @@ pub record LeavesOthers (words : List (List ℕ)) (SameSource SameOut SameLink S
   pub bench_reads_none : IsBenchWords words → SameSource
   -- words that are no form do neither
   pub no_form_leaves : ¬ IsForm words → SameOut × SameSource
+
+-- how any words end that are handed to `run`
+pub record IsAnyEnd (words : List (List ℕ)) (err : SinkRun) (SameSource SameOut SameLink SameListener : Type 0) (status : ℕ) : Type 0 where
+  -- which of them the status comes of
+  pub statuses : ComesOf words err status
+  -- and what they leave alone
+  pub others : LeavesOthers words SameSource SameOut SameLink SameListener status

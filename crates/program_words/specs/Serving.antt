@@ -4,7 +4,7 @@ use Rattle.std.specs.List.{AllZip}
 use Rattle.metrics_core.specs.Characters.{line}
 use Rattle.net_addresses.specs.Addresses.{NetworkText, IsNetwork}
 use Rattle.prom_serve.specs.Connections.{CountedOn}
-use Rattle.prom_serve.specs.Serving.{Listening}
+use Rattle.prom_serve.specs.Serving.{IsCounted, Listening}
 use Rattle.prom_serve.specs.declared.serving.Served.{Served}
 use Rattle.prom_serve.specs.declared.errors.ServeError.{ServeError}
 use Rattle.prom_serve.specs.declared.errors.ServeError.TheVariants as errors
@@ -37,10 +37,12 @@ pub record IsScriptServedInPart (bytes : List ℕ) (networks : List NetworkText)
 
 -- ---- counts
 
--- each of so many connections was served or failed, and so many more were lost as failed
-pub record IsCounted (count before after : ℕ) (served : Served) : Type 0 where
-  pub total : served.served + served.failed ≡ count
-  pub lost : CountedOn before after served.failed
+-- what became of so many connections, by the listener's counts of those that it gave and of those that were lost
+pub record AreAccepted (count given given' lost lost' : ℕ) (served : Served) : Type 0 where
+  -- they were accepted
+  pub accepted : CountedOn given given' count
+  -- and each was served, or failed and was lost
+  pub counted : IsCounted count lost lost' served
 
 -- ---- causes
 
@@ -67,6 +69,13 @@ HasServeDeviceCause SourceFailed ListenerFailed (serving.Drive faults.WriteFault
 HasServeDeviceCause SourceFailed ListenerFailed serving.FailedToCreateHTTPListener = ListenerFailed
 HasServeDeviceCause SourceFailed ListenerFailed _ = Unit {0}
 
+-- why serving a script over what the source tells ended with a fault
+pub record ServeComesBy (left : Option (List ℕ)) (SourceFailed ListenerFailed : Type 0) (fault : ServeScriptFault) : Type 0 where
+  -- by the cause in its bytes, where it tells them
+  pub told : IfSome left (λ bytes. HasServeCause bytes SourceFailed ListenerFailed fault)
+  -- and by that of a device in any case
+  pub untold : HasServeDeviceCause SourceFailed ListenerFailed fault
+
 -- what is so where the script wasn't played
 abbrev pub IfUnserved : Type 0 → ServeScriptFault → Type 0
 IfUnserved P (serving.Drive (faults.Script l)) = P
@@ -81,6 +90,13 @@ abbrev pub LeavesServed : List ℕ → List NetworkText → ℕ → Listening �
 LeavesServed bytes networks count old new serving.FailedToCreateHTTPListener = IsScriptServedInPart bytes networks count 0 old new
 LeavesServed bytes networks count old new (serving.Drive faults.Memory) = (new ≡ old) ⊎ IsScriptServedInPart bytes networks count 1 old new
 LeavesServed bytes networks count old new _ = Unit {0}
+
+-- what a fault leaves of the listener, where `SameListener` says that this is as it was
+pub record LeavesListener (left : Option (List ℕ)) (networks : List NetworkText) (count : ℕ) (old new : Listening) (SameListener : Type 0) (fault : ServeScriptFault) : Type 0 where
+  -- where the script wasn't played it is
+  pub unserved : IfUnserved SameListener fault
+  -- where it was, the connections so far were answered
+  pub in_part : IfSome left (λ bytes. LeavesServed bytes networks count old new fault)
 
 -- ---- statuses
 

@@ -36,3 +36,10 @@ pub record IsTold (text : List ℕ) (out err : SinkRun) (status : ℕ) : Type 0 
   pub only : (status ≡ 0) ⊎ (status ≡ 7)
   -- `err` has the line of the status, or none
   pub said : IsTellingSaid err status
+
+-- a text was told and nothing else done, where a fact for each other device says that it is as it was
+pub record IsToldAlone (text : List ℕ) (out err : SinkRun) (SameSource SameLink SameListener : Type 0) (status : ℕ) : Type 0 where
+  -- the text went to the sink
+  pub told : IsTold text out err status
+  -- and the source, the link and the listener were left alone
+  pub untouched : SameSource × SameLink × SameListener

@@ -6,11 +6,11 @@ ghost use Rattle.dsd_addresses.specs.Remotes.{RemoteText};
 ghost use Rattle.program_words.specs.Answers.{texts_of, IsDriveTo, IsDriveWords};
 ghost use Rattle.program_words.specs.BenchWords.{AreBenchWords};
 ghost use Rattle.program_words.specs.Devices.{link_run, listener_run, sink_run, source_run};
-ghost use Rattle.program_words.specs.Ends.{ComesOf, IsBenchEnd, IsDriveEnd, IsServeEnd, IsStreamEnd, LeavesOthers};
+ghost use Rattle.program_words.specs.Ends.{IsAnyEnd, IsBenchEnd, IsDriveEnd, IsServeEnd, IsStreamEnd};
 ghost use Rattle.script_player.specs.Headline.{IsPlayed};
 ghost use Rattle.program_words.specs.Serving.{AreServeWords};
 ghost use Rattle.program_words.specs.Statuses.{status_number};
-ghost use Rattle.program_words.specs.Words.{AsksFor, AsksForNone, IsTold};
+ghost use Rattle.program_words.specs.Words.{AsksFor, AsksForNone, IsTold, IsToldAlone};
 
 use crate::running::run;
 use crate::say::say_fault;
@@ -49,10 +49,9 @@ pub fn answer<
     listener: &mut N,
 ) -> u8
     // Words that ask for a text.
-    ensures told { (text : List ℕ) → AsksFor (texts_of words.now) text → IsTold text
-        (sink_run K.written K.faults out.old out.new) (sink_run E.written E.faults err.old err.new) result }
-    ensures untouched { (text : List ℕ) → AsksFor (texts_of words.now) text
-        → (source.new ≡ source.old) × (link.new ≡ link.old) × (listener.new ≡ listener.old) }
+    ensures told { (text : List ℕ) → AsksFor (texts_of words.now) text → IsToldAlone text
+        (sink_run K.written K.faults out.old out.new) (sink_run E.written E.faults err.old err.new)
+        (source.new ≡ source.old) (link.new ≡ link.old) (listener.new ≡ listener.old) result }
 
     // All others: what `run` says of them.
     ensures headline { IsDriveWords (texts_of words.now) → result ≡ 0 → IfSome (S.left source.old)
@@ -68,9 +67,8 @@ pub fn answer<
         (sink_run K.written K.faults out.old out.new) (sink_run E.written E.faults err.old err.new) result }
     ensures streams { IsStreamEnd (texts_of words.now) (source_run S.left S.faults source.old source.new)
         (sink_run K.written K.faults out.old out.new) (sink_run E.written E.faults err.old err.new) result }
-    ensures statuses { AsksForNone (texts_of words.now)
-        → ComesOf (texts_of words.now) (sink_run E.written E.faults err.old err.new) result }
-    ensures others { AsksForNone (texts_of words.now) → LeavesOthers (texts_of words.now) (source.new ≡ source.old)
+    ensures all { AsksForNone (texts_of words.now) → IsAnyEnd (texts_of words.now)
+        (sink_run E.written E.faults err.old err.new) (source.new ≡ source.old)
         (out.new ≡ out.old) (link.new ≡ link.old) (listener.new ≡ listener.old) result }
 {
     match asked_text(words) {

@@ -4,7 +4,7 @@ ghost use Rattle.std.specs.Prelude.{◌≡◌, IfErr, IfOk, IfSome, OnOk};
 ghost use Rattle.metrics_core.specs.Outside.{Rose};
 ghost use Rattle.drive_script.specs.Texts.{script_of};
 ghost use Rattle.dsd_addresses.specs.Remotes.{remote_text};
-ghost use Rattle.program_words.specs.Answers.{end_status, HasCause, HasDeviceCause, IfUnplayed, IsComplete, IsReported, LeavesDevices, LeavesInPart, LeavesPrefix, LeavesSource, LeavesUnplayed};
+ghost use Rattle.program_words.specs.Answers.{end_status, ComesBy, IsComplete, IsReported, LeavesDevices, LeavesRun, LeavesSource};
 ghost use Rattle.script_player.specs.Headline.{IsPlayed};
 ghost use Rattle.program_words.specs.Reading.{IsReadAs, IsUnread};
 
@@ -46,22 +46,15 @@ pub fn drive<R: RandomSource + Threads + Wait + Sync, S: Source, K: Sink, L: Lin
         (record { sent = L.sent link.new; faults = L.faults link.new }) report)) }
 
     // Each fault comes only by its cause.
-    ensures cause { IfErr result (λ fault. IfSome (S.left source.old) (λ bytes.
-        HasCause (remote_text to.now) bytes (Rose (S.faults source.old) (S.faults source.new))
-        (Rose (K.faults out.old) (K.faults out.new)) fault)) }
-    ensures device { IfErr result (HasDeviceCause
+    ensures cause { IfErr result (ComesBy (remote_text to.now) (S.left source.old)
         (Rose (S.faults source.old) (S.faults source.new))
         (Rose (K.faults out.old) (K.faults out.new))) }
 
     // What each fault leaves.
-    ensures unplayed { IfErr result (LeavesUnplayed (K.written out.old) (K.written out.new)) }
-    ensures unsent { IfErr result (IfUnplayed (link.new ≡ link.old)) }
-    ensures prefix { IfErr result (λ fault. IfSome (S.left source.old) (λ bytes.
-        LeavesPrefix (remote_text to.now) bytes (K.written out.old) (K.written out.new) fault)) }
-    ensures in_part { IfErr result (λ fault. IfSome (S.left source.old) (λ bytes.
-        LeavesInPart (remote_text to.now) bytes (K.written out.old) (K.written out.new)
+    ensures leaves { IfErr result (LeavesRun (remote_text to.now) (S.left source.old)
+        (K.written out.old) (K.written out.new)
         (record { sent = L.sent link.old; faults = L.faults link.old })
-        (record { sent = L.sent link.new; faults = L.faults link.new }) fault)) }
+        (record { sent = L.sent link.new; faults = L.faults link.new }) (link.new ≡ link.old)) }
 
     // Where the link is aimed, and what is still to come of the source.
     ensures devices { LeavesDevices (remote_text to.now) (L.aimed link.old) (L.aimed link.new)

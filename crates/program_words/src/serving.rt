@@ -2,9 +2,8 @@
 
 ghost use Rattle.std.specs.Prelude.{◌≡◌, ◌≤◌, IfErr, IfOk, IfSome, OnOk};
 ghost use Rattle.metrics_core.specs.Outside.{Rose};
-ghost use Rattle.prom_serve.specs.Connections.{CountedOn};
 ghost use Rattle.program_words.specs.Answers.{LeavesSource};
-ghost use Rattle.program_words.specs.Serving.{HasServeCause, HasServeDeviceCause, IfUnserved, IsCounted, IsScriptServed, IsServeComplete, LeavesServed, serve_end_status};
+ghost use Rattle.program_words.specs.Serving.{AreAccepted, IsScriptServed, IsServeComplete, LeavesListener, ServeComesBy, serve_end_status};
 
 use crate::driving::read_whole_script;
 use drive_script::{DriveFault, SettingFault, check_settings};
@@ -91,24 +90,20 @@ pub fn serve_script<
         (record { given = N.given listener.new; finished = N.finished listener.new }))) }
 
     // So many connections were accepted, and each was served or failed.
-    ensures given { OnOk result (CountedOn (N.given listener.old) (N.given listener.new) count) }
-    ensures counted { IfOk result (IsCounted count (N.lost listener.old) (N.lost listener.new)) }
+    ensures counted { IfOk result (AreAccepted count (N.given listener.old) (N.given listener.new)
+        (N.lost listener.old) (N.lost listener.new)) }
 
     // Each fault comes only by its cause.
-    ensures cause { IfErr result (λ fault. IfSome (S.left source.old) (λ bytes.
-        HasServeCause bytes (Rose (S.faults source.old) (S.faults source.new))
-        (Rose (N.faults listener.old) (N.faults listener.new)) fault)) }
-    ensures device { IfErr result (HasServeDeviceCause
+    ensures cause { IfErr result (ServeComesBy (S.left source.old)
         (Rose (S.faults source.old) (S.faults source.new))
         (Rose (N.faults listener.old) (N.faults listener.new))) }
     ensures never_falls { N.faults listener.old ≤ N.faults listener.new }
 
     // What each fault leaves.
-    ensures unserved { IfErr result (IfUnserved (listener.new ≡ listener.old)) }
-    ensures in_part { IfErr result (λ fault. IfSome (S.left source.old)
-        (λ bytes. LeavesServed bytes networks.now count
+    ensures leaves { IfErr result (LeavesListener (S.left source.old) networks.now count
         (record { given = N.given listener.old; finished = N.finished listener.old })
-        (record { given = N.given listener.new; finished = N.finished listener.new }) fault)) }
+        (record { given = N.given listener.new; finished = N.finished listener.new })
+        (listener.new ≡ listener.old)) }
 
     // What is still to come of the source.
     ensures left { IfSome (S.left source.old) (λ bytes.

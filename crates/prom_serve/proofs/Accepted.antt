@@ -1,5 +1,5 @@
 -- One connection after another.
-use Rattle.std.proofs.Common.{◌≡◌, ℕ, zero, suc, ◌+◌, ◌-◌, ◌%◌, ◌^◌, ◌<◌, ◌≤◌, ◌⊎◌, Bool, true, false, List, [], ◌∷◌, ◌++◌, Option, None, Some, length, take, sym, ap, subst, ◌∙◌, refl, inl, inr, arith, add-one, add-zero, add_assoc, length-append, append_assoc}
+use Rattle.std.proofs.Common.{◌≡◌, ℕ, zero, suc, ◌+◌, ◌-◌, ◌%◌, ◌^◌, ◌<◌, ◌⊎◌, Bool, true, false, List, [], ◌∷◌, ◌++◌, Option, None, Some, length, take, sym, ap, subst, ◌∙◌, refl, inl, inr, arith, add-one, add-zero, add_assoc, length-append, append_assoc}
 use Rattle.std.specs.Prelude.{IsTrue, IsSome, IfSome, All}
 use Rattle.metrics_core.specs.Outside.{GrewBy}
 use Rattle.std.proofs.Math.Nat.{mod-add-mod}
@@ -20,7 +20,7 @@ use Rattle.page_answers.specs.Connections.{Ended, Told, IsFresh, CountedOn}
 use Rattle.prom_serve.specs.Refusals.{excepted}
 use Rattle.prom_serve.specs.declared.errors.ServeError.{ServeError}
 use Rattle.prom_serve.specs.declared.errors.ServeError.TheVariants.{FailedToCreateHTTPListener, Memory}
-use Rattle.prom_serve.specs.Serving.{MayRender, StaysHome, Renders, IsAnsweredBy, IsAnsweredFirst, IsRendered, IsServed, IsShown, Listening, Accepts, AcceptsOne, ShowsPage}
+use Rattle.prom_serve.specs.Serving.{MayRender, StaysHome, Renders, IsAnsweredBy, IsAnsweredFirst, IsRendered, IsServed, IsShown, Listening, Accepts, AcceptsOne, AcceptsNone, Serves, ServesInPart, ShowsPage}
 
 -- ---- counts
 
@@ -119,7 +119,7 @@ served_shown networks moment exporter home ended served no_faults = by (served n
 all_shown : (networks : Option (List NetworkText)) (moment : ℕ) (exporter : Exporter) → AllHome exporter → (ended : List Ended) → All (IsServed networks moment exporter) ended → All (IsShown networks moment exporter) ended
 all_shown networks moment exporter home ended = All-weaker (IsServed networks moment exporter) (IsShown networks moment exporter) (served_shown networks moment exporter home) ended
 
-pub shows_page : (networks : Option (List NetworkText)) (moment accepted last : ℕ) (exporter left : Exporter) (old new : Listening) → Accepts networks moment accepted last exporter left old new
+shows_page : (networks : Option (List NetworkText)) (moment accepted last : ℕ) (exporter left : Exporter) (old new : Listening) → Accepts networks moment accepted last exporter left old new
     → ShowsPage networks moment accepted last exporter old.finished new.finished
 shows_page networks moment accepted last exporter left old new accepts home = by old.finished accepts.finished
   where
@@ -128,6 +128,13 @@ shows_page networks moment accepted last exporter left old new accepts home = by
         → IfSome o (λ before. (ended : List Ended) × (new.finished ≡ Some (before ++ ended)) × (length ended ≡ accepted) × All (IsShown networks moment exporter) (take (accepted - last) ended))
     by None none = tt
     by (Some before) (ended, is, long, all) = (ended, is, long, all_shown networks moment exporter home (take (accepted - last) ended) all)
+
+pub serves : (networks : Option (List NetworkText)) (moment accepted last : ℕ) (exporter left : Exporter) (old new : Listening) → Accepts networks moment accepted last exporter left old new
+    → Serves networks moment accepted last exporter left old new
+serves networks moment accepted last exporter left old new accepts = record {
+  accepts = accepts;
+  pages = shows_page networks moment accepted last exporter left old new accepts;
+}
 
 -- ---- connections
 
@@ -199,17 +206,17 @@ module _ (networks : Option (List NetworkText)) (moment : ℕ) where
       }
 
       -- none was accepted, and nothing changed
-      pub same_next : Accepts networks moment n 0 start old first now → new ≡ old → after.given ≡ now.given → after.finished ≡ now.finished → Accepts networks moment n 0 start new first after
-      same_next some is_exporter is_given is_finished = record {
-        given = rw is_given some.given;
-        renders = rw is_exporter some.renders;
-        finished = rw is_finished some.finished;
+      pub same_next : Accepts networks moment n 0 start old first now → AcceptsNone old new now after → Accepts networks moment n 0 start new first after
+      same_next some none = record {
+        given = rw none.given some.given;
+        renders = rw none.state some.renders;
+        finished = rw none.finished some.finished;
       }
 
       -- where the next one was refused
       pub refused_by : (error : ServeError) (count : ℕ) → n < count → Accepts networks moment n 0 start old first now
           → (error ≡ Memory → AcceptsOne networks moment false old new now after)
-          → (error ≡ FailedToCreateHTTPListener → new ≡ old) → (error ≡ FailedToCreateHTTPListener → after.given ≡ now.given) → (error ≡ FailedToCreateHTTPListener → after.finished ≡ now.finished)
-          → (accepted : ℕ) × (accepted ≤ count) × Accepts networks moment accepted (excepted error) start new first after
-      refused_by FailedToCreateHTTPListener count room some memory is_exporter is_given is_finished = (n, omega (arith, room), same_next some (is_exporter refl) (is_given refl) (is_finished refl))
-      refused_by Memory count room some memory is_exporter is_given is_finished = (n + 1, omega (arith, room), refused_next some (memory refl))
+          → (error ≡ FailedToCreateHTTPListener → AcceptsNone old new now after)
+          → ServesInPart networks moment count (excepted error) start new first after
+      refused_by FailedToCreateHTTPListener count room some memory failed = (n, omega (arith, room), serves networks moment n 0 start new first after (same_next some (failed refl)))
+      refused_by Memory count room some memory failed = (n + 1, omega (arith, room), serves networks moment (n + 1) 1 start new first after (refused_next some (memory refl)))

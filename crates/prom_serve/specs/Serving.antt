@@ -1,11 +1,12 @@
 -- What serving does to its connections, to its listener and to the exporter.
-use Rattle.std.specs.Prelude.{◌≡◌, ℕ, zero, suc, ◌-◌, ◌≤◌, ◌⊎◌, Bool, IsTrue, List, [], ◌∷◌, ◌++◌, length, take, Option, None, Some, IfSome, All}
+use Rattle.std.specs.Prelude.{◌≡◌, ℕ, zero, suc, ◌+◌, ◌-◌, ◌≤◌, ◌⊎◌, Bool, IsTrue, List, [], ◌∷◌, ◌++◌, length, take, Option, Some, IfSome, All}
 use Rattle.std.specs.declared.net.ip_addr.IpAddr.{IpAddr}
 use Rattle.net_addresses.specs.Addresses.{NetworkText}
 use Rattle.prom_exporter.specs.State.{page_step}
 use Rattle.prom_exporter.specs.Exporter.{Exporter, AllHome, AreTimely, state_of, written_body, written_page}
 use Rattle.prom_exporter.specs.Stepped.{Steps, DrainsEach, DrainsInPart}
 use Rattle.page_answers.specs.Connections.{Told, Ended, IsFresh, CountedOn}
+use Rattle.prom_serve.specs.declared.serving.Served.{Served}
 pub use Rattle.page_answers.specs.Asking.{IsAnswered}
 
 -- ---- renders
@@ -81,13 +82,38 @@ pub record AcceptsOne (networks : Option (List NetworkText)) (moment : ℕ) (was
       (ended : Ended) × (new.finished ≡ Some (before ++ ended ∷ []))
       × (IsTrue was_served → ended.faults ≡ 0 → IsAnsweredBy networks moment exporter_old exporter_new ended.who ended.told))
 
+-- no connection was accepted
+pub record AcceptsNone (exporter_old exporter_new : Exporter) (old new : Listening) : Type 0 where
+  -- the exporter is as it was
+  pub state : exporter_new ≡ exporter_old
+  -- no connection was given
+  pub given : new.given ≡ old.given
+  -- and none was given back
+  pub finished : new.finished ≡ old.finished
+
 -- Where no pass is out, each peer that was served saw the page of the exporter as it was.
 abbrev pub ShowsPage : Option (List NetworkText) → ℕ → ℕ → ℕ → Exporter → Option (List Ended) → Option (List Ended) → Type 0
 ShowsPage networks moment accepted last exporter old new =
     AllHome exporter → IfSome old (λ before.
     (ended : List Ended) × (new ≡ Some (before ++ ended)) × (length ended ≡ accepted) × All (IsShown networks moment exporter) (take (accepted - last) ended))
 
--- at most so many connections were accepted and given back, and so each peer of theirs but the last few
-abbrev pub ShowsPageInPart : Option (List NetworkText) → ℕ → ℕ → ℕ → Exporter → Listening → Listening → Type 0
-ShowsPageInPart networks moment count last exporter old new =
-    (accepted : ℕ) × (accepted ≤ count) × CountedOn old.given new.given accepted × ShowsPage networks moment accepted last exporter old.finished new.finished
+-- so many connections were served, but for the last few
+pub record Serves (networks : Option (List NetworkText)) (moment : ℕ) (accepted last : ℕ) (exporter_old exporter_new : Exporter) (old new : Listening) : Type 0 where
+  -- they were accepted and given back
+  pub accepts : Accepts networks moment accepted last exporter_old exporter_new old new
+  -- and, where no pass is out, each peer saw the page of the exporter as it was
+  pub pages : ShowsPage networks moment accepted last exporter_old old.finished new.finished
+
+-- at most so many were
+abbrev pub ServesInPart : Option (List NetworkText) → ℕ → ℕ → ℕ → Exporter → Exporter → Listening → Listening → Type 0
+ServesInPart networks moment count last exporter_old exporter_new old new =
+    (accepted : ℕ) × (accepted ≤ count) × Serves networks moment accepted last exporter_old exporter_new old new
+
+-- ---- counts
+
+-- what is answered of so many connections
+pub record IsCounted (count before after : ℕ) (served : Served) : Type 0 where
+  -- each was served or failed
+  pub total : served.served + served.failed ≡ count
+  -- and so many more were lost as failed
+  pub lost : CountedOn before after served.failed

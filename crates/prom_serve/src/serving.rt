@@ -1,12 +1,12 @@
 //! Serving the page.
 
-ghost use Rattle.std.specs.Prelude.{◌≡◌, ◌+◌, ◌≤◌, ◌↔◌, ◌⊎◌, ℕ, List, length, option_copied, IsTrue, IsSome, IfOk, IfErr, OnErr, OnOk, Err, true, false, if◌then◌else◌};
+ghost use Rattle.std.specs.Prelude.{◌≡◌, ◌≤◌, ◌↔◌, ◌⊎◌, ℕ, List, length, option_copied, IsTrue, IsSome, IfOk, IfErr, OnErr, OnOk, Err, true, false, if◌then◌else◌};
 ghost use Rattle.metrics_core.specs.Outside.{Rose};
 ghost use Rattle.prom_exporter.specs.Exporter.{AllHome};
 ghost use Rattle.page_answers.specs.Asked.{asked_text};
 ghost use Rattle.page_answers.specs.Connections.{CountedOn};
 ghost use Rattle.prom_serve.specs.Refusals.{excepted};
-ghost use Rattle.prom_serve.specs.Serving.{IsRendered, IsPageAt, MayRender, StaysHome, ShowsPage, ShowsPageInPart, IsAnsweredFirst, Accepts, AcceptsOne};
+ghost use Rattle.prom_serve.specs.Serving.{IsRendered, IsPageAt, MayRender, StaysHome, IsAnsweredFirst, AcceptsOne, AcceptsNone, IsCounted, Serves, ServesInPart};
 ghost use Rattle.prom_serve.specs.declared.serving.GivenUp.TheVariants as given_up;
 
 use crate::ServeError;
@@ -134,11 +134,10 @@ fn serve_next<R: Net<Listener = TcpListener, Stream = TcpStream> + Wait, N: List
         → AcceptsOne (option_copied allowed.entry) moment false state.old state.new
         (record { given = N.given listener.old; finished = N.finished listener.old })
         (record { given = N.given listener.new; finished = N.finished listener.new }) }
-    ensures state { result ≡ Err ServeError.FailedToCreateHTTPListener → state.new ≡ state.old }
-    ensures given { result ≡ Err ServeError.FailedToCreateHTTPListener
-        → N.given listener.new ≡ N.given listener.old }
-    ensures finished { result ≡ Err ServeError.FailedToCreateHTTPListener
-        → N.finished listener.new ≡ N.finished listener.old }
+    ensures refused { result ≡ Err ServeError.FailedToCreateHTTPListener
+        → AcceptsNone state.old state.new
+        (record { given = N.given listener.old; finished = N.finished listener.old })
+        (record { given = N.given listener.new; finished = N.finished listener.new }) }
     ensures cause { result ≡ Err ServeError.FailedToCreateHTTPListener
         → Rose (N.faults listener.old) (N.faults listener.new) }
     ensures never_falls { N.faults listener.old ≤ N.faults listener.new }
@@ -167,28 +166,19 @@ pub fn serve<R: Net<Listener = TcpListener, Stream = TcpStream> + Wait, N: Liste
     listener: &mut N,
     count: u32,
 ) -> Result<Served, ServeError>
-    ensures total { IfOk result (λ served. served.served + served.failed ≡ count) }
-    ensures lost { IfOk result (λ served. CountedOn (N.lost listener.old) (N.lost listener.new)
-        served.failed) }
-    ensures served { OnOk result (Accepts (option_copied allowed.entry) moment count 0 state.old
+    ensures counted { IfOk result (IsCounted count (N.lost listener.old) (N.lost listener.new)) }
+    ensures served { OnOk result (Serves (option_copied allowed.entry) moment count 0 state.old
         state.new
         (record { given = N.given listener.old; finished = N.finished listener.old })
         (record { given = N.given listener.new; finished = N.finished listener.new })) }
-    ensures refused { IfErr result (λ error. (accepted : ℕ) × (accepted ≤ count)
-        × Accepts (option_copied allowed.entry) moment accepted (excepted error) state.old state.new
+    ensures refused { IfErr result (λ error.
+        ServesInPart (option_copied allowed.entry) moment count (excepted error) state.old state.new
         (record { given = N.given listener.old; finished = N.finished listener.old })
         (record { given = N.given listener.new; finished = N.finished listener.new })) }
     ensures cause { result ≡ Err ServeError.FailedToCreateHTTPListener
         → Rose (N.faults listener.old) (N.faults listener.new) }
     ensures never_falls { N.faults listener.old ≤ N.faults listener.new }
     ensures home { AllHome state.old → StaysHome moment state.old state.new }
-    ensures pages { OnOk result (ShowsPage (option_copied allowed.entry) moment count 0 state.old
-        (N.finished listener.old) (N.finished listener.new)) }
-    ensures pages_in_part { IfErr result
-        (λ error. ShowsPageInPart (option_copied allowed.entry) moment count (excepted error)
-        state.old
-        (record { given = N.given listener.old; finished = N.finished listener.old })
-        (record { given = N.given listener.new; finished = N.finished listener.new })) }
 {
     let mut room = HeadRoom::new(alloc)?;
     let mut failed = 0;

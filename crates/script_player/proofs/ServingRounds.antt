@@ -1,5 +1,5 @@
 -- Rounds that are played one after another without pages between, and what is shown of the exporter behind them.
-use Rattle.std.proofs.Common.{◌≡◌, ℕ, zero, suc, ◌+◌, ◌-◌, ◌≤◌, ⊎_elim, List, [], ◌∷◌, ◌++◌, append-nil, length, take, refl, sym, ap, subst, ◌∙◌, arith}
+use Rattle.std.proofs.Common.{◌≡◌, ℕ, zero, suc, ◌+◌, ◌-◌, ⊎_elim, List, [], ◌∷◌, ◌++◌, append-nil, length, take, refl, sym, ap, subst, ◌∙◌, arith}
 use Rattle.std.specs.Prelude.{Option, Some, None, IfSome, All, ◌%◌, ◌^◌, Result, Ok, Err, IfErr, OnOk}
 use Rattle.std.proofs.lemmas.List.{take_all}
 use Rattle.std.proofs.lemmas.List.Elements.{All-nil}
@@ -10,7 +10,7 @@ use Rattle.prom_exporter.specs.Families.{ExporterSettings}
 use Rattle.prom_serve.specs.Connections.{Ended, CountedOn}
 use Rattle.prom_serve.specs.Refusals.{excepted}
 use Rattle.prom_exporter.proofs.TimelyPages.{timely_page}
-use Rattle.prom_serve.specs.Serving.{Accepts, IsRendered, Listening, MayRender, Renders, ShowsPage, ShowsPageInPart}
+use Rattle.prom_serve.specs.Serving.{IsRendered, Listening, MayRender, Renders, Serves, ServesInPart, ShowsPage}
 use Rattle.prom_serve.specs.declared.errors.ServeError.{ServeError}
 use Rattle.drive_script.specs.Script.{RoundText, ScriptText}
 use Rattle.script_player.specs.Flushes.{FlushPlay, IsFlushCalled, after_registers}
@@ -157,18 +157,17 @@ module _ (networks : List NetworkText) (asked : Option (List NetworkText)) (star
             (subst (λ a. ShowsPage a moment accepted last e old.finished new.finished) behind.asked_is shows),
       )
 
-  pub served_behind : {T E : Type 0} (r : Result T E) (count : ℕ) (f : Exporter) (old new : Listening) → IsBehind → OnOk r (Accepts asked moment count 0 e f old new)
-      → OnOk r (ShowsPage asked moment count 0 e old.finished new.finished)
+  pub served_behind : {T E : Type 0} (r : Result T E) (count : ℕ) (f : Exporter) (old new : Listening) → IsBehind → OnOk r (Serves asked moment count 0 e f old new)
       → OnOk r (ForSomeServed start rounds (λ play. Answers networks (body_shown settings (moment_from 0 rounds) play.prometheus) count 0 old new))
-  served_behind (Ok v) count f old new behind accepts shows = answers_behind count 0 old new behind accepts.given shows
-  served_behind (Err v) count f old new behind accepts shows = tt
+  served_behind (Ok v) count f old new behind serves = answers_behind count 0 old new behind serves.accepts.given serves.pages
+  served_behind (Err v) count f old new behind serves = tt
 
-  pub served_behind_in_part : {T : Type 0} (r : Result T ServeError) (count : ℕ) (old new : Listening) → IsBehind → IfErr r (λ error. ShowsPageInPart asked moment count (excepted error) e old new)
+  pub served_behind_in_part : {T : Type 0} (r : Result T ServeError) (count : ℕ) (f : Exporter) (old new : Listening) → IsBehind → IfErr r (λ error. ServesInPart asked moment count (excepted error) e f old new)
       → IfErr r (λ error. ForSomeServed start rounds (λ play. AnswersInPart networks (body_shown settings (moment_from 0 rounds) play.prometheus) count (excepted error) old new))
-  served_behind_in_part (Ok v) count old new behind shows = tt
-  served_behind_in_part (Err error) count old new behind shows =
-      let answered = answers_behind shows.0 (excepted error) old new behind shows.2 shows.3 in
-      (answered.0, answered.1, (shows.0, shows.1, answered.2))
+  served_behind_in_part (Ok v) count f old new behind part = tt
+  served_behind_in_part (Err error) count f old new behind (accepted, few, serves) =
+      let answered = answers_behind accepted (excepted error) old new behind serves.accepts.given serves.pages in
+      (answered.0, answered.1, (accepted, few, answered.2))
 
 -- ---- what serving leaves
 
@@ -185,7 +184,7 @@ renders_rest moment (suc most) e f rest (middle, before, last) =
     record { rest = then_on.rest; settings = then_on.settings ∙ first.settings }
 
 -- an exporter at rest is so behind connections, however they ended
-pub served_rests : {T : Type 0} (asked : Option (List NetworkText)) (moment count : ℕ) (e f : Exporter) (old new : Listening) (r : Result T ServeError) → AllRest e → OnOk r (Accepts asked moment count 0 e f old new)
-    → IfErr r (λ error. (accepted : ℕ) × (accepted ≤ count) × Accepts asked moment accepted (excepted error) e f old new) → RestsOn e f
-served_rests asked moment count e f old new (Ok v) rest all part = renders_rest moment count e f rest all.renders
-served_rests asked moment count e f old new (Err error) rest all (accepted, few, part) = renders_rest moment accepted e f rest part.renders
+pub served_rests : {T : Type 0} (asked : Option (List NetworkText)) (moment count : ℕ) (e f : Exporter) (old new : Listening) (r : Result T ServeError) → AllRest e → OnOk r (Serves asked moment count 0 e f old new)
+    → IfErr r (λ error. ServesInPart asked moment count (excepted error) e f old new) → RestsOn e f
+served_rests asked moment count e f old new (Ok v) rest all part = renders_rest moment count e f rest all.accepts.renders
+served_rests asked moment count e f old new (Err error) rest all (accepted, few, part) = renders_rest moment accepted e f rest part.accepts.renders

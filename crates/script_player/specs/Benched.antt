@@ -2,11 +2,13 @@
 use Rattle.std.specs.Prelude.{◌≡◌, ℕ, List, [], ◌∷◌, ◌++◌, Option, None}
 use Rattle.metrics_core.specs.Outside.{GrewBy, GrewByPrefix}
 use Rattle.prom_format.specs.Pages.{Family, IsPage}
+use Rattle.dsd_exporter.specs.declared.sending.FlushReport.{FlushReport}
 use Rattle.drive_script.specs.Script.{ScriptText}
-use Rattle.bench_scripts.specs.Bench.{bench_script}
+use Rattle.bench_scripts.specs.Bench.{bench_script, bench_settings_text}
 use Rattle.script_player.specs.Agent.{default_agent}
+use Rattle.script_player.specs.Flushes.{ForSomeFlushes, flush_start}
 use Rattle.script_player.specs.Play.{RoundOrders, AreOrders, pages_of}
-use Rattle.script_player.specs.Sent.{IsSent, LinkTold}
+use Rattle.script_player.specs.Sent.{Delivers, IsSent, LinkTold, none_sent}
 use Rattle.script_player.specs.declared.report.Report.{Report}
 
 -- For one order of the calls on each series in each round, the bytes are the last of the script's pages, ended by `# EOF`.
@@ -29,6 +31,13 @@ pub record IsBenchedInPart (count : ℕ) (written written' : Option (List ℕ)) 
   pub page : List ℕ
   pub last : IsLastPageOf (bench_script count) page
   pub grew : GrewByPrefix written written' page
+
+-- so many rounds of the generated script were played
+pub record PlaysBench (count : ℕ) (written written' : Option (List ℕ)) (told tells : LinkTold) (report : FlushReport) : Type 0 where
+  -- what the sink tells grew by the last page
+  pub page : IsBenched count written written'
+  -- and the link was handed the payloads of one flush a round, as the report says
+  pub sent : ForSomeFlushes bench_settings_text flush_start (bench_script count).rounds (λ flushes. Delivers bench_settings_text default_agent flushes told tells none_sent report)
 
 -- what a link tells that keeps nothing and never fails
 abbrev pub keeps_none : LinkTold

@@ -1,10 +1,15 @@
 -- Lanes that take their calls by a table of where the series of handles stand.
 use Rattle.std.specs.Prelude.{◌≡◌, ℕ, suc, ◌+◌, ◌<◌, Bool, false, List, [], ◌∷◌, Option, None, IfSome, All, flat_map, length, map, option_map, unwrap_or, slice_get}
-use Rattle.cell_lanes.specs.Lanes.{LineFit, cell_calls}
+use mathlib.Core.Option.{some}
+use lib.ListN.{get_elem?}
+use Rattle.cell_lanes.specs.declared.lane.Lane.{Lane}
+use Rattle.cell_lanes.specs.Lanes.{AllFit, LineFit, cell_calls}
+use Rattle.legal_history.specs.History.{Distinct}
 use Rattle.metrics_core.specs.declared.kinds.SeriesId.{SeriesId}
 use Rattle.exporter_lanes.specs.declared.exporters.Exporters.{Exporters}
+use Rattle.exporter_lanes.specs.declared.exporters.ExporterCall.{ExporterCall}
 use Rattle.exporter_lanes.specs.declared.exporters.ExporterCall.TheVariants as exporter
-use Rattle.exporter_lanes.specs.ExporterLanes.{first_prometheus}
+use Rattle.exporter_lanes.specs.ExporterLanes.{first_prometheus, things_of}
 use Rattle.prom_exporter.specs.LanePasses as P
 use Rattle.dsd_exporter.specs.LanePasses as D
 use Rattle.drive_script.specs.Texts.{call_line_of}
@@ -12,7 +17,7 @@ use Rattle.drive_script.specs.declared.script.CallLine.{CallLine}
 use Rattle.script_player.specs.declared.lanes.LaneCalls.{LaneCalls}
 use Rattle.script_player.specs.declared.lanes.Places.{Places}
 use Rattle.script_player.specs.Fitting.{FitsHandle}
-use Rattle.script_player.specs.LaneCalls.{AllAsked, AreInPlace, AreReady, IsOfKind, SeriesIds, call_asked, calls_at, gathered_asked, gathered_at, id_at, ids_of, is_place, lane_asks, lane_cells, lane_lines, on_both}
+use Rattle.script_player.specs.LaneCalls.{AllAsked, AreInPlace, AreReady, IsOfKind, SeriesIds, call_asked, calls_at, gathered_asked, gathered_at, id_at, ids_of, is_place, lane_asks, lane_cells, lane_lines, lane_number, numbered_asked, numbered_at, on_both}
 
 -- the id that a handle names, if any, is the one at an index
 abbrev pub names_index : List SeriesId → Option SeriesId → ℕ → Bool
@@ -73,3 +78,23 @@ pub record AreGathered (exporters : Exporters) (handles line_handles : List Seri
   pub prometheus : (j n : ℕ) → gathered_at (first_prometheus exporters + j) gathered n ≡ map exporter.Prometheus (calls_at moment (P.ids_of exporters.prometheus) handles n j calls)
   pub dogstatsd : (j n : ℕ) → j < first_prometheus exporters → gathered_at j gathered n ≡ map exporter.DogStatsD (calls_at moment (D.ids_of exporters.dogstatsd) line_handles n j calls)
   pub lines : (n : ℕ) → gathered_asked gathered n ≡ flat_map on_both (lane_asks moment n calls)
+
+-- the lanes of a round, as they can be run side by side
+pub record AreLanes (exporters : Exporters) (lanes : List (Lane ExporterCall)) : Type 0 where
+  -- each line is on a cell of its lane, or on none, and each cell is that of a series, once
+  pub fit : AllFit (length (things_of exporters)) lanes
+  -- each call is for the exporter of its series, and on the series' kind
+  pub asked : (l : ℕ) (lane : Lane ExporterCall) → get_elem? lanes l ≡ some lane → AllAsked (ids_of exporters) lane.cells.items lane.lines.items
+  -- no number is that of two lanes
+  pub numbers : Distinct (map lane_number lanes)
+  -- and no lane is without calls
+  pub busy : (i : ℕ) (lane : Lane ExporterCall) → get_elem? lanes i ≡ some lane → 0 < length lane.lines.items
+
+-- the lanes of a round at a moment have these calls, on the series that the handles name
+pub record HaveCalls (exporters : Exporters) (handles line_handles : List SeriesId) (moment : ℕ) (calls : List CallLine) (lanes : List (Lane ExporterCall)) : Type 0 where
+  -- those of each lane on each Prometheus series, in the script's order
+  pub prometheus : (j l : ℕ) → numbered_at (first_prometheus exporters + j) lanes l ≡ map exporter.Prometheus (calls_at moment (P.ids_of exporters.prometheus) handles l j calls)
+  -- those on each DogStatsD series
+  pub dogstatsd : (j l : ℕ) → j < first_prometheus exporters → numbered_at j lanes l ≡ map exporter.DogStatsD (calls_at moment (D.ids_of exporters.dogstatsd) line_handles l j calls)
+  -- and all calls of each lane, each on both
+  pub lines : (l : ℕ) → numbered_asked lanes l ≡ flat_map on_both (lane_asks moment l calls)

@@ -10,15 +10,17 @@ use Rattle.dsd_exporter.specs.Exporter.{Exporter as DogStatsDExporter, state_see
 use Rattle.dsd_exporter.specs.Resting.{AllRest as LinesRest}
 use Rattle.dsd_exporter.specs.State.{flush_items, flush_step}
 use Rattle.dsd_exporter.specs.declared.sending.FlushReport.{FlushReport}
-use Rattle.drive_script.specs.Script.{RoundText, SettingsText}
+use Rattle.drive_script.specs.Script.{RoundText, ScriptText, SettingsText}
 use Rattle.script_player.specs.Flushes.{ForSomeFlushOrders, ForSomeFlushes, after_flush, dogstatsd_settings, flush_of}
-use Rattle.script_player.specs.InPart.{EndsWithin}
-use Rattle.script_player.specs.Orders.{ForSomeOrders, ForSomeRounds, round_text}
+use Rattle.script_player.specs.InPart.{EndsWithin, IsCutOff}
+use Rattle.script_player.specs.Orders.{ForSomeOrders, ForSomeRounds, ForSomeRun, round_text}
 use Rattle.script_player.specs.Play.{after_round, exporter_settings}
 use Rattle.script_player.specs.Player.{PlayerText}
 use Rattle.script_player.specs.Resting.{AllRest}
-use Rattle.script_player.specs.Sent.{Delivers, IsReady, IsWritten, LinkTold}
+use Rattle.script_player.specs.Sent.{Delivers, IsReady, IsSent, IsWritten, LinkTold}
 use Rattle.script_player.specs.Timely.{IsTimelyState}
+use Rattle.script_player.specs.declared.flushes.Flushes.{Flushes}
+use Rattle.script_player.specs.declared.report.Report.{Report}
 
 -- ---- rounds
 
@@ -46,6 +48,22 @@ pub record PlaysRounds (rounds : List RoundText) (old new : PlayerText) (written
 pub record CutsRounds (rounds : List RoundText) (old : PlayerText) (written written' : Option (List ℕ)) (told tells : LinkTold) : Type 0 where
   pub prefix : ForSomeRounds old.settings old.pages rounds (GrewByPrefix written written')
   pub in_part : EndsWithin old.settings old.to old.pages old.flushes rounds written written' told tells old.report
+
+-- ---- a script
+
+-- a script was played whose payloads go to this address
+pub record PlaysScript (script : ScriptText) (to : RemoteText) (written written' : Option (List ℕ)) (told tells : LinkTold) (report : Report) : Type 0 where
+  -- for one order of the calls on each series in each round, what the sink tells grew by the pages
+  pub pages : ForSomeRun script (GrewBy written written')
+  -- and the link was handed the payloads of the flushes, as the report says
+  pub sent : IsSent script to told tells report
+
+-- its play was cut off
+pub record CutsScript (script : ScriptText) (to : RemoteText) (written written' : Option (List ℕ)) (told tells : LinkTold) : Type 0 where
+  -- what the sink tells grew by a prefix of those pages
+  pub prefix : ForSomeRun script (GrewByPrefix written written')
+  -- of which the link has the flushes of the whole ones, but for the last of them maybe
+  pub in_part : IsCutOff script to written written' told tells
 
 -- ---- the end of a round
 
@@ -98,3 +116,19 @@ pub record IsFlushed (moment : ℕ) (old new : DogStatsDExporter) (marks marks' 
   pub stepped : state_seen marks' new ≡ flush_step (state_seen marks old)
   pub written : (settings : SettingsText) (to : RemoteText) → IsReady settings to writer → old.settings ≡ dogstatsd_settings settings
       → IsWritten settings to (flush_items (dogstatsd_settings settings) settings.dsd_globals moment [] (state_seen marks old)) writer' left_out
+
+-- ---- both exporters
+
+-- both rest still
+pub record BothRestOn (pages pages' : PrometheusExporter) (lines lines' : DogStatsDExporter) (old new : Flushes) : Type 0 where
+  -- that of the pages, with the same settings
+  pub pages_rest : RestsOn pages pages'
+  -- and that of the flushes, with the same settings as what these go through, and nothing more was reported
+  pub lines_rest : FlushesOn lines lines' old.writer new.writer old.report new.report
+
+-- the page was written, and beside it the flush, of which so many points were left out
+pub record EndsBoth (moment : ℕ) (pages pages' : PrometheusExporter) (lines lines' : DogStatsDExporter) (old new : Flushes) (written written' : Option (List ℕ)) (left_out : ℕ) : Type 0 where
+  -- the page to the sink, behind its page step
+  pub shown : IsShown moment pages pages' written written'
+  -- and the flush into payloads, with its flush step
+  pub flushed : IsFlushed moment lines lines' old.marks new.marks old.writer new.writer left_out

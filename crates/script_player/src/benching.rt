@@ -66,13 +66,11 @@ fn report_of(pages: u32, flushes: FlushReport) -> Report
 impl Player {
     ghost use Rattle.std.specs.Prelude.{◌≡◌, ◌≤◌, IfErr, OnErr, OnOk, Some};
     ghost use Rattle.metrics_core.specs.Outside.{Rose};
-    ghost use Rattle.bench_scripts.specs.Bench.{bench_script, bench_settings_text};
+    ghost use Rattle.bench_scripts.specs.Bench.{bench_settings_text};
     ghost use Rattle.script_player.specs.Agent.{default_agent};
     ghost use Rattle.script_player.specs.Faults.{IsPlayFault};
-    ghost use Rattle.script_player.specs.Benched.{IsBenched, IsBenchedInPart};
-    ghost use Rattle.script_player.specs.Flushes.{ForSomeFlushes, flush_start};
+    ghost use Rattle.script_player.specs.Benched.{IsBenchedInPart, PlaysBench};
     ghost use Rattle.script_player.specs.Player.{first_player};
-    ghost use Rattle.script_player.specs.Sent.{Delivers, none_sent};
 
     /// Plays so many rounds of the generated script, up to the first that fails. The last page goes to the sink, and those before it nowhere.
     fn play_bench<R: Threads + Wait + Sync, G: Gate + Sync, K: Sink, L: Link>(
@@ -87,15 +85,11 @@ impl Player {
         requires count { (1 ≤ count) × (count ≤ 10000) }
         requires start { self.old ≡ first_player bench_settings_text default_agent }
         requires aimed { L.aimed link.old ≡ Some default_agent }
-        ensures written { OnOk result (IsBenched count (K.written out.old) (K.written out.new)) }
+        ensures played { OnOk result (PlaysBench count (K.written out.old) (K.written out.new)
+            (record { sent = L.sent link.old; faults = L.faults link.old })
+            (record { sent = L.sent link.new; faults = L.faults link.new }) self.new.report) }
         ensures prefix { OnErr result (IsBenchedInPart count
             (K.written out.old) (K.written out.new)) }
-        ensures sent { OnOk result (ForSomeFlushes bench_settings_text flush_start
-            (bench_script count).rounds
-            (λ flushes. Delivers bench_settings_text default_agent flushes
-            (record { sent = L.sent link.old; faults = L.faults link.old })
-            (record { sent = L.sent link.new; faults = L.faults link.new }) none_sent
-            self.new.report)) }
         ensures cause { IfErr result (IsPlayFault (Rose (K.faults out.old) (K.faults out.new))) }
         ensures never_falls { K.faults out.old ≤ K.faults out.new }
     {

@@ -1,23 +1,22 @@
 //! The lanes of a round: which series each one's calls are on, and the calls. Each call is made on both exporters, on the Prometheus
 //! series, where that is live, and then on the DogStatsD series.
 
-ghost use Rattle.std.specs.Prelude.{◌≡◌, ◌<◌, ◌++◌, ◌∷◌, ◌+◌, ◌==◌, ℕ, [], All, IfOk, IfSome, IsTrue, OnOk, Some, filter, flat_map, if◌then◌else◌, length, map, option_map, slice_get};
+ghost use Rattle.std.specs.Prelude.{◌≡◌, ◌<◌, ◌++◌, ◌∷◌, ◌+◌, ◌==◌, ℕ, [], All, IfOk, IfSome, IsTrue, OnOk, Some, filter, if◌then◌else◌, length, map, option_map, slice_get};
 ghost use Rattle.cell_lanes.specs.declared.lane.Lane.{Lane};
 ghost use mathlib.Core.Option.{some};
 ghost use lib.ListN.{get_elem?};
-ghost use Rattle.cell_lanes.specs.Lanes.{AllFit, LineFit, cell_calls};
+ghost use Rattle.cell_lanes.specs.Lanes.{LineFit, cell_calls};
 ghost use Rattle.legal_history.specs.History.{Distinct, keep};
 ghost use Rattle.metrics_registry.specs.Live.{IsNumbered};
 ghost use Rattle.prom_exporter.specs.LanePasses as P;
 ghost use Rattle.dsd_exporter.specs.LanePasses as D;
 ghost use Rattle.exporter_lanes.specs.declared.exporters.ExporterCall.{ExporterCall};
 ghost use Rattle.exporter_lanes.specs.declared.exporters.ExporterCall.TheVariants as exporter;
-ghost use Rattle.exporter_lanes.specs.ExporterLanes.{first_prometheus, things_of};
 ghost use Rattle.drive_script.specs.Script.{kind_of};
 ghost use Rattle.drive_script.specs.Texts.{act_of, call_line_of};
 ghost use Rattle.script_player.specs.Fitting.{FitsHandle};
-ghost use Rattle.script_player.specs.LaneTables.{AreGathered, IsLaneOf, IsPlaceOf, places_of};
-ghost use Rattle.script_player.specs.LaneCalls.{AllAsked, AreInPlace, AreReady, AreWith, AsksKind, IsOfKind, PlacesAsk, SeriesIds, asked, both_at, call_asked, calls_at, gathered_asked, gathered_at, gathered_parts, has_lines, ids_of, is_at, is_place, lane_asks, lane_cells, lane_lines, lane_number, numbered_asked, numbered_at, on_both, parts_of};
+ghost use Rattle.script_player.specs.LaneTables.{AreGathered, AreLanes, HaveCalls, IsLaneOf, IsPlaceOf, places_of};
+ghost use Rattle.script_player.specs.LaneCalls.{AllAsked, AreInPlace, AreReady, AreWith, AsksKind, IsOfKind, PlacesAsk, SeriesIds, asked, both_at, call_asked, gathered_asked, gathered_at, gathered_parts, has_lines, ids_of, is_at, is_place, lane_cells, lane_lines, on_both, parts_of};
 
 use crate::lane_tasks::gather_beside;
 use cell_lanes::{Lane, Line};
@@ -58,24 +57,9 @@ pub(crate) fn lanes_of<R: Threads + Sync>(
 ) -> Result<Vec<Lane<ExporterCall>>, Memory>
     requires fit { All (λ line. FitsHandle handles.now (call_line_of line)) calls.now }
     requires line_fit { All (λ line. FitsHandle line_handles.now (call_line_of line)) calls.now }
-    ensures fit { IfOk result (λ lanes. AllFit (length (things_of exporters.now)) lanes.items) }
-    ensures asked { IfOk result (λ lanes. (l : ℕ) (lane : Lane ExporterCall)
-        → get_elem? lanes.items l ≡ some lane
-        → AllAsked (ids_of exporters.now) lane.cells.items lane.lines.items) }
-    ensures numbers { IfOk result (λ lanes. Distinct (map lane_number lanes.items)) }
-    ensures prometheus { IfOk result (λ lanes. (j l : ℕ)
-        → numbered_at (first_prometheus exporters.now + j) lanes.items l
-        ≡ map exporter.Prometheus
-        (calls_at moment (P.ids_of exporters.now.prometheus) handles.now l j calls.now)) }
-    ensures dogstatsd { IfOk result (λ lanes. (j l : ℕ)
-        → j < first_prometheus exporters.now
-        → numbered_at j lanes.items l
-        ≡ map exporter.DogStatsD
-        (calls_at moment (D.ids_of exporters.now.dogstatsd) line_handles.now l j calls.now)) }
-    ensures lines { IfOk result (λ lanes. (l : ℕ) → numbered_asked lanes.items l
-        ≡ flat_map on_both (lane_asks moment l calls.now)) }
-    ensures busy { IfOk result (λ lanes. (i : ℕ) (lane : Lane ExporterCall)
-        → get_elem? lanes.items i ≡ some lane → 0 < length lane.lines.items) }
+    ensures lanes { IfOk result (λ lanes. AreLanes exporters.now lanes.items) }
+    ensures calls { IfOk result (λ lanes.
+        HaveCalls exporters.now handles.now line_handles.now moment calls.now lanes.items) }
     ensures numbered { IsNumbered exporters.now.dogstatsd.series }
 {
     let gathered = gathered_of(

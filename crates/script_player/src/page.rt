@@ -6,7 +6,7 @@ ghost use Rattle.prom_format.specs.Pages.{page_text};
 ghost use Rattle.prom_exporter.specs.Exporter.{page_families};
 ghost use Rattle.dsd_exporter.specs.Resting.{AllRest as LinesRest};
 ghost use Rattle.script_player.specs.Faults.{IsPlayFault};
-ghost use Rattle.script_player.specs.Rounds.{CanShow, FlushesOn, IsFlushed, IsShown, RestsOn};
+ghost use Rattle.script_player.specs.Rounds.{BothRestOn, CanShow, EndsBoth, IsShown, RestsOn};
 
 use crate::both::join_if;
 use crate::flushes::Flushes;
@@ -35,17 +35,12 @@ pub(crate) fn write_both<R: Threads + Wait + Sync, K: Sink>(
 ) -> Result<u64, DriveFault>
     requires pages { CanShow moment pages.old }
     requires lines { LinesRest lines.old }
-    ensures pages { RestsOn pages.old pages.new }
-    ensures lines { FlushesOn lines.old lines.new flushes.old.writer flushes.new.writer
-        flushes.old.report flushes.new.report }
-    ensures shown { OnOk result (IsShown moment pages.old pages.new
-        (K.written out.old) (K.written out.new)) }
+    ensures rest { BothRestOn pages.old pages.new lines.old lines.new flushes.old flushes.new }
+    ensures ended { IfOk result (EndsBoth moment pages.old pages.new lines.old lines.new
+        flushes.old flushes.new (K.written out.old) (K.written out.new)) }
     ensures prefix { OnErr result
         (GrewByPrefix (K.written out.old) (K.written out.new) (page_text
         (page_families moment pages.old))) }
-    ensures flushed { IfOk result
-        (IsFlushed moment lines.old lines.new flushes.old.marks flushes.new.marks flushes.old.writer
-        flushes.new.writer) }
     ensures cause { IfErr result (IsPlayFault (Rose (K.faults out.old) (K.faults out.new))) }
     ensures never_falls { K.faults out.old ≤ K.faults out.new }
 {

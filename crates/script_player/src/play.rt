@@ -1,13 +1,11 @@
 //! The play of a script: what each round does to both exporters, the page that it writes, and the flush that it sends.
 
-ghost use Rattle.std.specs.Prelude.{◌≡◌, ◌≤◌, IfOk, IfErr, OnOk, OnErr, Some};
-ghost use Rattle.metrics_core.specs.Outside.{Rose, GrewBy, GrewByPrefix};
+ghost use Rattle.std.specs.Prelude.{◌≡◌, ◌≤◌, IfOk, IfErr, OnErr, Some};
+ghost use Rattle.metrics_core.specs.Outside.{Rose};
 ghost use Rattle.dsd_addresses.specs.Remotes.{remote_text};
 ghost use Rattle.drive_script.specs.Texts.{script_of};
 ghost use Rattle.script_player.specs.Faults.{CanPlay, IsPlayFault};
-ghost use Rattle.script_player.specs.Orders.{ForSomeRun};
-ghost use Rattle.script_player.specs.InPart.{IsCutOff};
-ghost use Rattle.script_player.specs.Sent.{IsSent};
+ghost use Rattle.script_player.specs.Rounds.{CutsScript, PlaysScript};
 
 use crate::flushes::{Flushes, lines_exporter};
 use crate::gates::GateHook;
@@ -48,14 +46,11 @@ pub fn play_script<R: Threads + Wait + Sync, G: Gate + Sync, K: Sink, L: Link>(
 ) -> Result<Report, DriveFault>
     requires can { CanPlay (remote_text to.now) (script_of script) }
     requires aimed { L.aimed link.old ≡ Some (remote_text to.now) }
-    ensures pages { OnOk result (ForSomeRun (script_of script) (GrewBy
-        (K.written out.old) (K.written out.new))) }
-    ensures prefix { OnErr result
-        (ForSomeRun (script_of script) (GrewByPrefix (K.written out.old) (K.written out.new))) }
-    ensures sent { IfOk result (IsSent (script_of script) (remote_text to.now)
+    ensures played { IfOk result (PlaysScript (script_of script) (remote_text to.now)
+        (K.written out.old) (K.written out.new)
         (record { sent = L.sent link.old; faults = L.faults link.old })
         (record { sent = L.sent link.new; faults = L.faults link.new })) }
-    ensures in_part { OnErr result (IsCutOff (script_of script) (remote_text to.now)
+    ensures cut { OnErr result (CutsScript (script_of script) (remote_text to.now)
         (K.written out.old) (K.written out.new)
         (record { sent = L.sent link.old; faults = L.faults link.old })
         (record { sent = L.sent link.new; faults = L.faults link.new })) }

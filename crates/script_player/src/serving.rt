@@ -1,9 +1,9 @@
 //! Serving the page of a script: its rounds are played without pages between, and those who fetch the page are answered.
 
-ghost use Rattle.std.specs.Prelude.{◌≡◌, ◌+◌, ◌≤◌, option_copied, IfErr, IfOk, OnOk};
+ghost use Rattle.std.specs.Prelude.{◌≡◌, ◌≤◌, option_copied, IfErr, IfOk, OnOk};
 ghost use Rattle.metrics_core.specs.Outside.{Rose};
-ghost use Rattle.prom_serve.specs.Connections.{CountedOn};
 ghost use Rattle.prom_serve.specs.Refusals.{excepted};
+ghost use Rattle.prom_serve.specs.Serving.{IsCounted};
 ghost use Rattle.drive_script.specs.Texts.{script_of};
 ghost use Rattle.script_player.specs.Agent.{default_agent};
 ghost use Rattle.script_player.specs.Faults.{CanPlay};
@@ -48,9 +48,7 @@ pub fn play_and_serve<
         (λ page. AnswersInPart networks.now page count (excepted error)
         (record { given = N.given listener.old; finished = N.finished listener.old })
         (record { given = N.given listener.new; finished = N.finished listener.new }))) }
-    ensures total { IfOk result (λ served. served.served + served.failed ≡ count) }
-    ensures lost { IfOk result (λ served. CountedOn (N.lost listener.old)
-        (N.lost listener.new) served.failed) }
+    ensures counted { IfOk result (IsCounted count (N.lost listener.old) (N.lost listener.new)) }
     ensures cause { IfErr result (HasListenerCause
         (Rose (N.faults listener.old) (N.faults listener.new))) }
     ensures never_falls { N.faults listener.old ≤ N.faults listener.new }
@@ -63,10 +61,10 @@ pub fn play_and_serve<
 }
 
 impl Player {
-    ghost use Rattle.std.specs.Prelude.{◌≡◌, ◌+◌, ◌≤◌, [], ◌∷◌, map, IfErr, IfOk, OnOk};
+    ghost use Rattle.std.specs.Prelude.{◌≡◌, ◌≤◌, [], ◌∷◌, map, IfErr, IfOk, OnOk};
     ghost use Rattle.metrics_core.specs.Outside.{Rose};
-    ghost use Rattle.prom_serve.specs.Connections.{CountedOn};
     ghost use Rattle.prom_serve.specs.Refusals.{excepted};
+    ghost use Rattle.prom_serve.specs.Serving.{IsCounted};
     ghost use Rattle.drive_script.specs.Texts.{round_of};
     ghost use Rattle.script_player.specs.Flushes.{after_registers};
     ghost use Rattle.script_player.specs.Orders.{ForSomeOrders};
@@ -99,9 +97,8 @@ impl Player {
             (λ page. AnswersInPart networks.now page count (excepted error)
             (record { given = N.given listener.old; finished = N.finished listener.old })
             (record { given = N.given listener.new; finished = N.finished listener.new }))) }
-        ensures total { IfOk result (λ served. served.served + served.failed ≡ count) }
-        ensures lost { IfOk result (λ served. CountedOn (N.lost listener.old)
-            (N.lost listener.new) served.failed) }
+        ensures counted { IfOk result (IsCounted count (N.lost listener.old)
+            (N.lost listener.new)) }
         ensures cause { IfErr result (HasListenerCause
             (Rose (N.faults listener.old) (N.faults listener.new))) }
         ensures never_falls { N.faults listener.old ≤ N.faults listener.new }

@@ -13,7 +13,7 @@ use Rattle.shared_turns.specs.Passes.{Waits}
 use Rattle.shared_recorder.specs.declared.entries.RecorderEntry.{RecorderEntry}
 use Rattle.shared_recorder.specs.Stands.{KnowsBuilt}
 use Rattle.shared_recorder.proofs.Beside.{beside}
-use Rattle.shared_beside.specs.Beside.{Registers, RegistersBoth, RegistersOneAtMost}
+use Rattle.shared_beside.specs.Beside.{AreRegistered, Registers, RegistersBoth, RegistersOneAtMost}
 
 pub both_registered : (kind : MetricKind) (a b : KeyText) (i j : Result SeriesId Memory) (r s t p q v w x : View RecorderEntry) → s ≡ lender r → p ≡ child r → t ≡ lender s → q ≡ child s
     → Registers kind a i p v → Registers kind b j q w → Waits (taker (taker t v) w) x → RegistersBoth kind a b i j r x
@@ -35,11 +35,11 @@ module _ (kind : MetricKind) (a b : KeyText) (v w : View RecorderEntry) where
     both_ids : (ids : SeriesId × SeriesId) → (i ≡ Ok ids.0) × (j ≡ Ok ids.1) → RegistersBoth kind a b (Ok ids.0) (Ok ids.1) v w
     both_ids ids is = subst (λ m. RegistersBoth kind a b m (Ok ids.1) v w) is.0 (subst (λ n. RegistersBoth kind a b i n v w) is.1 both)
 
-    pub both_made : IfOk r (λ ids. (i ≡ Ok ids.0) × (j ≡ Ok ids.1)) → IfOk r (λ ids. RegistersBoth kind a b (Ok ids.0) (Ok ids.1) v w)
-    both_made ok = IfOk-weaker r _ _ both_ids ok
-
-    pub one_made : IfOk r (λ ids. (i ≡ Ok ids.0) × (j ≡ Ok ids.1)) → (e : Exporter) → KnowsBuilt e v → e.settings.idle ≡ None → key_eq a b ≡ true → IfOk r (λ ids. ids.0 ≡ ids.1)
-    one_made ok e built never same = IfOk-weaker r _ _ (λ ids is. one_number e ids.0 ids.1 built never same (both_ids ids is)) ok
+    pub both_made : IfOk r (λ ids. (i ≡ Ok ids.0) × (j ≡ Ok ids.1)) → IfOk r (λ ids. AreRegistered kind a b ids.0 ids.1 v w)
+    both_made ok = IfOk-weaker r _ _ (λ ids is. record {
+      both = both_ids ids is;
+      one_id = λ e built never same. one_number e ids.0 ids.1 built never same (both_ids ids is);
+    }) ok
 
     pub one_refused : OnErr r ((is_err i || is_err j) ≡ true) → OnErr r (RegistersOneAtMost kind a b v w)
     one_refused refused = on_err_weaker r (λ e. (i, j, e, both)) refused

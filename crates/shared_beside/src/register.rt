@@ -1,13 +1,10 @@
 //! Two registrations beside each other.
 
-ghost use Rattle.std.specs.Prelude.{◌≡◌, ◌+◌, ◌<◌, ◌^◌, ◌||◌, true, None, Ok, is_err, IfOk, OnErr};
-ghost use Rattle.metrics_core.specs.Keys.{key_eq};
+ghost use Rattle.std.specs.Prelude.{◌≡◌, ◌+◌, ◌<◌, ◌^◌, ◌||◌, true, Ok, is_err, IfOk, OnErr};
 ghost use Rattle.legal_history.specs.History.{taker};
 ghost use Rattle.shared_turns.specs.Passes.{view_of, Waits};
-ghost use Rattle.prom_exporter.specs.Exporter.{Exporter};
 ghost use Rattle.shared_recorder.specs.Recorder.{IsPass};
-ghost use Rattle.shared_recorder.specs.Stands.{KnowsBuilt};
-ghost use Rattle.shared_beside.specs.Beside.{IsLent, RegistersBoth, RegistersOneAtMost};
+ghost use Rattle.shared_beside.specs.Beside.{AreRegistered, IsLent, RegistersBoth, RegistersOneAtMost};
 
 use crate::registration::KeyRegistration;
 use metrics_core::{Key, Memory, MetricKind, SeriesId};
@@ -99,11 +96,8 @@ pub fn register_beside<R: Threads + Wait + Sync>(
     requires few { root.old.splits + 3 < 2 ^ 64 }
     ensures pass { IsPass recorder.now root.new }
     ensures splits { root.new.splits ≡ root.old.splits + 2 }
-    ensures both { IfOk result (λ ids.
-        RegistersBoth kind one other (Ok ids.0) (Ok ids.1) (view_of root.old) (view_of root.new)) }
-    ensures one_id { (e : Exporter) → KnowsBuilt e (view_of root.old) → e.settings.idle ≡ None
-        → key_eq one other ≡ true
-        → IfOk result (λ ids. ids.0 ≡ ids.1) }
+    ensures registered { IfOk result (λ ids.
+        AreRegistered kind one other ids.0 ids.1 (view_of root.old) (view_of root.new)) }
     ensures refused { OnErr result (RegistersOneAtMost kind one other (view_of root.old)
         (view_of root.new)) }
 {

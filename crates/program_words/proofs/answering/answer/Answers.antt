@@ -1,4 +1,4 @@
-use Rattle.std.proofs.Common.{inl, inr, subst, sym}
+use Rattle.std.proofs.Common.{inl, inr, refl, subst, sym}
 use Rattle.program_words.specs.Devices.{SinkRun, sink_run}
 use Rattle.program_words.specs.Statuses.{status_number}
 use Rattle.program_words.specs.Words.{IsTold}
@@ -12,7 +12,10 @@ pub returns-in-Some-clause-told : goal.returns-in-Some-clause-told
 returns-in-Some-clause-told g c = λ text asks.
     let out : SinkRun = sink_run g.K.Sink.written g.K.Sink.faults c.args.out.now c.tell.new.out in
     let err : SinkRun = sink_run g.E.Sink.written g.E.Sink.faults c.args.err.now c.tell.new.err in
-    subst (λ n. IsTold text out err n) (sym c.number.ensures) (subst (λ t. IsTold t out err (status_number c.tell.result)) (asked_once _ _ text c.in-Some.ensures asks) c.tell.ensures)
+    record {
+      told = subst (λ n. IsTold text out err n) (sym c.number.ensures) (subst (λ t. IsTold t out err (status_number c.tell.result)) (asked_once _ _ text c.in-Some.ensures asks) c.tell.ensures);
+      untouched = (refl, refl, refl);
+    }
 
 pub returns-in-Some-clause-headline : goal.returns-in-Some-clause-headline
 returns-in-Some-clause-headline g c = λ drives ended. absurd (no_form _ _ c.in-Some.ensures (inl drives))
@@ -29,19 +32,13 @@ returns-in-Some-clause-bench g c = λ count benches. absurd (no_form _ _ c.in-So
 pub returns-in-Some-clause-streams : goal.returns-in-Some-clause-streams
 returns-in-Some-clause-streams g c = no_stream _ _ _ _ _ (λ streams. no_form _ _ c.in-Some.ensures (inr (inr (inr streams))))
 
-pub returns-in-Some-clause-statuses : goal.returns-in-Some-clause-statuses
-returns-in-Some-clause-statuses g c = λ none. absurd (none _ c.in-Some.ensures)
-
-pub returns-in-Some-clause-others : goal.returns-in-Some-clause-others
-returns-in-Some-clause-others g c = λ none. absurd (none _ c.in-Some.ensures)
+pub returns-in-Some-clause-all : goal.returns-in-Some-clause-all
+returns-in-Some-clause-all g c = λ none. absurd (none _ c.in-Some.ensures)
 
 -- ---- no text was
 
 pub returns-in-None-clause-told : goal.returns-in-None-clause-told
 returns-in-None-clause-told g c = λ text asks. absurd (c.in-None.ensures text asks)
-
-pub returns-in-None-clause-untouched : goal.returns-in-None-clause-untouched
-returns-in-None-clause-untouched g c = λ text asks. absurd (c.in-None.ensures text asks)
 
 pub returns-in-None-clause-headline : goal.returns-in-None-clause-headline
 returns-in-None-clause-headline g c = c.run.ensures.headline
@@ -58,8 +55,5 @@ returns-in-None-clause-bench g c = c.run.ensures.bench
 pub returns-in-None-clause-streams : goal.returns-in-None-clause-streams
 returns-in-None-clause-streams g c = c.run.ensures.streams
 
-pub returns-in-None-clause-statuses : goal.returns-in-None-clause-statuses
-returns-in-None-clause-statuses g c = λ none. c.run.ensures.statuses
-
-pub returns-in-None-clause-others : goal.returns-in-None-clause-others
-returns-in-None-clause-others g c = λ none. c.run.ensures.others
+pub returns-in-None-clause-all : goal.returns-in-None-clause-all
+returns-in-None-clause-all g c = λ none. record { statuses = c.run.ensures.statuses; others = c.run.ensures.others }

@@ -1,21 +1,21 @@
-use Rattle.std.proofs.Common.{◌∙◌, [], refl, arith}
+use Rattle.std.proofs.Common.{◌≡◌, ◌∙◌, [], refl, arith}
 use Rattle.std.specs.Prelude.{IfSome}
-use Rattle.std.proofs.lemmas.Result.{IfOk-weaker, on_ok_weaker}
+use Rattle.std.proofs.lemmas.Result.{IfOk-weaker}
 use Rattle.dsd_addresses.specs.Remotes.{remote_text}
 use Rattle.drive_script.specs.declared.faults.DriveFault.TheVariants as faults
 use Rattle.script_player.specs.Flushes.{flush_start}
-use Rattle.script_player.specs.InPart.{IsCutOff}
 use Rattle.script_player.specs.Play.{play_start}
+use Rattle.script_player.specs.Rounds.{CutsScript}
 use Rattle.script_player.specs.Sent.{IsSent, LinkTold, none_sent}
 use Rattle.script_player.proofs.Delivered.{sent-earlier}
 use Rattle.script_player.proofs.PagesSoFar.{ends_within-earlier}
 use Rattle.metrics_core.specs.Outside.{Rose}
 use Rattle.drive_script.specs.Texts.{script_of}
 use Rattle.script_player.specs.Faults.{IsPlayFault}
-use Rattle.program_words.specs.Answers.{IfUnplayed, IsAimed, LeavesInPart, LeavesPrefix, LeavesSource, end_status}
-use Rattle.program_words.proofs.DriveSteps.{complete_handed_on, cut_off, err_with, good_answers, now_aimed, play_ends, play_reads, played_on, played_prefix, played_whole, refused_answers, refused_in_part, reported, status_handed_on, still_aimed, unaimed_in_part, unplayed_by, unread_aimed, unread_answers, unread_in_part}
+use Rattle.program_words.specs.Answers.{ComesBy, IsAimed, LeavesRun, LeavesSource, end_status}
+use Rattle.program_words.proofs.DriveSteps.{complete_handed_on, cut_leaves, err_with, good_answers, memory_comes, now_aimed, play_comes, play_ends, play_reads, played_whole, refused_answers, refused_leaves, reported, setting_refused, status_handed_on, still_aimed, unaimed_leaves, unread_aimed, unread_answers, unread_comes, unread_leaves}
 use Rattle.program_words.proofs.ReadingSteps.{read_out}
-use Rattle.script_player.proofs.Returned.{if_handed_on}
+use Rattle.script_player.proofs.Returned.{if_handed_on, when_returned}
 use Rattle.program_words.proofs.RecordedRounds.{script_records}
 use Rattle.script_player.proofs.TimelyRounds.{rise_from_start}
 use Rattle.program_words.proofs.driving.drive.Goals as goal
@@ -37,15 +37,13 @@ returns-in_err-script-clause-complete g c =
 pub returns-clause-played : goal.returns-clause-played
 returns-clause-played g c =
     let read = c.in_ok-script.ensures.read in
-    on_ok_weaker c.play_script.result (played_whole _ _ read.bytes (script_of c.in_ok-script.script) _ _ read.whole read.good c.in_ok-check_settings.ensures.allowed) c.play_script.ensures.pages
+    when_returned c.play_script.result c.play_script.ensures.played (λ report played. played_whole _ _ read.bytes (script_of c.in_ok-script.script) _ _ read.whole read.good c.in_ok-check_settings.ensures.allowed played.pages)
 
-pub returns-clause-prefix : goal.returns-clause-prefix
-returns-clause-prefix g c =
-    let read = c.in_ok-script.ensures.read in
-    let left = g.S.Source.left c.args.source.now in
-    let Failed : Type 0 = Rose (g.K.Sink.faults c.args.out.now) (g.K.Sink.faults c.play_script.new.out) in
-    err_with c.play_script.result _ (IsPlayFault Failed) (λ fault. IfSome left (λ bytes. LeavesPrefix (remote_text c.args.to.now) bytes (g.K.Sink.written c.args.out.now) (g.K.Sink.written c.play_script.new.out) fault)) c.play_script.ensures.prefix c.play_script.ensures.cause
-    (λ fault grew cause. played_prefix _ left read.bytes (script_of c.in_ok-script.script) _ _ Failed fault read.whole read.good c.in_ok-check_settings.ensures.allowed grew cause)
+pub returns-clause-cause : goal.returns-clause-cause
+returns-clause-cause g c =
+    let SourceFailed : Type 0 = Rose (g.S.Source.faults c.args.source.now) (g.S.Source.faults c.read_whole_script.new.source) in
+    let SinkFailed : Type 0 = Rose (g.K.Sink.faults c.args.out.now) (g.K.Sink.faults c.play_script.new.out) in
+    play_comes (remote_text c.args.to.now) (g.S.Source.left c.args.source.now) SourceFailed SinkFailed c.play_script.result c.play_script.ensures.cause
 
 pub returns-clause-complete : goal.returns-clause-complete
 returns-clause-complete g c =
@@ -71,10 +69,10 @@ returns-clause-sent g c =
     let tells : LinkTold = record { sent = g.L.Link.sent c.play_script.new.link; faults = g.L.Link.faults c.play_script.new.link } in
     let script = script_of c.in_ok-script.script in
     reported _ read.bytes script _ told tells c.play_script.result read.whole read.good c.in_ok-check_settings.ensures.allowed
-    (IfOk-weaker c.play_script.result (IsSent script _ aimed tells) (IsSent script _ told tells) (λ report sent. sent-earlier script _ told aimed tells report c.in_ok-aim.ensures.sent c.in_ok-aim.ensures.never_falls sent) c.play_script.ensures.sent)
+    (IfOk-weaker c.play_script.result _ (IsSent script _ told tells) (λ report played. sent-earlier script _ told aimed tells report c.in_ok-aim.ensures.sent c.in_ok-aim.ensures.never_falls played.sent) c.play_script.ensures.played)
 
-pub returns-clause-in_part : goal.returns-clause-in_part
-returns-clause-in_part g c =
+pub returns-clause-leaves : goal.returns-clause-leaves
+returns-clause-leaves g c =
     let read = c.in_ok-script.ensures.read in
     let to = remote_text c.args.to.now in
     let left = g.S.Source.left c.args.source.now in
@@ -85,13 +83,14 @@ returns-clause-in_part g c =
     let tells : LinkTold = record { sent = g.L.Link.sent c.play_script.new.link; faults = g.L.Link.faults c.play_script.new.link } in
     let script = script_of c.in_ok-script.script in
     let Failed : Type 0 = Rose (g.K.Sink.faults c.args.out.now) (g.K.Sink.faults c.play_script.new.out) in
-    err_with c.play_script.result (IsCutOff script to written written_now aimed tells) (IsPlayFault Failed) (λ fault. IfSome left (λ bytes. LeavesInPart to bytes written written_now told tells fault))
-    c.play_script.ensures.in_part c.play_script.ensures.cause
-    (λ fault ended cause. cut_off to left read.bytes script written written_now told tells Failed fault read.whole read.good c.in_ok-check_settings.ensures.allowed
-    (ends_within-earlier script.settings to play_start flush_start script.rounds written written_now told aimed tells none_sent c.in_ok-aim.ensures.sent c.in_ok-aim.ensures.never_falls ended) cause)
-
-pub returns-clause-unsent : goal.returns-clause-unsent
-returns-clause-unsent g c = played_on _ _ c.play_script.result c.play_script.ensures.cause
+    let SameLink : Type 0 = c.play_script.new.link ≡ c.args.link.now in
+    err_with c.play_script.result (CutsScript script to written written_now aimed tells) (IsPlayFault Failed) (LeavesRun to left written written_now told tells SameLink)
+    c.play_script.ensures.cut c.play_script.ensures.cause
+    (λ fault cut cause. cut_leaves to left read.bytes script written written_now told tells Failed SameLink fault read.whole read.good c.in_ok-check_settings.ensures.allowed
+    (record {
+      prefix = cut.prefix;
+      in_part = ends_within-earlier script.settings to play_start flush_start script.rounds written written_now told aimed tells none_sent c.in_ok-aim.ensures.sent c.in_ok-aim.ensures.never_falls cut.in_part;
+    }) cause)
 
 pub returns-clause-devices : goal.returns-clause-devices
 returns-clause-devices g c = record {
@@ -103,17 +102,25 @@ returns-clause-devices g c = record {
 
 -- ---- no script was read
 
-pub returns-in_err-script-clause-unsent : goal.returns-in_err-script-clause-unsent
-returns-in_err-script-clause-unsent g c = if_handed_on c.from_residual.result _ (IfUnplayed _) c.from_residual.ensures.1 (unplayed_by _ c.in_err-script.field-0.0 refl)
+pub returns-in_err-script-clause-cause : goal.returns-in_err-script-clause-cause
+returns-in_err-script-clause-cause g c =
+    let to = remote_text c.args.to.now in
+    let left = g.S.Source.left c.args.source.now in
+    let SourceFailed : Type 0 = Rose (g.S.Source.faults c.args.source.now) (g.S.Source.faults c.read_whole_script.new.source) in
+    let SinkFailed : Type 0 = Rose (g.K.Sink.faults c.args.out.now) (g.K.Sink.faults c.args.out.now) in
+    if_handed_on c.from_residual.result _ (ComesBy to left SourceFailed SinkFailed) c.from_residual.ensures.1
+    (unread_comes to left SourceFailed SinkFailed c.in_err-script.field-0.0 c.in_err-script.ensures.refused)
 
-pub returns-in_err-script-clause-in_part : goal.returns-in_err-script-clause-in_part
-returns-in_err-script-clause-in_part g c =
+pub returns-in_err-script-clause-leaves : goal.returns-in_err-script-clause-leaves
+returns-in_err-script-clause-leaves g c =
+    let to = remote_text c.args.to.now in
     let left = g.S.Source.left c.args.source.now in
     let written = g.K.Sink.written c.args.out.now in
     let told : LinkTold = record { sent = g.L.Link.sent c.args.link.now; faults = g.L.Link.faults c.args.link.now } in
     let SourceFailed : Type 0 = Rose (g.S.Source.faults c.args.source.now) (g.S.Source.faults c.read_whole_script.new.source) in
-    if_handed_on c.from_residual.result _ (λ fault. IfSome left (λ bytes. LeavesInPart (remote_text c.args.to.now) bytes written written told told fault)) c.from_residual.ensures.1
-    (unread_in_part _ left SourceFailed written told c.in_err-script.field-0.0 c.in_err-script.ensures.refused)
+    let SameLink : Type 0 = c.args.link.now ≡ c.args.link.now in
+    if_handed_on c.from_residual.result _ (LeavesRun to left written written told told SameLink) c.from_residual.ensures.1
+    (unread_leaves to left SourceFailed written told SameLink c.in_err-script.field-0.0 c.in_err-script.ensures.refused refl)
 
 pub returns-in_err-script-clause-devices : goal.returns-in_err-script-clause-devices
 returns-in_err-script-clause-devices g c = record {
@@ -130,13 +137,25 @@ returns-in_err-script-clause-devices g c = record {
 
 -- ---- a setting is refused
 
-pub returns-in_err-check_settings-clause-in_part : goal.returns-in_err-check_settings-clause-in_part
-returns-in_err-check_settings-clause-in_part g c =
+pub returns-in_err-check_settings-clause-cause : goal.returns-in_err-check_settings-clause-cause
+returns-in_err-check_settings-clause-cause g c =
+    let to = remote_text c.args.to.now in
+    let left = g.S.Source.left c.args.source.now in
+    let read = c.in_ok-script.ensures.read in
+    let SourceFailed : Type 0 = Rose (g.S.Source.faults c.args.source.now) (g.S.Source.faults c.read_whole_script.new.source) in
+    let SinkFailed : Type 0 = Rose (g.K.Sink.faults c.args.out.now) (g.K.Sink.faults c.args.out.now) in
+    if_handed_on c.from_residual-in_err-check_settings.result _ (ComesBy to left SourceFailed SinkFailed) c.from_residual-in_err-check_settings.ensures.1
+    (record { told = setting_refused to left read.bytes (script_of c.in_ok-script.script) c.in_err-check_settings.field-0.0 read.whole read.good c.in_err-check_settings.ensures.refused; untold = tt })
+
+pub returns-in_err-check_settings-clause-leaves : goal.returns-in_err-check_settings-clause-leaves
+returns-in_err-check_settings-clause-leaves g c =
+    let to = remote_text c.args.to.now in
     let left = g.S.Source.left c.args.source.now in
     let written = g.K.Sink.written c.args.out.now in
     let told : LinkTold = record { sent = g.L.Link.sent c.args.link.now; faults = g.L.Link.faults c.args.link.now } in
-    if_handed_on c.from_residual-in_err-check_settings.result _ (λ fault. IfSome left (λ bytes. LeavesInPart (remote_text c.args.to.now) bytes written written told told fault)) c.from_residual-in_err-check_settings.ensures.1
-    (refused_in_part (remote_text c.args.to.now) left written told told c.in_err-check_settings.field-0.0)
+    let SameLink : Type 0 = c.args.link.now ≡ c.args.link.now in
+    if_handed_on c.from_residual-in_err-check_settings.result _ (LeavesRun to left written written told told SameLink) c.from_residual-in_err-check_settings.ensures.1
+    (refused_leaves to left written told SameLink c.in_err-check_settings.field-0.0 refl)
 
 pub returns-in_err-check_settings-clause-devices : goal.returns-in_err-check_settings-clause-devices
 returns-in_err-check_settings-clause-devices g c = record {
@@ -153,14 +172,24 @@ returns-in_err-check_settings-clause-devices g c = record {
 
 -- ---- the link could not be aimed
 
-pub returns-in_err-aim-clause-in_part : goal.returns-in_err-aim-clause-in_part
-returns-in_err-aim-clause-in_part g c =
+pub returns-in_err-aim-clause-cause : goal.returns-in_err-aim-clause-cause
+returns-in_err-aim-clause-cause g c =
+    let to = remote_text c.args.to.now in
+    let left = g.S.Source.left c.args.source.now in
+    let SourceFailed : Type 0 = Rose (g.S.Source.faults c.args.source.now) (g.S.Source.faults c.read_whole_script.new.source) in
+    let SinkFailed : Type 0 = Rose (g.K.Sink.faults c.args.out.now) (g.K.Sink.faults c.args.out.now) in
+    if_handed_on c.from_residual-in_err-aim.result faults.Memory (ComesBy to left SourceFailed SinkFailed) c.from_residual-in_err-aim.ensures.1 (memory_comes to left SourceFailed SinkFailed)
+
+pub returns-in_err-aim-clause-leaves : goal.returns-in_err-aim-clause-leaves
+returns-in_err-aim-clause-leaves g c =
+    let to = remote_text c.args.to.now in
     let left = g.S.Source.left c.args.source.now in
     let written = g.K.Sink.written c.args.out.now in
     let told : LinkTold = record { sent = g.L.Link.sent c.args.link.now; faults = g.L.Link.faults c.args.link.now } in
     let aimed : LinkTold = record { sent = g.L.Link.sent c.aim.new.self; faults = g.L.Link.faults c.aim.new.self } in
-    if_handed_on c.from_residual-in_err-aim.result faults.Memory (λ fault. IfSome left (λ bytes. LeavesInPart (remote_text c.args.to.now) bytes written written told aimed fault)) c.from_residual-in_err-aim.ensures.1
-    (unaimed_in_part _ left written told aimed c.in_err-aim.ensures.sent)
+    let SameLink : Type 0 = c.aim.new.self ≡ c.args.link.now in
+    if_handed_on c.from_residual-in_err-aim.result faults.Memory (LeavesRun to left written written told aimed SameLink) c.from_residual-in_err-aim.ensures.1
+    (unaimed_leaves to left written told aimed SameLink c.in_err-aim.ensures.sent)
 
 pub returns-in_err-aim-clause-devices : goal.returns-in_err-aim-clause-devices
 returns-in_err-aim-clause-devices g c = record {

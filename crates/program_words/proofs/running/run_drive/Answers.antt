@@ -41,9 +41,9 @@ returns-in-Err-clause-ends g c =
     let Whole : Result Report DriveFault → Type 0 = λ r. IfSome source.left (λ bytes. IsComplete to bytes (Rose source.faults source.faults') (Rose out.faults out.faults') (end_status r)) in
     let P : ℕ → Type 0 = λ status. IsDriveEnd to source out err link status in
     subst P (sym c.status_of.ensures)
-    (failed_ends to source out err link fault c.in-Err.ensures.cause c.in-Err.ensures.device c.in-Err.ensures.unplayed c.in-Err.ensures.prefix c.in-Err.ensures.in_part
+    (failed_ends to source out err link fault c.in-Err.ensures.cause c.in-Err.ensures.leaves.unplayed c.in-Err.ensures.leaves.prefix c.in-Err.ensures.leaves.in_part
     (subst Aimed c.in-Err.is c.drive.ensures.devices.aimed_at) (subst Left c.in-Err.is c.drive.ensures.devices.source) (subst Whole c.in-Err.is c.drive.ensures.complete)
-    (record { text = line (fault_text fault); meant = fault_line to source.left link.told link.told' _ _ fault c.in-Err.ensures.cause; written = c.say_fault.ensures.said }))
+    (record { text = line (fault_text fault); meant = fault_line to source.left link.told link.told' _ _ fault c.in-Err.ensures.cause.told; written = c.say_fault.ensures.said }))
 
 pub returns-in-Err-clause-unsent : goal.returns-in-Err-clause-unsent
-returns-in-Err-clause-unsent g c = λ is. unplayed_of_status _ c.in-Err.fault c.in-Err.ensures.unsent _ (sym c.status_of.ensures) is
+returns-in-Err-clause-unsent g c = λ is. unplayed_of_status _ c.in-Err.fault c.in-Err.ensures.leaves.unsent _ (sym c.status_of.ensures) is

@@ -19,9 +19,9 @@ returns-in-Ok-clause-ends g c =
     let Left : Result Served ServeScriptFault → Type 0 = λ r. IfSome source.left (λ bytes. LeavesSource bytes source.left' (serve_end_status r)) in
     let Whole : Result Served ServeScriptFault → Type 0 = λ r. IfSome source.left
     (λ bytes. IsServeComplete bytes (Rose source.faults source.faults') (Rose listener.faults listener.faults') (serve_end_status r)) in
-    served_ends c.args.count c.args.networks.now source err listener c.in-Ok.ensures.served c.in-Ok.ensures.given (subst Left c.in-Ok.is c.serve_script.ensures.left)
+    served_ends c.args.count c.args.networks.now source err listener c.in-Ok.ensures.served c.in-Ok.ensures.counted.accepted (subst Left c.in-Ok.is c.serve_script.ensures.left)
     (subst Whole c.in-Ok.is c.serve_script.ensures.complete)
-    (record { text = line (served_text c.in-Ok.served); meant = done c.in-Ok.served c.in-Ok.ensures.counted.total c.in-Ok.ensures.counted.lost; written = c.say_served.ensures.said })
+    (record { text = line (served_text c.in-Ok.served); meant = done c.in-Ok.served c.in-Ok.ensures.counted.counted.total c.in-Ok.ensures.counted.counted.lost; written = c.say_served.ensures.said })
 
 pub returns-in-Err-clause-ends : goal.returns-in-Err-clause-ends
 returns-in-Err-clause-ends g c =
@@ -34,10 +34,10 @@ returns-in-Err-clause-ends g c =
     (λ bytes. IsServeComplete bytes (Rose source.faults source.faults') (Rose listener.faults listener.faults') (serve_end_status r)) in
     let P : ℕ → Type 0 = λ status. IsServeEnd c.args.count c.args.networks.now source err listener status in
     subst P (sym c.serve_status_of.ensures)
-    (unserved_ends c.args.count c.args.networks.now source err listener fault c.in-Err.ensures.cause c.in-Err.ensures.device c.in-Err.ensures.in_part
+    (unserved_ends c.args.count c.args.networks.now source err listener fault c.in-Err.ensures.cause c.in-Err.ensures.leaves.in_part
     (subst Left c.in-Err.is c.serve_script.ensures.left) (subst Whole c.in-Err.is c.serve_script.ensures.complete)
     (record {
       text = line (serve_fault_text fault);
-      meant = unserved_line c.args.count source.left listener.lost listener.lost' _ _ fault c.in-Err.ensures.cause c.in-Err.ensures.device;
+      meant = unserved_line c.args.count source.left listener.lost listener.lost' _ _ fault c.in-Err.ensures.cause;
       written = c.say_serve_fault.ensures.said;
     }))

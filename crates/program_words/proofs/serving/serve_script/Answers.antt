@@ -8,7 +8,7 @@ use Rattle.drive_script.specs.declared.faults.DriveFault.TheVariants as faults
 use Rattle.script_player.specs.Agent.{default_agent}
 use Rattle.script_player.specs.Faults.{IsAllowed}
 use Rattle.program_words.specs.Answers.{LeavesSource}
-use Rattle.program_words.specs.Serving.{HasServeCause, HasServeDeviceCause, IfUnserved, LeavesServed, serve_fault, serve_status}
+use Rattle.program_words.specs.Serving.{LeavesListener, ServeComesBy, serve_fault, serve_status}
 use Rattle.program_words.specs.declared.serving.ServeScriptFault.TheVariants as serving
 use Rattle.program_words.proofs.ReadingSteps.{read_out}
 use Rattle.program_words.proofs.RecordedRounds.{script_records}
@@ -35,25 +35,20 @@ returns-in_err-script-clause-cause g c =
     let left = g.S.Source.left c.args.source.now in
     let SourceFailed : Type 0 = Rose (g.S.Source.faults c.args.source.now) (g.S.Source.faults c.read_whole_script.new.source) in
     let ListenerFailed : Type 0 = Rose (g.N.Listener.faults c.args.listener.now) (g.N.Listener.faults c.args.listener.now) in
-    if_handed_on c.from_residual.result _ (λ fault. IfSome left (λ bytes. HasServeCause bytes SourceFailed ListenerFailed fault)) c.from_residual.ensures.1
-    (unread_cause left SourceFailed ListenerFailed c.in_err-script.field-0.0 c.in_err-script.ensures.refused)
+    if_handed_on c.from_residual.result _ (ServeComesBy left SourceFailed ListenerFailed) c.from_residual.ensures.1 (record {
+      told = unread_cause left SourceFailed ListenerFailed c.in_err-script.field-0.0 c.in_err-script.ensures.refused;
+      untold = unread_device left SourceFailed ListenerFailed c.in_err-script.field-0.0 c.in_err-script.ensures.refused;
+    })
 
-pub returns-in_err-script-clause-device : goal.returns-in_err-script-clause-device
-returns-in_err-script-clause-device g c =
-    let left = g.S.Source.left c.args.source.now in
-    let SourceFailed : Type 0 = Rose (g.S.Source.faults c.args.source.now) (g.S.Source.faults c.read_whole_script.new.source) in
-    let ListenerFailed : Type 0 = Rose (g.N.Listener.faults c.args.listener.now) (g.N.Listener.faults c.args.listener.now) in
-    if_handed_on c.from_residual.result _ (HasServeDeviceCause SourceFailed ListenerFailed) c.from_residual.ensures.1 (unread_device left SourceFailed ListenerFailed c.in_err-script.field-0.0 c.in_err-script.ensures.refused)
-
-pub returns-in_err-script-clause-unserved : goal.returns-in_err-script-clause-unserved
-returns-in_err-script-clause-unserved g c = if_handed_on c.from_residual.result _ (IfUnserved _) c.from_residual.ensures.1 (unserved_by _ (serving.Drive c.in_err-script.field-0.0) refl)
-
-pub returns-in_err-script-clause-in_part : goal.returns-in_err-script-clause-in_part
-returns-in_err-script-clause-in_part g c =
+pub returns-in_err-script-clause-leaves : goal.returns-in_err-script-clause-leaves
+returns-in_err-script-clause-leaves g c =
     let left = g.S.Source.left c.args.source.now in
     let told : Listening = record { given = g.N.Listener.given c.args.listener.now; finished = g.N.Listener.finished c.args.listener.now } in
-    if_handed_on c.from_residual.result _ (λ fault. IfSome left (λ bytes. LeavesServed bytes c.args.networks.now c.args.count told told fault)) c.from_residual.ensures.1
-    (untold_by left c.args.networks.now c.args.count told c.in_err-script.field-0.0)
+    let SameListener : Type 0 = c.args.listener.now ≡ c.args.listener.now in
+    if_handed_on c.from_residual.result _ (LeavesListener left c.args.networks.now c.args.count told told SameListener) c.from_residual.ensures.1 (record {
+      unserved = unserved_by SameListener (serving.Drive c.in_err-script.field-0.0) refl;
+      in_part = untold_by left c.args.networks.now c.args.count told c.in_err-script.field-0.0;
+    })
 
 pub returns-in_err-script-clause-complete : goal.returns-in_err-script-clause-complete
 returns-in_err-script-clause-complete g c =
@@ -68,25 +63,20 @@ returns-in_err-check_settings-clause-cause g c =
     let left = g.S.Source.left c.args.source.now in
     let SourceFailed : Type 0 = Rose (g.S.Source.faults c.args.source.now) (g.S.Source.faults c.read_whole_script.new.source) in
     let ListenerFailed : Type 0 = Rose (g.N.Listener.faults c.args.listener.now) (g.N.Listener.faults c.args.listener.now) in
-    if_handed_on c.from_residual-in_err-check_settings.result _ (λ fault. IfSome left (λ bytes. HasServeCause bytes SourceFailed ListenerFailed fault)) c.from_residual-in_err-check_settings.ensures.1
-    (refused_cause left SourceFailed ListenerFailed (script_of c.in_ok-script.script) c.in_err-check_settings.field-0.0 c.in_ok-script.ensures.read refused)
+    if_handed_on c.from_residual-in_err-check_settings.result _ (ServeComesBy left SourceFailed ListenerFailed) c.from_residual-in_err-check_settings.ensures.1 (record {
+      told = refused_cause left SourceFailed ListenerFailed (script_of c.in_ok-script.script) c.in_err-check_settings.field-0.0 c.in_ok-script.ensures.read refused;
+      untold = tt;
+    })
 
-pub returns-in_err-check_settings-clause-device : goal.returns-in_err-check_settings-clause-device
-returns-in_err-check_settings-clause-device g c =
-    let SourceFailed : Type 0 = Rose (g.S.Source.faults c.args.source.now) (g.S.Source.faults c.read_whole_script.new.source) in
-    let ListenerFailed : Type 0 = Rose (g.N.Listener.faults c.args.listener.now) (g.N.Listener.faults c.args.listener.now) in
-    if_handed_on c.from_residual-in_err-check_settings.result _ (HasServeDeviceCause SourceFailed ListenerFailed) c.from_residual-in_err-check_settings.ensures.1 tt
-
-pub returns-in_err-check_settings-clause-unserved : goal.returns-in_err-check_settings-clause-unserved
-returns-in_err-check_settings-clause-unserved g c =
-    if_handed_on c.from_residual-in_err-check_settings.result _ (IfUnserved _) c.from_residual-in_err-check_settings.ensures.1 (unserved_by _ (serving.Drive (faults.Setting c.in_err-check_settings.field-0.0)) refl)
-
-pub returns-in_err-check_settings-clause-in_part : goal.returns-in_err-check_settings-clause-in_part
-returns-in_err-check_settings-clause-in_part g c =
+pub returns-in_err-check_settings-clause-leaves : goal.returns-in_err-check_settings-clause-leaves
+returns-in_err-check_settings-clause-leaves g c =
     let left = g.S.Source.left c.args.source.now in
     let told : Listening = record { given = g.N.Listener.given c.args.listener.now; finished = g.N.Listener.finished c.args.listener.now } in
-    if_handed_on c.from_residual-in_err-check_settings.result _ (λ fault. IfSome left (λ bytes. LeavesServed bytes c.args.networks.now c.args.count told told fault)) c.from_residual-in_err-check_settings.ensures.1
-    (untold_by left c.args.networks.now c.args.count told (faults.Setting c.in_err-check_settings.field-0.0))
+    let SameListener : Type 0 = c.args.listener.now ≡ c.args.listener.now in
+    if_handed_on c.from_residual-in_err-check_settings.result _ (LeavesListener left c.args.networks.now c.args.count told told SameListener) c.from_residual-in_err-check_settings.ensures.1 (record {
+      unserved = refl;
+      in_part = untold_by left c.args.networks.now c.args.count told (faults.Setting c.in_err-check_settings.field-0.0);
+    })
 
 pub returns-in_err-check_settings-clause-complete : goal.returns-in_err-check_settings-clause-complete
 returns-in_err-check_settings-clause-complete g c =
@@ -102,29 +92,23 @@ returns-in_err-served-clause-cause g c =
     let left = g.S.Source.left c.args.source.now in
     let SourceFailed : Type 0 = Rose (g.S.Source.faults c.args.source.now) (g.S.Source.faults c.read_whole_script.new.source) in
     let ListenerFailed : Type 0 = Rose (g.N.Listener.faults c.args.listener.now) (g.N.Listener.faults c.play_and_serve.new.listener) in
-    if_handed_on c.from_residual-in_err-served.result _ (λ fault. IfSome left (λ bytes. HasServeCause bytes SourceFailed ListenerFailed fault)) c.from_residual-in_err-served.ensures.1
-    (listener_cause left SourceFailed ListenerFailed c.in_err-served.field-0.0 c.in_err-served.ensures.cause)
+    if_handed_on c.from_residual-in_err-served.result _ (ServeComesBy left SourceFailed ListenerFailed) c.from_residual-in_err-served.ensures.1 (record {
+      told = listener_cause left SourceFailed ListenerFailed c.in_err-served.field-0.0 c.in_err-served.ensures.cause;
+      untold = listener_device SourceFailed ListenerFailed c.in_err-served.field-0.0 c.in_err-served.ensures.cause;
+    })
 
-pub returns-in_err-served-clause-device : goal.returns-in_err-served-clause-device
-returns-in_err-served-clause-device g c =
-    let SourceFailed : Type 0 = Rose (g.S.Source.faults c.args.source.now) (g.S.Source.faults c.read_whole_script.new.source) in
-    let ListenerFailed : Type 0 = Rose (g.N.Listener.faults c.args.listener.now) (g.N.Listener.faults c.play_and_serve.new.listener) in
-    if_handed_on c.from_residual-in_err-served.result _ (HasServeDeviceCause SourceFailed ListenerFailed) c.from_residual-in_err-served.ensures.1
-    (listener_device SourceFailed ListenerFailed c.in_err-served.field-0.0 c.in_err-served.ensures.cause)
-
-pub returns-in_err-served-clause-unserved : goal.returns-in_err-served-clause-unserved
-returns-in_err-served-clause-unserved g c =
-    if_handed_on c.from_residual-in_err-served.result _ (IfUnserved _) c.from_residual-in_err-served.ensures.1 (serving_by _ c.in_err-served.field-0.0)
-
-pub returns-in_err-served-clause-in_part : goal.returns-in_err-served-clause-in_part
-returns-in_err-served-clause-in_part g c =
+pub returns-in_err-served-clause-leaves : goal.returns-in_err-served-clause-leaves
+returns-in_err-served-clause-leaves g c =
     let allowed : IsAllowed default_agent (script_of c.in_ok-script.script)
     = subst (λ to. refused_setting (script_of c.in_ok-script.script).settings to ≡ None) c.default_agent.ensures c.in_ok-check_settings.ensures.allowed in
     let left = g.S.Source.left c.args.source.now in
     let old : Listening = record { given = g.N.Listener.given c.args.listener.now; finished = g.N.Listener.finished c.args.listener.now } in
     let new : Listening = record { given = g.N.Listener.given c.play_and_serve.new.listener; finished = g.N.Listener.finished c.play_and_serve.new.listener } in
-    if_handed_on c.from_residual-in_err-served.result _ (λ fault. IfSome left (λ bytes. LeavesServed bytes c.args.networks.now c.args.count old new fault)) c.from_residual-in_err-served.ensures.1
-    (leaves_served left (script_of c.in_ok-script.script) c.args.networks.now c.args.count old new c.in_err-served.field-0.0 c.in_ok-script.ensures.read allowed c.in_err-served.ensures.in_part)
+    let SameListener : Type 0 = c.play_and_serve.new.listener ≡ c.args.listener.now in
+    if_handed_on c.from_residual-in_err-served.result _ (LeavesListener left c.args.networks.now c.args.count old new SameListener) c.from_residual-in_err-served.ensures.1 (record {
+      unserved = serving_by SameListener c.in_err-served.field-0.0;
+      in_part = leaves_served left (script_of c.in_ok-script.script) c.args.networks.now c.args.count old new c.in_err-served.field-0.0 c.in_ok-script.ensures.read allowed c.in_err-served.ensures.in_part;
+    })
 
 pub returns-in_err-served-clause-complete : goal.returns-in_err-served-clause-complete
 returns-in_err-served-clause-complete g c =
@@ -142,10 +126,7 @@ returns-clause-served g c =
     script_served (g.S.Source.left c.args.source.now) (script_of c.in_ok-script.script) c.args.networks.now c.args.count _ _ c.in_ok-script.ensures.read allowed c.in_ok-served.ensures.served
 
 pub returns-clause-counted : goal.returns-clause-counted
-returns-clause-counted g c = record { total = c.in_ok-served.ensures.total; lost = c.in_ok-served.ensures.lost }
-
-pub returns-clause-given : goal.returns-clause-given
-returns-clause-given g c = c.in_ok-served.ensures.served.2.given
+returns-clause-counted g c = record { accepted = c.in_ok-served.ensures.served.2.given; counted = c.in_ok-served.ensures.counted }
 
 pub returns-clause-complete : goal.returns-clause-complete
 returns-clause-complete g c =

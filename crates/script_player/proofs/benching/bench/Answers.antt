@@ -38,4 +38,4 @@ returns-clause-reported g c =
     let report = c.report_of.result in
     let P : FlushReport → Type 0
     = λ now. ForSomeFlushes bench_settings_text flush_start (bench_script c.args.count).rounds (λ flushes. Delivers bench_settings_text default_agent flushes keeps_none keeps_none none_sent now) in
-    bench_report c.args.count report c.report_of.ensures.pages c.report_of.ensures.fits (subst P (sym (c.report_of.ensures.counts ∙ c.end-report.ensures)) c.in_ok-played.ensures.sent)
+    bench_report c.args.count report c.report_of.ensures.pages c.report_of.ensures.fits (subst P (sym (c.report_of.ensures.counts ∙ c.end-report.ensures)) c.in_ok-played.ensures.played.sent)

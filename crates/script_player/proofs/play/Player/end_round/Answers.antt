@@ -24,7 +24,7 @@ pub write_both-requires-clause-lines : goal.write_both-requires-clause-lines
 write_both-requires-clause-lines g c κs within = c.self.invariant.lines_rest
 
 pub invariant_of-self : goal.invariant_of-self
-invariant_of-self g c = made_on _ _ _ _ _ c.self.invariant _ _ _ _ _ c.write_both.ensures.pages c.write_both.ensures.lines
+invariant_of-self g c = made_on _ _ _ _ _ c.self.invariant _ _ _ _ _ c.write_both.ensures.rest.pages_rest c.write_both.ensures.rest.lines_rest
 
 pub returns-in_err-dropped-clause-cut : goal.returns-in_err-dropped-clause-cut
 returns-in_err-dropped-clause-cut g c =
@@ -34,7 +34,7 @@ returns-in_err-dropped-clause-cut g c =
     let both = c.write_both.ensures in
     let written = g.K.Sink.written c.args.out.now in
     let written' = g.K.Sink.written c.write_both.new.out in
-    let page = page_was settings to own.exporters.prometheus own.exporters.dogstatsd own.flushes.writer c.self.invariant own.flushes.report _ _ _ _ both.pages both.lines c.args.moment own.handles.items own.line_handles.items own.flushes.marks in
+    let page = page_was settings to own.exporters.prometheus own.exporters.dogstatsd own.flushes.writer c.self.invariant own.flushes.report _ _ _ _ both.rest.pages_rest both.rest.lines_rest c.args.moment own.handles.items own.line_handles.items own.flushes.marks in
     on_handed_on c.from_residual.result _ (record {
       prefix = subst (λ (p : PlayerText). GrewByPrefix written written' (player_page c.args.moment p)) c.self.view_is (subst (GrewByPrefix written written') page c.in_err-dropped.ensures.prefix);
       unsent = refl;
@@ -48,8 +48,8 @@ invariant_of-self-2 g c =
     let both = c.write_both.ensures in
     let none = ap (λ (p : PlayerText). p.waiting) c.self.view_is ∙ c.requires.sends.none_waits in
     let ready = made_ready settings to own.exporters.prometheus own.exporters.dogstatsd own.flushes.writer c.self.invariant own.flushes.report none in
-    let written = c.in_ok-dropped.ensures.flushed.written settings to ready c.self.invariant.lines_built in
-    made_again settings to own.exporters.prometheus own.exporters.dogstatsd own.flushes.writer c.self.invariant own.flushes.report _ _ _ _ both.pages both.lines _ (c.hand_out.ensures.ready settings to _ written)
+    let written = c.in_ok-dropped.ensures.ended.flushed.written settings to ready c.self.invariant.lines_built in
+    made_again settings to own.exporters.prometheus own.exporters.dogstatsd own.flushes.writer c.self.invariant own.flushes.report _ _ _ _ both.rest.pages_rest both.rest.lines_rest _ (c.hand_out.ensures.ready settings to _ written)
 
 pub returns-clause-ended : goal.returns-clause-ended
 returns-clause-ended g c =
@@ -60,7 +60,7 @@ returns-clause-ended g c =
     let none = ap (λ (p : PlayerText). p.waiting) c.self.view_is ∙ c.requires.sends.none_waits in
     let ready = made_ready settings to own.exporters.prometheus own.exporters.dogstatsd own.flushes.writer c.self.invariant own.flushes.report none in
     let items = flush_items (dogstatsd_settings settings) settings.dsd_globals c.args.moment [] (state_seen own.flushes.marks own.exporters.dogstatsd) in
-    let written = c.in_ok-dropped.ensures.flushed.written settings to ready c.self.invariant.lines_built in
+    let written = c.in_ok-dropped.ensures.ended.flushed.written settings to ready c.self.invariant.lines_built in
     let aims = c.requires.sends.aims ∙ ap (λ (p : PlayerText). Some p.to) (sym c.self.view_is) in
     let told : LinkTold = record { sent = g.L.Link.sent c.args.link.now; faults = g.L.Link.faults c.args.link.now } in
     let tells : LinkTold = record { sent = g.L.Link.sent c.hand_out.new.link; faults = g.L.Link.faults c.hand_out.new.link } in
@@ -74,6 +74,6 @@ returns-clause-ended g c =
       report = flushes.report;
     } in
     subst (λ (p : PlayerText). EndsRound c.args.moment p new (g.K.Sink.written c.args.out.now) (g.K.Sink.written c.write_both.new.out) told tells) c.self.view_is
-    (round_ends settings to own.exporters.prometheus own.exporters.dogstatsd own.flushes.writer c.self.invariant own.flushes.report _ _ _ _ both.pages both.lines
-    c.args.moment own.handles.items own.line_handles.items own.flushes.marks _ _ _ _ _ _ _ _ _ c.in_ok-dropped.ensures.shown c.in_ok-dropped.ensures.flushed c.hand_out.ensures.marks
+    (round_ends settings to own.exporters.prometheus own.exporters.dogstatsd own.flushes.writer c.self.invariant own.flushes.report _ _ _ _ both.rest.pages_rest both.rest.lines_rest
+    c.args.moment own.handles.items own.line_handles.items own.flushes.marks _ _ _ _ _ _ _ _ _ c.in_ok-dropped.ensures.ended.shown c.in_ok-dropped.ensures.ended.flushed c.hand_out.ensures.marks
     (c.hand_out.ensures.ready settings to items written) (c.hand_out.ensures.sent settings to items written aims))

@@ -44,12 +44,12 @@ run_lanes-run-requires-clause-roots g c κs within = begin_at_rest c.self.inside
 
 pub run_lanes-run-requires-clause-fit : goal.run_lanes-run-requires-clause-fit
 run_lanes-run-requires-clause-fit g c κs within =
-    subst (λ (lanes : List (Lane ExporterCall)). AllFit (length (things_of c.self.inside.exporters)) lanes) (sym c.deref-4.ensures.value) c.in_ok-lanes.ensures.fit
+    subst (λ (lanes : List (Lane ExporterCall)). AllFit (length (things_of c.self.inside.exporters)) lanes) (sym c.deref-4.ensures.value) c.in_ok-lanes.ensures.lanes.fit
 
 pub run_lanes-run-requires-clause-taken : goal.run_lanes-run-requires-clause-taken
 run_lanes-run-requires-clause-taken g c κs within =
     let old = c.self.inside.exporters in
-    subst (AllTaken fixed_of TakesCall (things_of old)) (sym c.deref-4.ensures.value) (all_taken old c.self.invariant.rest c.in_ok-lanes.ensures.numbered c.in_ok-lanes.lanes.items c.in_ok-lanes.ensures.asked)
+    subst (AllTaken fixed_of TakesCall (things_of old)) (sym c.deref-4.ensures.value) (all_taken old c.self.invariant.rest c.in_ok-lanes.ensures.numbered c.in_ok-lanes.lanes.items c.in_ok-lanes.ensures.lanes.asked)
 
 pub invariant_of-self-2 : goal.invariant_of-self-2
 invariant_of-self-2 g c =
@@ -78,12 +78,12 @@ returns-clause-called g c =
     let each = subst (λ (ls : List (Lane ExporterCall)). Each (Grew root_of StandsAsEntries ls grew.0) (things_of old) (things_of new)) c.deref-4.ensures.value grew.2 in
     let Same : List SeriesId → List CallLine → Type 0
     = λ hs calls. (j l : ℕ) → numbered_at (first_prometheus old + j) lanes l ≡ map exporter.Prometheus (calls_at c.args.moment (P.ids_of old.prometheus) hs l j calls) in
-    let same = subst (Same c.self.inside.handles.items) c.deref-3.ensures.value (subst (λ hs. Same hs c.deref-3.result.now) c.deref.ensures.value e.prometheus) in
+    let same = subst (Same c.self.inside.handles.items) c.deref-3.ensures.value (subst (λ hs. Same hs c.deref-3.result.now) c.deref.ensures.value e.calls.prometheus) in
     let fit : FitsCalls _ c.args.calls.items = subst (λ (p : PlayerText). FitsCalls p c.args.calls.items) (sym c.self.view_is) c.requires.fit in
     when_ok c.run_lanes-run.result grew.1 (λ done.
-    let round = is_round old c.self.invariant.rest e.numbered lanes new grew.0 e.fit e.asked c.run_lanes-run.ensures.frame (subst (λ (ls : List (Lane ExporterCall)). AllDone ls grew.0) c.deref-4.ensures.value done) each in
+    let round = is_round old c.self.invariant.rest e.numbered lanes new grew.0 e.lanes.fit e.lanes.asked c.run_lanes-run.ensures.frame (subst (λ (ls : List (Lane ExporterCall)). AllDone ls grew.0) c.deref-4.ensures.value done) each in
     λ text at are. subst (λ (p : PlayerText). IsCalled p.pages text (rows_state new.prometheus c.self.inside.handles.items)) c.self.view_is
-    (pages_called c.args.moment old new c.self.inside.handles.items c.self.inside.line_handles.items c.args.calls.items lanes round e.numbers same fit.some c.self.invariant.rest fit.fit text at are))
+    (pages_called c.args.moment old new c.self.inside.handles.items c.self.inside.line_handles.items c.args.calls.items lanes round e.lanes.numbers same fit.some c.self.invariant.rest fit.fit text at are))
 
 pub returns-clause-flush_called : goal.returns-clause-flush_called
 returns-clause-flush_called g c =
@@ -95,12 +95,12 @@ returns-clause-flush_called g c =
     let each = subst (λ (ls : List (Lane ExporterCall)). Each (Grew root_of StandsAsEntries ls grew.0) (things_of old) (things_of new)) c.deref-4.ensures.value grew.2 in
     let Same : List SeriesId → List CallLine → Type 0
     = λ hs calls. (j l : ℕ) → numbered_at (first_prometheus old + j) lanes l ≡ map exporter.Prometheus (calls_at c.args.moment (P.ids_of old.prometheus) hs l j calls) in
-    let same = subst (Same c.self.inside.handles.items) c.deref-3.ensures.value (subst (λ hs. Same hs c.deref-3.result.now) c.deref.ensures.value e.prometheus) in
+    let same = subst (Same c.self.inside.handles.items) c.deref-3.ensures.value (subst (λ hs. Same hs c.deref-3.result.now) c.deref.ensures.value e.calls.prometheus) in
     let LinesSame : List SeriesId → List CallLine → Type 0
     = λ hs calls. (j l : ℕ) → j < first_prometheus old → numbered_at j lanes l ≡ map exporter.DogStatsD (calls_at c.args.moment (D.ids_of old.dogstatsd) hs l j calls) in
     let fit : FitsCalls _ c.args.calls.items = subst (λ (p : PlayerText). FitsCalls p c.args.calls.items) (sym c.self.view_is) c.requires.fit in
-    let lines_same = subst (LinesSame c.self.inside.line_handles.items) c.deref-3.ensures.value (subst (λ hs. LinesSame hs c.deref-3.result.now) c.deref-2.ensures.value e.dogstatsd) in
+    let lines_same = subst (LinesSame c.self.inside.line_handles.items) c.deref-3.ensures.value (subst (λ hs. LinesSame hs c.deref-3.result.now) c.deref-2.ensures.value e.calls.dogstatsd) in
     when_ok c.run_lanes-run.result grew.1 (λ done.
-    let round = is_round old c.self.invariant.rest e.numbered lanes new grew.0 e.fit e.asked c.run_lanes-run.ensures.frame (subst (λ (ls : List (Lane ExporterCall)). AllDone ls grew.0) c.deref-4.ensures.value done) each in
+    let round = is_round old c.self.invariant.rest e.numbered lanes new grew.0 e.lanes.fit e.lanes.asked c.run_lanes-run.ensures.frame (subst (λ (ls : List (Lane ExporterCall)). AllDone ls grew.0) c.deref-4.ensures.value done) each in
     λ text at are. subst (λ (p : PlayerText). IsFlushCalled p.flushes text (lines_state c.self.inside.flushes.marks new.dogstatsd c.self.inside.line_handles.items)) c.self.view_is
-    (flushes_called c.args.moment old new c.self.inside.handles.items c.self.inside.line_handles.items c.args.calls.items lanes round e.numbers same fit.some lines_same c.self.inside.flushes.marks e.numbered fit.lines_fit text at are))
+    (flushes_called c.args.moment old new c.self.inside.handles.items c.self.inside.line_handles.items c.args.calls.items lanes round e.lanes.numbers same fit.some lines_same c.self.inside.flushes.marks e.numbered fit.lines_fit text at are))

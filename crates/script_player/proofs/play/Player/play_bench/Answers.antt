@@ -77,16 +77,20 @@ play_round-requires-2-clause-ready g c κs lifetimes =
     stands-ready c.args.self.now (bench_script count).rounds told middle c.loop-played.self round [] at.stands _
     (c.loop-played.invariant.aimed ∙ (c.requires.aimed ∙ ap (λ (p : PlayerText). Some p.to) (sym c.requires.start)))
 
-pub returns-clause-written : goal.returns-clause-written
-returns-clause-written g c =
+pub returns-clause-played : goal.returns-clause-played
+returns-clause-played g c =
     let count = c.args.count in
     let n = c.loop-played.rounds in
     let told : LinkTold = record { sent = g.L.Link.sent c.args.link.now; faults = g.L.Link.faults c.args.link.now } in
     let middle : LinkTold = record { sent = g.L.Link.sent c.loop-played.link; faults = g.L.Link.faults c.loop-played.link } in
+    let tells : LinkTold = record { sent = g.L.Link.sent c.play_round-2.new.link; faults = g.L.Link.faults c.play_round-2.new.link } in
     let round = round_of c.in_ok-last.last in
     let end : n + 1 ≡ count = omega (arith, c.loop-played.invariant.number, c.loop-played-test.false, c.loop-played.auto._played-end c.requires.count.0) in
     let at = stands_last count c.args.self.now told middle c.loop-played.self n round c.in_ok-last.ensures.round c.loop-played.invariant.stands end in
-    on_ok_weaker c.play_round-2.result (last_written count c.args.self.now told c.requires.start middle _ c.loop-played.self round _ _ at c.play_round-2.new.self) c.play_round-2.ensures.played
+    on_ok_weaker c.play_round-2.result (λ played. record {
+      page = last_written count c.args.self.now told c.requires.start middle tells c.loop-played.self round _ _ at c.play_round-2.new.self played;
+      sent = last_sent count c.args.self.now told c.requires.start middle tells c.loop-played.self round _ _ at c.play_round-2.new.self played;
+    }) c.play_round-2.ensures.played
 
 pub returns-clause-prefix : goal.returns-clause-prefix
 returns-clause-prefix g c =
@@ -98,15 +102,3 @@ returns-clause-prefix g c =
     let end : n + 1 ≡ count = omega (arith, c.loop-played.invariant.number, c.loop-played-test.false, c.loop-played.auto._played-end c.requires.count.0) in
     let at = stands_last count c.args.self.now told middle c.loop-played.self n round c.in_ok-last.ensures.round c.loop-played.invariant.stands end in
     on_err_weaker c.play_round-2.result (last_cut count c.args.self.now told c.requires.start middle _ c.loop-played.self round _ _ at) c.play_round-2.ensures.cut
-
-pub returns-clause-sent : goal.returns-clause-sent
-returns-clause-sent g c =
-    let count = c.args.count in
-    let n = c.loop-played.rounds in
-    let told : LinkTold = record { sent = g.L.Link.sent c.args.link.now; faults = g.L.Link.faults c.args.link.now } in
-    let middle : LinkTold = record { sent = g.L.Link.sent c.loop-played.link; faults = g.L.Link.faults c.loop-played.link } in
-    let tells : LinkTold = record { sent = g.L.Link.sent c.play_round-2.new.link; faults = g.L.Link.faults c.play_round-2.new.link } in
-    let round = round_of c.in_ok-last.last in
-    let end : n + 1 ≡ count = omega (arith, c.loop-played.invariant.number, c.loop-played-test.false, c.loop-played.auto._played-end c.requires.count.0) in
-    let at = stands_last count c.args.self.now told middle c.loop-played.self n round c.in_ok-last.ensures.round c.loop-played.invariant.stands end in
-    on_ok_weaker c.play_round-2.result (last_sent count c.args.self.now told c.requires.start middle tells c.loop-played.self round _ _ at c.play_round-2.new.self) c.play_round-2.ensures.played

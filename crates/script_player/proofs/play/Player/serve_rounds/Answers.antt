@@ -60,7 +60,7 @@ returns-clause-served g c =
       timely = c.requires.awaits.timely;
       played = (c.in_ok-moment.ensures.played.0, c.in_ok-moment.ensures.played.1, ap (λ (p : PlayerText). p.pages) c.self.view_is ∙ c.in_ok-moment.ensures.played.2);
     } in
-    served_behind c.args.networks.now asked player.pages rounds settings c.in_ok-moment.moment e handles c.serve.result c.args.count _ _ _ behind c.serve.ensures.served c.serve.ensures.pages
+    served_behind c.args.networks.now asked player.pages rounds settings c.in_ok-moment.moment e handles c.serve.result c.args.count _ _ _ behind c.serve.ensures.served
 
 pub returns-clause-in_part : goal.returns-clause-in_part
 returns-clause-in_part g c =
@@ -79,7 +79,7 @@ returns-clause-in_part g c =
       timely = c.requires.awaits.timely;
       played = (c.in_ok-moment.ensures.played.0, c.in_ok-moment.ensures.played.1, ap (λ (p : PlayerText). p.pages) c.self.view_is ∙ c.in_ok-moment.ensures.played.2);
     } in
-    served_behind_in_part c.args.networks.now asked player.pages rounds settings c.in_ok-moment.moment e handles c.serve.result c.args.count _ _ behind c.serve.ensures.pages_in_part
+    served_behind_in_part c.args.networks.now asked player.pages rounds settings c.in_ok-moment.moment e handles c.serve.result c.args.count _ _ _ behind c.serve.ensures.refused
 
 pub returns-clause-cause : goal.returns-clause-cause
 returns-clause-cause g c = listener_failed c.serve.result _ c.serve.ensures.cause
