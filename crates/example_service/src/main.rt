@@ -10,11 +10,12 @@ use service_exporters::{open_flushes, open_pages, run_exporters};
 use service_metrics::Metrics;
 use std::alloc::Global;
 use std::sync::Wait;
-use std::time::{Clock, Duration, Instant, SystemTime, UNIX_EPOCH};
+use std::time::{Clock, Duration, Instant};
 use std::{env, thread};
 
 /// Answers requests for so long, at least a hundred, and counts them.
-fn work<R: Wait + Clock>(rt: &R, metrics: &Metrics<'_, R>, length: Duration) -> Result<u64> {
+fn work<R: Wait + Clock>(metrics: &Metrics<'_, R>, length: Duration) -> Result<u64> {
+    let rt = metrics.runtime();
     let mut requests = metrics.counter("requests_total", &[("path", "/")])?;
     let mut seconds = metrics.histogram("request_seconds", &[])?;
     let begun = Instant::now(rt)?;
@@ -51,8 +52,8 @@ fn main(rt: HostRuntime) -> Result<()> {
     let link = SocketLink::new(&rt).with_write_timeout(agent.get_write_timeout());
     let (sender, flushes) = open_flushes(alloc, agent, link)?;
     let metrics = Metrics::new(&rt, alloc, Some(&recorder), Some(&sender));
-    let ended = run_exporters(&rt, alloc, Some(pages), Some(flushes), || {
-        thread::map_indices(&rt, alloc, 8, &|_| work(&rt, &metrics, length))
+    let ended = run_exporters(&rt, alloc, Some(pages), Some(flushes), move || {
+        thread::map_indices(metrics.runtime(), alloc, 8, &|_| work(&metrics, length))
     })?;
     for answered in ended.out? {
         print!(rt; "answered {}\n", answered?)?;

@@ -71,6 +71,11 @@ impl<'a, R: Wait> Metrics<'a, R> {
         }
     }
 
+    /// The runtime that it has.
+    pub fn runtime(&self) -> &'a R {
+        self.rt
+    }
+
     /// The counter of a name with labels. Where memory is refused one recorder may have it registered.
     pub fn counter(
         &self,
