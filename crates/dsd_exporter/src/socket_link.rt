@@ -7,12 +7,12 @@ use crate::link::Link;
 use dsd_addresses::RemoteAddr;
 use metrics_core::{Failed, Memory};
 use std::alloc::Global;
-use std::io;
 use std::io::{ErrorKind, Write};
 use std::marker::Model;
 use std::net::{IpAddr, Ipv4Addr, Ipv6Addr, Net, SocketAddr, UdpSocket};
 use std::os::unix::net::UnixStream;
-use std::time::Duration;
+use std::time::{Clock, Duration};
+use std::{io, thread};
 
 /// A socket that is open to the address that a link is aimed at.
 #[derive(Drop)]
@@ -32,6 +32,7 @@ pub struct SocketLink<'a, R: Net> {
     aimed: Option<RemoteAddr>,
     open: Option<Open>,
     patience: Option<Duration>,
+    pause: Duration,
     faults: u64,
 }
 
@@ -109,6 +110,13 @@ fn send_whole<R: Net>(
     Ok(open)
 }
 
+/// Rests so long, where it is any time.
+fn rest<R: Clock>(rt: &R, pause: Duration) {
+    if !pause.is_zero() {
+        thread::sleep(rt, pause);
+    }
+}
+
 impl<'a, R: Net> SocketLink<'a, R> {
     /// The link that isn't aimed yet, and has not failed. It opens its sockets with this runtime.
     pub fn new(rt: &'a R) -> SocketLink<'a, R>
@@ -119,6 +127,7 @@ impl<'a, R: Net> SocketLink<'a, R> {
             aimed: None,
             open: None,
             patience: None,
+            pause: Duration::ZERO,
             faults: 0,
         }
     }
@@ -133,6 +142,17 @@ impl<'a, R: Net> SocketLink<'a, R> {
             timeout => Some(Duration::from_nanos(timeout)),
         };
         SocketLink { patience, ..self }
+    }
+
+    /// Sets how long the link rests behind each payload that it sent, in nanoseconds; 0 at first. With a rest a flush of many payloads
+    /// isn't one burst, which an agent over UDP may lose.
+    pub fn with_pause(self, pause: u64) -> SocketLink<'a, R>
+        ensures { result ≡ self.entry }
+    {
+        SocketLink {
+            pause: Duration::from_nanos(pause),
+            ..self
+        }
     }
 
     /// How many sends failed; past 2^64 - 1 it is no longer counted.
@@ -151,7 +171,7 @@ impl<'a, R: Net> SocketLink<'a, R> {
     }
 }
 
-impl<'a, R: Net> Link for SocketLink<'a, R> {
+impl<'a, R: Net + Clock> Link for SocketLink<'a, R> {
     ghost aimed = { λ link. link.aimed };
 
     ghost sent = { λ _. None };
@@ -172,6 +192,7 @@ impl<'a, R: Net> Link for SocketLink<'a, R> {
         match send_whole(self.runtime, open, &self.aimed, self.patience, payload) {
             Ok(open) => {
                 self.open = Some(open);
+                rest(self.runtime, self.pause);
                 Ok(())
             }
             Err(_) => {

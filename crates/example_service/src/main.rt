@@ -13,6 +13,9 @@ use std::sync::Wait;
 use std::time::{Clock, Duration, Instant};
 use std::{env, thread};
 
+/// How long the link rests behind each payload, in nanoseconds, so that a flush isn't one burst.
+const PAUSE: u64 = 1_000_000;
+
 /// Answers requests for so long, at least a hundred, and counts them.
 fn work<R: Wait + Clock>(metrics: &Metrics<'_, R>, length: Duration) -> Result<u64> {
     let rt = metrics.runtime();
@@ -49,7 +52,9 @@ fn main(rt: HostRuntime) -> Result<()> {
     let length = seconds_of(words.nth(1))?;
     let (recorder, pages) = open_pages(&rt, alloc, page_builder(alloc, words.next())?)?;
     let agent = DogStatsDBuilder::new(alloc)?;
-    let link = SocketLink::new(&rt).with_write_timeout(agent.get_write_timeout());
+    let link = SocketLink::new(&rt)
+        .with_write_timeout(agent.get_write_timeout())
+        .with_pause(PAUSE);
     let (sender, flushes) = open_flushes(alloc, agent, link)?;
     let metrics = Metrics::new(&rt, alloc, Some(&recorder), Some(&sender));
     let ended = run_exporters(&rt, alloc, Some(pages), Some(flushes), move || {

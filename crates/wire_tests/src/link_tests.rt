@@ -6,9 +6,10 @@ use metrics_core::{Failed, Memory};
 use std::alloc::Global;
 use std::net::{Net, UdpSocket};
 use std::test::Fail;
+use std::time::Clock;
 
 /// Aims a link at a Unix socket that isn't there, and sends.
-fn sends_nowhere<R: Net>(
+fn sends_nowhere<R: Net + Clock>(
     alloc: Global,
     link: &mut SocketLink<'_, R>,
     to: &str,
@@ -19,7 +20,7 @@ fn sends_nowhere<R: Net>(
 }
 
 /// Aims a link at a Unix datagram socket, and sends.
-fn sends_datagram<R: Net>(
+fn sends_datagram<R: Net + Clock>(
     alloc: Global,
     link: &mut SocketLink<'_, R>,
     to: &str,
@@ -30,7 +31,7 @@ fn sends_datagram<R: Net>(
 }
 
 /// Sends two payloads by the same socket.
-fn sends_two<R: Net>(link: &mut SocketLink<'_, R>) -> Result<(), Failed> {
+fn sends_two<R: Net + Clock>(link: &mut SocketLink<'_, R>) -> Result<(), Failed> {
     link.send(b"m:1|c\n")?;
     link.send(b"m:22|c\n")
 }
@@ -45,7 +46,7 @@ fn receives(socket: &UdpSocket, datagram: &[u8]) -> Result<bool, Fail> {
 #[test]
 fn datagrams_arrive_whole(rt: HostRuntime) -> Result<(), Fail> {
     let socket = UdpSocket::bind(&rt, "127.0.0.1:0")?;
-    let mut link = SocketLink::new(&rt);
+    let mut link = SocketLink::new(&rt).with_pause(1_000);
     link.aim(rt.alloc(), &RemoteAddr::Udp(socket.local_addr()?))?;
     assert!(rt; sends_two(&mut link).is_ok());
     assert!(rt; receives(&socket, b"m:1|c\n")? && receives(&socket, b"m:22|c\n")?);
