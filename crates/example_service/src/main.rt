@@ -4,17 +4,14 @@
 
 use anyhow::Result;
 use dsd_exporter::{DogStatsDBuilder, SocketLink};
-use metrics_core::Fixed;
 use prom_exporter::PrometheusBuilder;
 use service_exporters::{open_flushes, open_pages, run_exporters};
 use service_metrics::Metrics;
-use std::alloc::Global;
+use std::net::SocketAddr;
+use std::rt::Env;
 use std::sync::Wait;
 use std::time::{Clock, Duration, Instant};
 use std::{env, thread};
-
-/// How long the link rests behind each payload, in nanoseconds, so that a flush isn't one burst.
-const PAUSE: u64 = 1_000_000;
 
 /// Answers requests for so long, at least a hundred, and counts them.
 fn work<R: Wait + Clock>(metrics: &Metrics<'_, R>, length: Duration) -> Result<u64> {
@@ -34,27 +31,21 @@ fn work<R: Wait + Clock>(metrics: &Metrics<'_, R>, length: Duration) -> Result<u
     Ok(u64::MAX)
 }
 
-/// What an exporter of pages is built with: its address, or any free port of this host.
-fn page_builder(alloc: Global, address: Option<String>) -> Result<PrometheusBuilder> {
-    let address = address.as_deref().unwrap_or("127.0.0.1:0").parse()?;
-    let builder = PrometheusBuilder::new(alloc)?.with_http_listener(address);
-    Ok(builder.set_buckets(alloc, &[Fixed(10_000_000), Fixed(100_000_000)])?)
-}
-
-/// Seconds in words; none are 0.
-fn seconds_of(word: Option<String>) -> Result<Duration> {
-    Ok(Duration::from_secs(word.as_deref().unwrap_or("0").parse()?))
+/// How long it is to run, and where its page is: no time, and any free port, where no words say it.
+fn words_of<R: Env + AllocGlobal>(rt: &R) -> Result<(Duration, SocketAddr)> {
+    let mut words = env::args(rt)?.skip(1);
+    let seconds = words.next().as_deref().unwrap_or("0").parse()?;
+    let address = words.next().as_deref().unwrap_or("127.0.0.1:0").parse()?;
+    Ok((Duration::from_secs(seconds), address))
 }
 
 fn main(rt: HostRuntime) -> Result<()> {
     let alloc = rt.alloc();
-    let mut words = env::args(&rt)?;
-    let length = seconds_of(words.nth(1))?;
-    let (recorder, pages) = open_pages(&rt, alloc, page_builder(alloc, words.next())?)?;
+    let (length, address) = words_of(&rt)?;
+    let builder = PrometheusBuilder::new(alloc)?.with_http_listener(address);
+    let (recorder, pages) = open_pages(&rt, alloc, builder)?;
     let agent = DogStatsDBuilder::new(alloc)?;
-    let link = SocketLink::new(&rt)
-        .with_write_timeout(agent.get_write_timeout())
-        .with_pause(PAUSE);
+    let link = SocketLink::new(&rt).with_pause(1_000_000);
     let (sender, flushes) = open_flushes(alloc, agent, link)?;
     let metrics = Metrics::new(&rt, alloc, Some(&recorder), Some(&sender));
     let ended = run_exporters(&rt, alloc, Some(pages), Some(flushes), move || {
