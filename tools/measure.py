@@ -8,10 +8,12 @@
     measure.py receive PROGRAM                  the page of streams of DogStatsD lines
     measure.py rules PROGRAM                    rules over streams of pages
     measure.py threads PROGRAM                  threads that register beside pages; PROGRAM is crates/turns_bench/out/turns_bench
+    measure.py scrapes PROGRAM                  a page scraped beside counting threads; PROGRAM is crates/scrape_bench/out/scrape_bench. The
+                                                Python that runs this has to have prometheus_client, for the second half
 
 PROGRAM is else crates/metrics_drive/out/metrics_drive, as `rt run` or `rt ci` builds it. Payloads go over UDP to a socket of this script.
 """
-import os, random, re, socket, subprocess, sys, tempfile, time
+import multiprocessing, os, random, re, socket, subprocess, sys, tempfile, time
 
 AGENT = socket.socket(socket.AF_INET, socket.SOCK_DGRAM)
 AGENT.bind(("127.0.0.1", 0))
@@ -243,7 +245,61 @@ def threads(program, _names):
         print("| %d | %d | %d | %.2f |" % (before, each, pages_, seconds), flush=True)
 
 
-MODES = {it.__name__: it for it in (times, instructions, series, costly, receive, rules, threads)}
+PEER = """
+import sys, threading, time
+from prometheus_client import Counter, start_http_server
+seconds, port, each = float(sys.argv[1]), int(sys.argv[2].split(":")[1]), int(sys.argv[3])
+counter = Counter("counted", "calls", ["path"])
+own = [[counter.labels("/%d/%d" % (thread, number)) for number in range(each)] for thread in range(8)]
+start_http_server(port, "127.0.0.1")
+counted = [0] * 8
+def work(thread):
+    end = time.time() + seconds
+    while time.time() < end:
+        for child in own[thread]:
+            child.inc()
+        counted[thread] += 1
+threads = [threading.Thread(target=work, args=(thread,)) for thread in range(8)]
+[it.start() for it in threads], [it.join() for it in threads]
+[print("counted %d times" % it) for it in counted]
+"""
+
+
+def scraper(port, end, told):
+    """Fetches the page over and over, and tells how often, how long the slowest took, and the bytes of the last."""
+    times, slowest, size = 0, 0, 0
+    while time.time() < end:
+        began, size = time.time(), 0
+        try:
+            with socket.create_connection(("127.0.0.1", port)) as peer:
+                peer.sendall(b"GET /metrics HTTP/1.1\r\nHost: here\r\nConnection: close\r\n\r\n")
+                while piece := peer.recv(1 << 20):
+                    size += len(piece)
+        except OSError:
+            # (the program has ended)
+            break
+        times, slowest = times + 1, max(slowest, time.time() - began)
+    told.put((times, slowest, size))
+
+
+def scrapes(program, _names):
+    print("| Program | Clients | Million calls a second | Scrapes a second | Slowest, seconds | Bytes of a page |\n|---|---|---|---|---|---|")
+    seconds, each = 10, 1250
+    for name, command in (("this", [program]), ("`prometheus_client`", [sys.executable, "-c", PEER])):
+        for clients, port in ((0, 9186), (4, 9187)):
+            run = subprocess.Popen([*command, str(seconds), "127.0.0.1:%d" % port, str(each)], stdout=subprocess.PIPE, text=True)
+            time.sleep(1)
+            told = multiprocessing.Queue()
+            peers = [multiprocessing.Process(target=scraper, args=(port, time.time() + seconds - 1.5, told)) for _ in range(clients)]
+            [it.start() for it in peers]
+            got = [told.get() for _ in peers]
+            calls = sum(int(line.split()[1]) for line in run.communicate()[0].splitlines()) * each / seconds / 1e6
+            rate = sum(it[0] for it in got) / (seconds - 1.5)
+            scraped = "%.1f | %.3f | %d" % (rate, max(it[1] for it in got), got[0][2]) if got else " |  | "
+            print("| %s | %d | %.1f | %s |" % (name, clients, calls, scraped), flush=True)
+
+
+MODES = {it.__name__: it for it in (times, instructions, series, costly, receive, rules, threads, scrapes)}
 
 if __name__ == "__main__":
     if len(sys.argv) < 3 or sys.argv[1] not in MODES:

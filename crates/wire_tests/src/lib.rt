@@ -1,5 +1,4 @@
-//! Worked examples of what goes over the wire: DogStatsD payloads, the flushes that make them, the
-//! addresses that they go to, and the answers to requests.
+//! Worked examples of what goes over the wire: DogStatsD payloads, the addresses that they go to, and the answers to requests.
 #![tactic(auto)]
 
 #[cfg(test)]
@@ -14,5 +13,3 @@ mod payload_tests;
 mod serving_tests;
 #[cfg(test)]
 mod slow_peer_tests;
-#[cfg(test)]
-mod state_tests;
