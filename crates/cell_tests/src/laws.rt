@@ -14,10 +14,18 @@ ghost use Rattle.series_cells.specs.Series.{StandsAsCounter, StandsAsGauge, Play
 
 /// After a round that finished each counter holds what it held before, and then, in one order of lanes, all that they asked of it.
 pub fn a_finished_round_is_counted()
-    ensures { (lanes : List (Lane SeriesCall)) (cs ds : List (Thing SeriesCall PromCounter)) → Finished root_of StandsAsCounter lanes none_later cs ds → (j : ℕ) (c d : Thing SeriesCall PromCounter) → get_elem? cs j ≡ some c → get_elem? ds j ≡ some d → PlayedByCounter (all_calls_on j lanes) c.root (counted (calls d.root.seen)) }
+    ensures { (lanes : List (Lane SeriesCall)) (cs ds : List (Thing SeriesCall PromCounter))
+        → Finished root_of StandsAsCounter lanes none_later cs ds
+        → (j : ℕ) (c d : Thing SeriesCall PromCounter)
+        → get_elem? cs j ≡ some c → get_elem? ds j ≡ some d
+        → PlayedByCounter (all_calls_on j lanes) c.root (counted (calls d.root.seen)) }
 {}
 
 /// The same of each gauge.
 pub fn a_finished_round_is_gauged()
-    ensures { (lanes : List (Lane SeriesCall)) (cs ds : List (Thing SeriesCall PromGauge)) → Finished root_of StandsAsGauge lanes none_later cs ds → (j : ℕ) (c d : Thing SeriesCall PromGauge) → get_elem? cs j ≡ some c → get_elem? ds j ≡ some d → PlayedByGauge (all_calls_on j lanes) c.root (gauged (calls d.root.seen)) }
+    ensures { (lanes : List (Lane SeriesCall)) (cs ds : List (Thing SeriesCall PromGauge))
+        → Finished root_of StandsAsGauge lanes none_later cs ds
+        → (j : ℕ) (c d : Thing SeriesCall PromGauge)
+        → get_elem? cs j ≡ some c → get_elem? ds j ≡ some d
+        → PlayedByGauge (all_calls_on j lanes) c.root (gauged (calls d.root.seen)) }
 {}
