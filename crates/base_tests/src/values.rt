@@ -1,6 +1,6 @@
 //! Units, levels, metadata and the values of gauges.
 
-use metrics_core::{BILLIONTHS, Fixed, GaugeValue, IntoFixed, Level, Metadata, Unit};
+use metrics_core::{BILLIONTHS, Fixed, GaugeValue, IntoFixed, Level, Metadata, Unit, ValueFault};
 use std::alloc::Global;
 use std::test::Fail;
 use std::time::Duration;
@@ -69,6 +69,33 @@ fn numbers_and_spans_are_values(rt: HostRuntime) {
         Some(Fixed(-2_000_000_000)),
         Some(Fixed(4_294_967_295_000_000_000)),
         Some(Fixed(i64::from(BILLIONTHS))),
+    ];
+    assert!(rt; values == expected);
+}
+
+#[test]
+fn numbers_out_of_range_are_no_values(rt: HostRuntime) {
+    let values = [
+        Fixed::try_from(9_223_372_036u64),
+        Fixed::try_from(9_223_372_037u64),
+        Fixed::try_from(-9_223_372_036i64),
+        Fixed::try_from(-9_223_372_037i64),
+        Fixed::try_from(7usize),
+        Fixed::try_from(-0.25),
+        Fixed::try_from(1e10),
+        Fixed::try_from(-1e10),
+        Fixed::try_from(f64::NAN),
+    ];
+    let expected = [
+        Ok(Fixed(9_223_372_036_000_000_000)),
+        Err(ValueFault::TooLarge),
+        Ok(Fixed(-9_223_372_036_000_000_000)),
+        Err(ValueFault::TooSmall),
+        Ok(Fixed(7_000_000_000)),
+        Ok(Fixed(-250_000_000)),
+        Err(ValueFault::TooLarge),
+        Err(ValueFault::TooSmall),
+        Err(ValueFault::NotANumber),
     ];
     assert!(rt; values == expected);
 }
