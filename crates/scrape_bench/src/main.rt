@@ -11,7 +11,7 @@ use metrics_core::{Key, KeyName, Label, Memory, SharedString};
 use prom_exporter::PrometheusBuilder;
 use service_exporters::{FlushExporter, open_pages, run_exporters};
 use service_metrics::{Metrics, ServiceCounter};
-use std::alloc::Global;
+use std::alloc::{AllocError, Global};
 use std::rt::Env;
 use std::sync::Wait;
 use std::time::{Clock, Duration, Instant};
@@ -99,6 +99,14 @@ fn words_of<R: Env + AllocGlobal>(rt: &R) -> Result<Words> {
     })
 }
 
+/// Prints how often each thread counted.
+fn say<R: Print>(rt: &R, counted: Result<Vec<Result<u64>>, AllocError>) -> Result<()> {
+    for counted in counted? {
+        print!(rt; "counted {} times\n", counted?)?;
+    }
+    Ok(())
+}
+
 fn main(rt: HostRuntime) -> Result<()> {
     let alloc = rt.alloc();
     let Words {
@@ -117,8 +125,5 @@ fn main(rt: HostRuntime) -> Result<()> {
             &|thread| { count(alloc, &metrics, thread, counters, length) },
         )
     })?;
-    for counted in ended.out? {
-        print!(rt; "counted {} times\n", counted?)?;
-    }
-    Ok(())
+    say(&rt, ended.out)
 }
