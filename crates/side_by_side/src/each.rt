@@ -60,11 +60,13 @@ fn call_both<R: Threads + Sync, T: Send, F: Fn(usize, &mut T) + Sync>(
     ensures others { EachChangeFrom (ChangesAt F.Fn f.now) next others.old others.new }
 {
     let mut one = ||
-        requires { IsSync R.row × IsSync F.row × IsSend T.row × (length first.now < 2) × EachFrom (AcceptsAt F.Fn f.now) place first.now }
+        requires { IsSync R.row × IsSync F.row × IsSend T.row × (length first.now < 2)
+            × EachFrom (AcceptsAt F.Fn f.now) place first.now }
         ensures { EachChangeFrom (ChangesAt F.Fn f.entry.now) place first.entry.now first.exit.now }
     { call_few(rt, f, place, first) };
     let mut rest = ||
-        requires { IsSync R.row × IsSync F.row × IsSend T.row × (next + length others.now < 2 ^ 64) × EachFrom (AcceptsAt F.Fn f.now) next others.now }
+        requires { IsSync R.row × IsSync F.row × IsSend T.row × (next + length others.now < 2 ^ 64)
+            × EachFrom (AcceptsAt F.Fn f.now) next others.now }
         ensures { EachChangeFrom (ChangesAt F.Fn f.entry.now) next others.entry.now others.exit.now }
     { call_from(rt, f, next, others) };
     join_mut(rt, &mut one, &mut rest);
