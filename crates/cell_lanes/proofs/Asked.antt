@@ -6,7 +6,7 @@ use Rattle.std.proofs.lemmas.Bool.{eqb-true}
 use mathlib.Core.Option.{some}
 use lib.ListN.{get_elem?}
 use Rattle.legal_history.specs.History.{keep}
-use Rattle.cell_lanes.specs.declared.lane.Lane.{Lane}
+use Rattle.cell_lanes.specs.Lines.{LaneText}
 use Rattle.cell_lanes.specs.declared.lane.Line.{Line}
 use Rattle.cell_lanes.specs.Lanes.{AllFit, AllTaken, LineFit, calls_on, cell_calls, is_on}
 use Rattle.cell_lanes.proofs.Lists.{at_or}
@@ -37,18 +37,18 @@ module _ {K : Type 0} where
         keep_all P (is_on j cells x.slot) x.call (cell_calls j cells (take n xs)) (of_line x x.slot (fit 0 x refl) (right 0 x refl))
         (of_lines n xs (λ k y at. fit (suc k) y at) (λ k y at. right (suc k) y at))
 
-  of_lanes : (P : K → Type 0) (j : ℕ) (ls : List (Lane K)) (done : ℕ → ℕ) (l : ℕ)
-      → ((i : ℕ) (a : Lane K) → get_elem? ls i ≡ some a → LineFit (length a.cells.items) a.lines.items × ((k : ℕ) (x : Line K) → get_elem? a.lines.items k ≡ some x → IsRight P j a.cells.items x))
+  of_lanes : (P : K → Type 0) (j : ℕ) (ls : List (LaneText K)) (done : ℕ → ℕ) (l : ℕ)
+      → ((i : ℕ) (a : LaneText K) → get_elem? ls i ≡ some a → LineFit (length a.cells) a.lines × ((k : ℕ) (x : Line K) → get_elem? a.lines k ≡ some x → IsRight P j a.cells x))
       → AllByRecursion P (calls_on j ls done l)
   of_lanes P j [] done l each = tt
-  of_lanes P j (x ∷ xs) done zero each = of_lines P j x.cells.items (done 0) x.lines.items (each 0 x refl).0 (each 0 x refl).1
+  of_lanes P j (x ∷ xs) done zero each = of_lines P j x.cells (done 0) x.lines (each 0 x refl).0 (each 0 x refl).1
   of_lanes P j (x ∷ xs) done (suc l) each = of_lanes P j xs (λ k. done (suc k)) l (λ i a at. each (suc i) a at)
 
 -- each call of the lanes on a thing is one that it takes
-pub asked_is_taken : {S F K : Type 0} (fixed : S → F) (takes : F → K → Type 0) (cs : List S) (lanes : List (Lane K)) (done : ℕ → ℕ) (j : ℕ) (c : S)
+pub asked_is_taken : {S F K : Type 0} (fixed : S → F) (takes : F → K → Type 0) (cs : List S) (lanes : List (LaneText K)) (done : ℕ → ℕ) (j : ℕ) (c : S)
     → AllFit (length cs) lanes → AllTaken fixed takes cs lanes → get_elem? cs j ≡ some c → (l : ℕ) → AllByRecursion (takes (fixed c)) (calls_on j lanes done l)
 asked_is_taken {S} {F} {K} fixed takes cs lanes done j c fit taken at l =
-    of_lanes (takes (fixed c)) j lanes done l (λ i a at_lane. ((fit i a at_lane).lines, λ k x at_line. of_slot x a.cells.items x.slot (taken i a k x at_lane at_line)))
+    of_lanes (takes (fixed c)) j lanes done l (λ i a at_lane. ((fit i a at_lane).lines, λ k x at_line. of_slot x a.cells x.slot (taken i a k x at_lane at_line)))
   where
     of_slot : (x : Line K) (cells : List ℕ) (slot : Option ℕ) → IfSome slot (λ s. (j : ℕ) (c : S) → get_elem? cells s ≡ some j → get_elem? cs j ≡ some c → takes (fixed c) x.call)
         → IfSome slot (λ s. get_elem? cells s ≡ some j → takes (fixed c) x.call)

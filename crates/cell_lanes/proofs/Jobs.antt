@@ -16,7 +16,7 @@ use Rattle.legal_history.specs.News.{helds, lanes, lane_calls}
 use Rattle.legal_history.proofs.Steps.{some_below, one_at}
 use Rattle.legal_history.proofs.Rounds.{Mem, calls_is, find_lane, grew}
 use Rattle.cell_lanes.specs.declared.lane.Line.{Line}
-use Rattle.cell_lanes.specs.declared.lane.Lane.{Lane}
+use Rattle.cell_lanes.specs.Lines.{LaneText}
 use Rattle.cell_lanes.specs.declared.lane.Slot.{Slot}
 use Rattle.cell_lanes.specs.declared.lane.Job.{Job}
 use Rattle.cell_lanes.specs.Calls.{StandAs}
@@ -122,24 +122,24 @@ module _ {K : Type 0} where
       none None h = refl
       none (Some t) h = ne_eqb (slice_index cs t) j (λ q. far t (at_or cs t 0 h ∙ ap some q))
 
-  calls_at : (j : ℕ) (ls : List (Lane K)) (done : ℕ → ℕ) (l : ℕ) (a : Lane K) → get_elem? ls l ≡ some a → calls_on j ls done l ≡ cell_calls j a.cells.items (take (done l) a.lines.items)
+  calls_at : (j : ℕ) (ls : List (LaneText K)) (done : ℕ → ℕ) (l : ℕ) (a : LaneText K) → get_elem? ls l ≡ some a → calls_on j ls done l ≡ cell_calls j a.cells (take (done l) a.lines)
   calls_at j [] done l a e = absurd (some-ne-none a (sym e))
-  calls_at j (x ∷ xs) done zero a e = ap (λ (y : Lane K). cell_calls j y.cells.items (take (done 0) y.lines.items)) (some-injective x a e)
+  calls_at j (x ∷ xs) done zero a e = ap (λ (y : LaneText K). cell_calls j y.cells (take (done 0) y.lines)) (some-injective x a e)
   calls_at j (x ∷ xs) done (suc l) a e = calls_at j xs (λ k. done (suc k)) l a e
 
-  calls_none : (j : ℕ) (ls : List (Lane K)) (done : ℕ → ℕ) (l : ℕ) → done l ≡ 0 → calls_on j ls done l ≡ []
+  calls_none : (j : ℕ) (ls : List (LaneText K)) (done : ℕ → ℕ) (l : ℕ) → done l ≡ 0 → calls_on j ls done l ≡ []
   calls_none j [] done l z = refl
-  calls_none j (x ∷ xs) done zero z = ap (λ n. cell_calls j x.cells.items (take n x.lines.items)) z ∙ ap (cell_calls j x.cells.items) (take_none x.lines.items)
+  calls_none j (x ∷ xs) done zero z = ap (λ n. cell_calls j x.cells (take n x.lines)) z ∙ ap (cell_calls j x.cells) (take_none x.lines)
   calls_none j (x ∷ xs) done (suc l) z = calls_none j xs (λ k. done (suc k)) l z
 
 -- lanes that have made all their calls
-pub all_calls : {K : Type 0} (j : ℕ) (ls : List (Lane K)) (done : ℕ → ℕ) (l : ℕ) → AllDone ls done → calls_on j ls done l ≡ all_calls_on j ls l
+pub all_calls : {K : Type 0} (j : ℕ) (ls : List (LaneText K)) (done : ℕ → ℕ) (l : ℕ) → AllDone ls done → calls_on j ls done l ≡ all_calls_on j ls l
 all_calls j [] done l all = refl
-all_calls j (x ∷ xs) done zero all = ap (cell_calls j x.cells.items) (take_whole x.lines.items (done 0) (let e = all 0 x refl in omega arith))
+all_calls j (x ∷ xs) done zero all = ap (cell_calls j x.cells) (take_whole x.lines (done 0) (let e = all 0 x refl in omega arith))
 all_calls j (x ∷ xs) done (suc l) all = all_calls j xs (λ k. done (suc k)) l (λ k y e. all (suc k) y e)
 
 -- no lane has made a call
-pub grew_none : {S K M : Type 0} (root : S → View M) (stands : K → List M → Type 0) (ls : List (Lane K)) (j : ℕ) (c : S) → Grew root stands ls (λ _. 0) j c c
+pub grew_none : {S K M : Type 0} (root : S → View M) (stands : K → List M → Type 0) (ls : List (LaneText K)) (j : ℕ) (c : S) → Grew root stands ls (λ _. 0) j c c
 grew_none root stands ls j c = ((λ l. []), (λ l. subst (λ ks. StandAs stands ks []) (sym (calls_none j ls (λ _. 0) l refl)) refl), ([], (λ l. refl), sym (append-nil (calls (root c).seen))))
 
 module _ {L : Type 0} where
@@ -256,28 +256,28 @@ module _ {L M : Type 0} (knows : L → View M) where
       let two : t ≡ k = q.2 ∙ ap (λ (z : ℕ × Held M). z.0) g.4 in
       absurd (omega arith)))
 
-  module _ {K : Type 0} (stands : K → List M → Type 0) (j count : ℕ) (ls : List (Lane K)) (jobs : List (Job L)) (fit : AllFit count ls) (few : length jobs ≤ length ls) (ran : JobsRan knows stands ls jobs) where
+  module _ {K : Type 0} (stands : K → List M → Type 0) (j count : ℕ) (ls : List (LaneText K)) (jobs : List (Job L)) (fit : AllFit count ls) (few : length jobs ≤ length ls) (ran : JobsRan knows stands ls jobs) where
     once : (l : ℕ) (y : Job L) → get_elem? jobs l ≡ some y → Distinct (cells_of y.slots.items)
     once l y f =
         let b : l < length jobs = some_below jobs l y f in
         let a = below_some ls l (omega arith) in
-        subst Distinct (sym (ran l a.0 y a.1 f).some_cells) (distinct_take (length y.slots.items) a.0.cells.items (fit l a.0 a.1).once)
+        subst Distinct (sym (ran l a.0 y a.1 f).some_cells) (distinct_take (length y.slots.items) a.0.cells (fit l a.0 a.1).once)
 
     apart : Distinct (lanes (all_given knows j 0 jobs))
     apart = all_apart j 0 jobs once
 
     -- the calls on cell j of a lane that has a pass of it
-    through : (a : Lane K) (y : Job L) (s : ℕ) → get_elem? (cells_of y.slots.items) s ≡ some j → Distinct a.cells.items → LineFit (length a.cells.items) a.lines.items → (y.done ≡ 0) ⊎ (cells_of y.slots.items ≡ a.cells.items)
-        → slot_calls s (take y.done a.lines.items) ≡ cell_calls j a.cells.items (take y.done a.lines.items)
+    through : (a : LaneText K) (y : Job L) (s : ℕ) → get_elem? (cells_of y.slots.items) s ≡ some j → Distinct a.cells → LineFit (length a.cells) a.lines → (y.done ≡ 0) ⊎ (cells_of y.slots.items ≡ a.cells)
+        → slot_calls s (take y.done a.lines) ≡ cell_calls j a.cells (take y.done a.lines)
     through a y s at d lines = ⊎_elim
-        (λ (z : y.done ≡ 0). let none : take y.done a.lines.items ≡ [] = ap (λ n. take n a.lines.items) z ∙ take_none a.lines.items in ap (slot_calls s) none ∙ sym (ap (cell_calls j a.cells.items) none))
-        (λ (q : cells_of y.slots.items ≡ a.cells.items). slot_is_cell a.cells.items (take y.done a.lines.items) s j d (subst (λ cs. get_elem? cs s ≡ some j) q at) (λ k x e. lines k x (take_at y.done a.lines.items k x e)))
+        (λ (z : y.done ≡ 0). let none : take y.done a.lines ≡ [] = ap (λ n. take n a.lines) z ∙ take_none a.lines in ap (slot_calls s) none ∙ sym (ap (cell_calls j a.cells) none))
+        (λ (q : cells_of y.slots.items ≡ a.cells). slot_is_cell a.cells (take y.done a.lines) s j d (subst (λ cs. get_elem? cs s ≡ some j) q at) (λ k x e. lines k x (take_at y.done a.lines k x e)))
 
     -- of a lane that has none
-    no_pass : (a : Lane K) (y : Job L) → ((s : ℕ) → get_elem? (cells_of y.slots.items) s ≡ some j → ⊥) → LineFit (length a.cells.items) a.lines.items → (y.done ≡ 0) ⊎ (cells_of y.slots.items ≡ a.cells.items) → cell_calls j a.cells.items (take y.done a.lines.items) ≡ []
+    no_pass : (a : LaneText K) (y : Job L) → ((s : ℕ) → get_elem? (cells_of y.slots.items) s ≡ some j → ⊥) → LineFit (length a.cells) a.lines → (y.done ≡ 0) ⊎ (cells_of y.slots.items ≡ a.cells) → cell_calls j a.cells (take y.done a.lines) ≡ []
     no_pass a y far lines = ⊎_elim
-        (λ (z : y.done ≡ 0). ap (cell_calls j a.cells.items) (ap (λ n. take n a.lines.items) z ∙ take_none a.lines.items))
-        (λ (q : cells_of y.slots.items ≡ a.cells.items). no_slot a.cells.items (take y.done a.lines.items) j (λ s e. far s (subst (λ cs. get_elem? cs s ≡ some j) (sym q) e)) (λ k x e. lines k x (take_at y.done a.lines.items k x e)))
+        (λ (z : y.done ≡ 0). ap (cell_calls j a.cells) (ap (λ n. take n a.lines) z ∙ take_none a.lines))
+        (λ (q : cells_of y.slots.items ≡ a.cells). no_slot a.cells (take y.done a.lines) j (λ s e. far s (subst (λ cs. get_elem? cs s ≡ some j) (sym q) e)) (λ k x e. lines k x (take_at y.done a.lines k x e)))
 
     stand_none : (l : ℕ) → calls_on j ls (done_of jobs) l ≡ [] → ((x : ℕ × Held M) → Mem x (all_given knows j 0 jobs) → x.0 ≢ l) → StandAs stands (calls_on j ls (done_of jobs) l) (lane_calls (all_given knows j 0 jobs) l)
     stand_none l none far = subst (λ ks. StandAs stands ks (lane_calls (all_given knows j 0 jobs) l)) (sym none)
@@ -287,16 +287,16 @@ module _ {L M : Type 0} (knows : L → View M) where
         (find_lane (all_given knows j 0 jobs) l))
 
     -- one lane and its job
-    module _ (l : ℕ) (a : Lane K) (y : Job L) (at : get_elem? ls l ≡ some a) (its : get_elem? jobs l ≡ some y) where
-      calls_are : calls_on j ls (done_of jobs) l ≡ cell_calls j a.cells.items (take y.done a.lines.items)
-      calls_are = calls_at j ls (done_of jobs) l a at ∙ ap (λ n. cell_calls j a.cells.items (take n a.lines.items)) (done_at jobs l y its)
+    module _ (l : ℕ) (a : LaneText K) (y : Job L) (at : get_elem? ls l ≡ some a) (its : get_elem? jobs l ≡ some y) where
+      calls_are : calls_on j ls (done_of jobs) l ≡ cell_calls j a.cells (take y.done a.lines)
+      calls_are = calls_at j ls (done_of jobs) l a at ∙ ap (λ n. cell_calls j a.cells (take n a.lines)) (done_at jobs l y its)
 
       -- what the pass in slot s, a pass of cell j, came back with
       with_pass : (s : ℕ) (z : Slot L) → get_elem? y.slots.items s ≡ some z → z.cell ≡ j → StandAs stands (calls_on j ls (done_of jobs) l) (lane_calls (all_given knows j 0 jobs) l)
       with_pass s z there cell =
           let came_is : Mem {A = ℕ × Held M} (came l z) (all_given knows j 0 jobs) = subst (λ n. Mem {A = ℕ × Held M} (came n z) (all_given knows j 0 jobs)) (omega arith) (all_has j 0 jobs l y s z its there cell) in
-          let its_calls : StandAs stands (slot_calls s (take y.done a.lines.items)) (knows z.lent).mine = (ran l a y at its).made s z there in
-          let through_is : slot_calls s (take y.done a.lines.items) ≡ calls_on j ls (done_of jobs) l =
+          let its_calls : StandAs stands (slot_calls s (take y.done a.lines)) (knows z.lent).mine = (ran l a y at its).made s z there in
+          let through_is : slot_calls s (take y.done a.lines) ≡ calls_on j ls (done_of jobs) l =
           through a y s (at_cell y.slots.items s z there ∙ ap some cell) (fit l a at).once (fit l a at).lines (ran l a y at its).whole ∙ sym calls_are in
           subst (StandAs stands (calls_on j ls (done_of jobs) l)) (sym (calls_is (all_given knows j 0 jobs) (came l z) apart came_is))
           (subst (λ ks. StandAs stands ks (knows z.lent).mine) through_is its_calls)
@@ -341,7 +341,7 @@ module _ {L M : Type 0} (knows : L → View M) where
         let a = below_some ls g.0 (let b = some_below jobs g.0 g.1 g.2 in omega arith) in
         let slots = g.1.slots.items in
         let cell = subst (λ cs. get_elem? cs g.3.0 ≡ some j) (ran g.0 a.0 g.1 a.1 g.2).some_cells (at_cell slots g.3.0 g.3.1 g.3.2 ∙ ap some g.3.3) in
-        (g.0, a.0, a.1, (g.3.0, take_at (length slots) a.0.cells.items g.3.0 j cell))
+        (g.0, a.0, a.1, (g.3.0, take_at (length slots) a.0.cells g.3.0 j cell))
 
     -- a root is settled after a round if it was before, once what lanes name is settled
     settled_of : {S : Type 0} (root : S → View M) (stays : S → S → Type 0) (c0 c1 c2 : S) → Settled (root c0) → Lends root stays (lent_on j jobs) c0 c1 → Takes root stays (all_given knows j 0 jobs) c1 c2 → (Named j ls → Settled (root c2)) → Settled (root c2)
@@ -383,14 +383,14 @@ module _ {L M : Type 0} (knows : L → View M) where
         omega (arith, all_count j 0 jobs)
 
     -- once what lanes name is settled, all are at rest
-    pub all_rest : {K : Type 0} (stands : K → List M → Type 0) (count : ℕ) (ls : List (Lane K)) → AllFit count ls → length jobs ≤ length ls → JobsRan knows stands ls jobs → ((j : ℕ) → Named j ls → SettledAt root r2 j) → AtRest root r2
+    pub all_rest : {K : Type 0} (stands : K → List M → Type 0) (count : ℕ) (ls : List (LaneText K)) → AllFit count ls → length jobs ≤ length ls → JobsRan knows stands ls jobs → ((j : ℕ) → Named j ls → SettledAt root r2 j) → AtRest root r2
     all_rest stands count ls fit few ran named j p e =
         let b : j < length r2 = some_below r2 j p e in
         let q1 = below_some r1 j (omega arith) in
         let q0 = below_some r0 j (omega arith) in
         (all_home j p e, settled_of stands j count ls jobs fit few ran root stays q0.0 q1.0 p (rest j q0.0 q0.1).1 (lends j q0.0 q1.0 q0.1 q1.1) (takes j q1.0 p q1.1 e) (λ n. named j n p e))
 
-    pub all_grew : {K : Type 0} (stands : K → List M → Type 0) (count : ℕ) (ls : List (Lane K)) (fit : AllFit count ls) (few : length jobs ≤ length ls) (ran : JobsRan knows stands ls jobs)
+    pub all_grew : {K : Type 0} (stands : K → List M → Type 0) (count : ℕ) (ls : List (LaneText K)) (fit : AllFit count ls) (few : length jobs ≤ length ls) (ran : JobsRan knows stands ls jobs)
         (r3 : List S) → length r3 ≡ length r2 → Each (λ j. Same root stays) r2 r3 → AtRest root r3 → Each (Grew root stands ls (done_of jobs)) r0 r3
     all_grew stands count ls fit few ran r3 len3 looked rest3 j p q e g =
         let b : j < length r0 = some_below r0 j p e in

@@ -7,7 +7,7 @@ use Rattle.legal_history.specs.declared.history.View.{View}
 use Rattle.legal_history.specs.History.{lender}
 use Rattle.legal_history.specs.Order.{flag, times}
 use Rattle.legal_history.proofs.Steps.{some_below, one_at, at_snoc_index}
-use Rattle.cell_lanes.specs.declared.lane.Lane.{Lane}
+use Rattle.cell_lanes.specs.Lines.{LaneText}
 use Rattle.cell_lanes.specs.declared.lane.Slot.{Slot}
 use Rattle.cell_lanes.specs.declared.lane.Job.{Job}
 use Rattle.cell_lanes.specs.Lanes.{Each, Roots, Stays, Owns, Lends, cells_of, SlotsFit, Fresh, JobsFit, JobsFresh, lent_on}
@@ -127,11 +127,11 @@ module _ {L M : Type 0} (knows : L → View M) where
   pub fresh_one : (slots : List (Slot L)) (x : Slot L) → (knows x.lent).mine ≡ [] → Fresh knows slots → Fresh knows (slots ++ x ∷ [])
   fresh_one slots x none all s y e = ⊎_elim (all s y) (λ (q : x ≡ y). subst (λ (z : Slot L). (knows z.lent).mine ≡ []) q none) (at_snoc slots x y s e)
 
-  pub jobs_fresh_one : {K : Type 0} (ls : List (Lane K)) (jobs : List (Job L)) (job : Job L) (a : Lane K) → get_elem? ls (length jobs) ≡ some a → cells_of job.slots.items ≡ take (length job.slots.items) a.cells.items → Fresh knows job.slots.items → job.done ≡ 0
+  pub jobs_fresh_one : {K : Type 0} (ls : List (LaneText K)) (jobs : List (Job L)) (job : Job L) (a : LaneText K) → get_elem? ls (length jobs) ≡ some a → cells_of job.slots.items ≡ take (length job.slots.items) a.cells → Fresh knows job.slots.items → job.done ≡ 0
       → JobsFresh knows ls jobs → JobsFresh knows ls (jobs ++ job ∷ [])
   jobs_fresh_one {K} ls jobs job a at is fresh none all l b x e f = ⊎_elim
       (λ (q : get_elem? jobs l ≡ some x). all l b x e q)
       (λ (q : (l ≡ length jobs) × (job ≡ x)).
       let same : a ≡ b = one_at ls (length jobs) a b at (subst (λ n. get_elem? ls n ≡ some b) q.0 e) in
-      subst (λ (p : Lane K × Job L). (cells_of p.1.slots.items ≡ take (length p.1.slots.items) p.0.cells.items) × Fresh knows p.1.slots.items × (p.1.done ≡ 0)) (λ k. (same k, q.1 k)) (is, fresh, none))
+      subst (λ (p : LaneText K × Job L). (cells_of p.1.slots.items ≡ take (length p.1.slots.items) p.0.cells) × Fresh knows p.1.slots.items × (p.1.done ≡ 0)) (λ k. (same k, q.1 k)) (is, fresh, none))
       (at_snoc_index jobs job x l f)

@@ -1,5 +1,5 @@
 -- Lists, by index.
-use Rattle.std.proofs.Common.{◌≡◌, ◌≢◌, ℕ, zero, suc, ◌<◌, ◌≤◌, List, [], ◌∷◌, ◌++◌, length, take, set, refl, sym, ap, subst, ⊎_elim, arith}
+use Rattle.std.proofs.Common.{◌≡◌, ◌≢◌, ℕ, zero, suc, ◌<◌, ◌≤◌, List, [], ◌∷◌, ◌++◌, length, take, drop, set, refl, sym, ap, subst, ⊎_elim, arith}
 use Rattle.std.specs.Prelude.{Option, Some, None, IfSome, slice_index_or}
 use mathlib.Core.Option.{some, some-ne-none, some-injective}
 use lib.ListN.{get_elem?}
@@ -37,6 +37,33 @@ module _ {A : Type 0} where
   take_whole [] (suc n) h = refl
   take_whole (x ∷ xs) zero h = absurd (omega arith)
   take_whole (x ∷ xs) (suc n) h = ap (λ l. x ∷ l) (take_whole xs n (omega arith))
+
+  -- what is left behind n items begins with the next
+  pub next_at : (xs : List A) (n : ℕ) (x : A) (ys : List A) → drop n xs ≡ x ∷ ys → get_elem? xs n ≡ some x
+  next_at [] zero x ys e = let m = ap length e in absurd (omega arith)
+  next_at [] (suc n) x ys e = let m = ap length e in absurd (omega arith)
+  next_at (z ∷ zs) zero x ys e = ap (λ l. get_elem? l 0) e
+  next_at (z ∷ zs) (suc n) x ys e = next_at zs n x ys e
+
+  pub next_below : (xs : List A) (n : ℕ) (x : A) (ys : List A) → drop n xs ≡ x ∷ ys → n < length xs
+  next_below xs n x ys e = some_below xs n x (next_at xs n x ys e)
+
+  pub next_take : (xs : List A) (n : ℕ) (x : A) (ys : List A) → drop n xs ≡ x ∷ ys → take (suc n) xs ≡ take n xs ++ x ∷ []
+  next_take [] zero x ys e = let m = ap length e in absurd (omega arith)
+  next_take [] (suc n) x ys e = let m = ap length e in absurd (omega arith)
+  next_take (z ∷ zs) zero x ys e = ap (take 1) e
+  next_take (z ∷ zs) (suc n) x ys e = ap (λ l. z ∷ l) (next_take zs n x ys e)
+
+  pub next_drop : (xs : List A) (n : ℕ) (x : A) (ys : List A) → drop n xs ≡ x ∷ ys → drop (suc n) xs ≡ ys
+  next_drop [] zero x ys e = let m = ap length e in absurd (omega arith)
+  next_drop [] (suc n) x ys e = let m = ap length e in absurd (omega arith)
+  next_drop (z ∷ zs) zero x ys e = ap (drop 1) e
+  next_drop (z ∷ zs) (suc n) x ys e = next_drop zs n x ys e
+
+  pub none_left : (xs : List A) (n : ℕ) → drop n xs ≡ [] → length xs ≤ n
+  none_left [] n e = omega arith
+  none_left (z ∷ zs) zero e = let m = ap length e in absurd (omega arith)
+  none_left (z ∷ zs) (suc n) e = let m = none_left zs n e in omega arith
 
   -- what stands before other items
   pub front_of : (xs ys : List A) (n : ℕ) → length xs ≡ n → take n (xs ++ ys) ≡ xs

@@ -12,7 +12,7 @@ use Rattle.legal_history.specs.History.{calls, held, after, longer, Sees}
 use Rattle.legal_history.specs.Order.{GrewInOrder}
 use Rattle.legal_history.specs.Mapped.{IsOneToOne, mapped_entry, mapped_log, mapped_held, mapped_view}
 use Rattle.legal_history.proofs.Mapped.{after-mapped, sees-mapped, longer-mapped, prefix-mapped, grew-back}
-use Rattle.cell_lanes.specs.declared.lane.Lane.{Lane}
+use Rattle.cell_lanes.specs.Lines.{LaneText}
 use Rattle.cell_lanes.specs.Calls.{Made, StandAs}
 use Rattle.cell_lanes.specs.Things.{TookBack}
 use Rattle.cell_lanes.specs.Lanes.{Grew, calls_on}
@@ -46,7 +46,7 @@ module _ {C D : Type 0} (f : C → D) where
         s.4 ∙ ap (λ l. l ++ s.1) (all.0 s.0 s.2) ∙ ap (λ l. map f (makes k) ++ l) (stand_as_images ks s.1 all.1 s.3) ∙ sym (map-append f (makes k) (flat_map makes ks))
 
     -- a thing whose history is seen so grew by the calls that were asked for
-    pub grew_own : IsOneToOne f → {S : Type 0} (root : S → View D) (lanes : List (Lane K)) (done : ℕ → ℕ) (j : ℕ) (c d : S) (v w : View C)
+    pub grew_own : IsOneToOne f → {S : Type 0} (root : S → View D) (lanes : List (LaneText K)) (done : ℕ → ℕ) (j : ℕ) (c d : S) (v w : View C)
         → root c ≡ mapped_view f v → root d ≡ mapped_view f w → ((l : ℕ) → AllByRecursion StandsAsImages (calls_on j lanes done l)) → Grew root stands lanes done j c d
         → GrewInOrder (λ l. flat_map makes (calls_on j lanes done l)) v.seen w.seen
     grew_own once root lanes done j c d v w from to all grew =

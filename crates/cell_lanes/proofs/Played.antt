@@ -10,7 +10,7 @@ use Rattle.legal_history.specs.History.{calls, said, after, looked, Sees, Settle
 use Rattle.legal_history.specs.Order.{taken, IsOrder}
 use Rattle.legal_history.specs.News.{calls_if}
 use Rattle.legal_history.proofs.Lists.{calls-append}
-use Rattle.cell_lanes.specs.declared.lane.Lane.{Lane}
+use Rattle.cell_lanes.specs.Lines.{LaneText}
 use Rattle.cell_lanes.specs.Calls.{StandAs, Found, Shows}
 use Rattle.cell_lanes.specs.Lanes.{AllDone, Each, Finished, Grew, GrewWhole, all_calls_on, calls_on, none_later, later_on}
 use Rattle.cell_lanes.proofs.Jobs.{all_calls}
@@ -65,7 +65,7 @@ module _ {C : Type 0} where
   pub later_none : (i : ℕ) → later_on {M = C} i [] ≡ none_later
   later_none i k j = if_none (j == i) k
 
-module _ {S K M : Type 0} (root : S → View M) (stands : K → List M → Type 0) (lanes : List (Lane K)) (done : ℕ → ℕ) (all : AllDone lanes done) where
+module _ {S K M : Type 0} (root : S → View M) (stands : K → List M → Type 0) (lanes : List (LaneText K)) (done : ℕ → ℕ) (all : AllDone lanes done) where
   -- a history that grew by all calls of the lanes, and then by others
   grew_whole : (later : ℕ → List M) (j : ℕ) (c d e : S) → calls (root e).seen ≡ calls (root d).seen ++ later j → Grew root stands lanes done j c d → GrewWhole root stands lanes later j c e
   grew_whole later j c d e more grew = (
@@ -103,7 +103,7 @@ stand_itself [] ms e = e
 stand_itself (k ∷ ks) ms s = s.4 ∙ (ap (λ l. l ++ s.1) s.2 ∙ ap (λ l. k ∷ l) (stand_itself ks s.1 s.3))
 
 -- the calls of a round in which all lanes made all their calls
-pub round_calls : {S K : Type 0} (root : S → View K) (ls : List (Lane K)) (done : ℕ → ℕ) (j : ℕ) (c d : S) → AllDone ls done → Grew root (λ k made. made ≡ k ∷ []) ls done j c d
+pub round_calls : {S K : Type 0} (root : S → View K) (ls : List (LaneText K)) (done : ℕ → ℕ) (j : ℕ) (c d : S) → AllDone ls done → Grew root (λ k made. made ≡ k ∷ []) ls done j c d
     → (order : List ℕ) × IsOrder order (λ l. all_calls_on j ls l) × (calls (root d).seen ≡ calls (root c).seen ++ taken order (λ l. all_calls_on j ls l))
 round_calls {K = K} root ls done j c d all grew =
     let same : grew.0 ≡ (λ l. all_calls_on j ls l) = λ i l. (stand_itself (calls_on j ls done l) (grew.0 l) (grew.1 l) ∙ all_calls j ls done l all) i in

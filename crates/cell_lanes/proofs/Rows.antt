@@ -7,7 +7,7 @@ use Rattle.atomic_table.proofs.Lists.{at_map, set_again}
 use Rattle.legal_history.specs.declared.history.View.{View}
 use Rattle.legal_history.proofs.Steps.{some_below, one_at}
 use Rattle.legal_history.specs.History.{Settled}
-use Rattle.cell_lanes.specs.declared.lane.Lane.{Lane}
+use Rattle.cell_lanes.specs.Lines.{LaneText}
 use Rattle.cell_lanes.specs.Things.{Thing, root_of}
 use Rattle.cell_lanes.specs.Lanes.{Each, Grew, Roots, AtRest}
 use Rattle.cell_lanes.proofs.Lists.{below_some}
@@ -50,7 +50,7 @@ module _ {S M F : Type 0} (root : S → View M) (fixed : S → F) where
   pub rests_out : (xs : List S) → AtRest root_of (things xs) → AtRest root xs
   rests_out xs all j s e = all j (thing s) (at_map thing xs j s e)
 
-  pub grew_out : {K : Type 0} (stands : K → List M → Type 0) (lanes : List (Lane K)) (done : ℕ → ℕ) (xs ys : List S) → Each (Grew root_of stands lanes done) (things xs) (things ys) → Each (Grew root stands lanes done) xs ys
+  pub grew_out : {K : Type 0} (stands : K → List M → Type 0) (lanes : List (LaneText K)) (done : ℕ → ℕ) (xs ys : List S) → Each (Grew root_of stands lanes done) (things xs) (things ys) → Each (Grew root stands lanes done) xs ys
   grew_out stands lanes done xs ys each j s r e f = each j (thing s) (thing r) (at_map thing xs j s e) (at_map thing ys j r f)
 
   pub same_length : (xs ys : List S) → length (things ys) ≡ length (things xs) → length ys ≡ length xs

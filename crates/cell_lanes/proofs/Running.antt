@@ -13,7 +13,7 @@ use Rattle.legal_history.specs.Order.{times}
 use Rattle.legal_history.proofs.Lists.{keep-append}
 use Rattle.legal_history.proofs.Steps.{one_at, some_below}
 use Rattle.cell_lanes.specs.declared.lane.Line.{Line}
-use Rattle.cell_lanes.specs.declared.lane.Lane.{Lane}
+use Rattle.cell_lanes.specs.Lines.{LaneText}
 use Rattle.cell_lanes.specs.declared.lane.Slot.{Slot}
 use Rattle.cell_lanes.specs.declared.lane.Job.{Job}
 use Rattle.cell_lanes.specs.Calls.{Made, StandAs}
@@ -121,20 +121,20 @@ module _ {L M K : Type 0} (knows : L → View M) (stands : K → List M → Type
   made_none lines slots none fresh = subst (λ l. SlotsMade knows stands l slots) (sym none) (λ s x e. fresh s x e)
 
   -- a lane that has run
-  pub job_ran : {S : Type 0} (owns : S → L → Type 0) (a : Lane K) (x y : Job L) → cells_of x.slots.items ≡ a.cells.items → SlotsKept owns x.slots.items y.slots.items → SlotsMade knows stands (take y.done a.lines.items) y.slots.items → JobRan knows stands a y
+  pub job_ran : {S : Type 0} (owns : S → L → Type 0) (a : LaneText K) (x y : Job L) → cells_of x.slots.items ≡ a.cells → SlotsKept owns x.slots.items y.slots.items → SlotsMade knows stands (take y.done a.lines) y.slots.items → JobRan knows stands a y
   job_ran owns a x y whole kept made =
-      let same : cells_of y.slots.items ≡ a.cells.items = cells_kept owns x.slots.items y.slots.items kept ∙ whole in
+      let same : cells_of y.slots.items ≡ a.cells = cells_kept owns x.slots.items y.slots.items kept ∙ whole in
       record {
-        some_cells = same ∙ sym (Rattle.cell_lanes.proofs.Lists.take_whole a.cells.items (length y.slots.items) (let n = ap length same in let m = cells_length y.slots.items in omega arith));
+        some_cells = same ∙ sym (Rattle.cell_lanes.proofs.Lists.take_whole a.cells (length y.slots.items) (let n = ap length same in let m = cells_length y.slots.items in omega arith));
         whole = inr same;
         made = made;
       }
 
   -- a lane that has not
-  pub job_fresh : (a : Lane K) (x : Job L) → (cells_of x.slots.items ≡ take (length x.slots.items) a.cells.items) × Fresh knows x.slots.items × (x.done ≡ 0) → JobRan knows stands a x
-  job_fresh a x f = record { some_cells = f.0; whole = inl f.2; made = made_none (take x.done a.lines.items) x.slots.items (ap (λ n. take n a.lines.items) f.2 ∙ take_none a.lines.items) f.1 }
+  pub job_fresh : (a : LaneText K) (x : Job L) → (cells_of x.slots.items ≡ take (length x.slots.items) a.cells) × Fresh knows x.slots.items × (x.done ≡ 0) → JobRan knows stands a x
+  job_fresh a x f = record { some_cells = f.0; whole = inl f.2; made = made_none (take x.done a.lines) x.slots.items (ap (λ n. take n a.lines) f.2 ∙ take_none a.lines) f.1 }
 
-  pub jobs_fresh : (ls : List (Lane K)) (jobs : List (Job L)) → JobsFresh knows ls jobs → JobsRan knows stands ls jobs
+  pub jobs_fresh : (ls : List (LaneText K)) (jobs : List (Job L)) → JobsFresh knows ls jobs → JobsRan knows stands ls jobs
   jobs_fresh ls jobs all l a x e f = job_fresh a x (all l a x e f)
 
 -- jobs whose lanes have run hold passes of the same cells
@@ -160,8 +160,8 @@ cell_here (x ∷ xs) (suc s) y e = cell_here xs s y e
 -- a lane that has a pass for each cell that it names is ready
 pub ready : {S F L M K : Type 0} (root : S → View M) (lasts : F → F → Type 0) (fixed : S → F) (knows : L → View M) (owns : F → L → Type 0) (takes : F → K → Type 0)
     → ((f g : F) (call : K) → lasts f g → takes f call → takes g call)
-    → (n : ℕ → ℕ) (cs ds : List S) (ls : List (Lane K)) (l : ℕ) (a : Lane K) (x : Job L)
-    → get_elem? ls l ≡ some a → length ds ≡ length cs → Each (λ j. Lends root (Stays lasts fixed) (n j)) cs ds → Fit (length cs) a → AllTaken fixed takes cs ls → Fresh knows x.slots.items → cells_of x.slots.items ≡ a.cells.items → SlotsFit (Owns fixed owns) ds x.slots.items
+    → (n : ℕ → ℕ) (cs ds : List S) (ls : List (LaneText K)) (l : ℕ) (a : LaneText K) (x : Job L)
+    → get_elem? ls l ≡ some a → length ds ≡ length cs → Each (λ j. Lends root (Stays lasts fixed) (n j)) cs ds → Fit (length cs) a → AllTaken fixed takes cs ls → Fresh knows x.slots.items → cells_of x.slots.items ≡ a.cells → SlotsFit (Owns fixed owns) ds x.slots.items
     → LaneReady knows owns takes a x
 ready {S} root lasts fixed knows owns takes on n cs ds ls l a x at len lends fit taken fresh full slots = (
   fresh,
@@ -178,9 +178,9 @@ ready {S} root lasts fixed knows owns takes on n cs ds ls l a x at len lends fit
 )
 
 -- the jobs of lanes that have all run
-module _ {S L M K : Type 0} (knows : L → View M) (stands : K → List M → Type 0) (owns : S → L → Type 0) (ls : List (Lane K)) (xs ys : List (Job L)) (len : length ys ≡ length xs) (many : length xs ≡ length ls)
-    (full : (l : ℕ) (a : Lane K) (x : Job L) → get_elem? ls l ≡ some a → get_elem? xs l ≡ some x → cells_of x.slots.items ≡ a.cells.items)
-    (ran : (l : ℕ) (a : Lane K) (x y : Job L) → get_elem? ls l ≡ some a → get_elem? xs l ≡ some x → get_elem? ys l ≡ some y → LaneRan knows stands owns a x y) where
+module _ {S L M K : Type 0} (knows : L → View M) (stands : K → List M → Type 0) (owns : S → L → Type 0) (ls : List (LaneText K)) (xs ys : List (Job L)) (len : length ys ≡ length xs) (many : length xs ≡ length ls)
+    (full : (l : ℕ) (a : LaneText K) (x : Job L) → get_elem? ls l ≡ some a → get_elem? xs l ≡ some x → cells_of x.slots.items ≡ a.cells)
+    (ran : (l : ℕ) (a : LaneText K) (x y : Job L) → get_elem? ls l ≡ some a → get_elem? xs l ≡ some x → get_elem? ys l ≡ some y → LaneRan knows stands owns a x y) where
   ran_kept : (l : ℕ) (x y : Job L) → get_elem? xs l ≡ some x → get_elem? ys l ≡ some y → SlotsKept owns x.slots.items y.slots.items
   ran_kept l x y e f = let a = below_some ls l (let b = some_below xs l x e in omega arith) in (ran l a.0 x y a.1 e f).0
 
@@ -193,8 +193,8 @@ module _ {S L M K : Type 0} (knows : L → View M) (stands : K → List M → Ty
       let r = ran l a x.0 y e x.1 f in
       job_ran knows stands owns a x.0 y (full l a x.0 e x.1) r.0 r.1
 
-module _ {S F L M K : Type 0} (fixed : S → F) (knows : L → View M) (stands : K → List M → Type 0) (owns : F → L → Type 0) (ls : List (Lane K)) (xs ys : List (Job L)) (len : length ys ≡ length xs) (many : length xs ≡ length ls)
-    (ran : (l : ℕ) (a : Lane K) (x y : Job L) → get_elem? ls l ≡ some a → get_elem? xs l ≡ some x → get_elem? ys l ≡ some y → LaneRan knows stands owns a x y) where
+module _ {S F L M K : Type 0} (fixed : S → F) (knows : L → View M) (stands : K → List M → Type 0) (owns : F → L → Type 0) (ls : List (LaneText K)) (xs ys : List (Job L)) (len : length ys ≡ length xs) (many : length xs ≡ length ls)
+    (ran : (l : ℕ) (a : LaneText K) (x y : Job L) → get_elem? ls l ≡ some a → get_elem? xs l ≡ some x → get_elem? ys l ≡ some y → LaneRan knows stands owns a x y) where
   pub ran_fit : (cs : List S) → JobsFit (Owns fixed owns) cs xs → JobsFit (Owns fixed owns) cs ys
   ran_fit cs fit l y f =
       let x = below_some xs l (let b = some_below ys l y f in omega arith) in

@@ -10,7 +10,7 @@ use Rattle.legal_history.specs.Order.{times, taken, IsOrder, GrewInOrder}
 use Rattle.legal_history.specs.Places.{Ascend}
 use Rattle.legal_history.specs.News.{helds, calls_if}
 use Rattle.cell_lanes.specs.declared.lane.Line.{Line}
-use Rattle.cell_lanes.specs.declared.lane.Lane.{Lane}
+use Rattle.cell_lanes.specs.Lines.{LaneText, AreDone}
 use Rattle.cell_lanes.specs.declared.lane.Slot.{Slot}
 use Rattle.cell_lanes.specs.declared.lane.Job.{Job}
 use Rattle.cell_lanes.specs.Calls.{StandAs}
@@ -37,27 +37,27 @@ module _ {K : Type 0} where
   cell_calls j cs (x ∷ xs) = keep (is_on j cs x.slot) x.call (cell_calls j cs xs)
 
   -- what lane l asks for on cell j with its first `done l` lines
-  abbrev pub calls_on : ℕ → List (Lane K) → (ℕ → ℕ) → ℕ → List K
+  abbrev pub calls_on : ℕ → List (LaneText K) → (ℕ → ℕ) → ℕ → List K
   calls_on j [] done l = []
-  calls_on j (x ∷ xs) done zero = cell_calls j x.cells.items (take (done 0) x.lines.items)
+  calls_on j (x ∷ xs) done zero = cell_calls j x.cells (take (done 0) x.lines)
   calls_on j (x ∷ xs) done (suc l) = calls_on j xs (λ k. done (suc k)) l
 
   -- what lane l asks for on cell j with all its lines
-  abbrev pub all_calls_on : ℕ → List (Lane K) → ℕ → List K
+  abbrev pub all_calls_on : ℕ → List (LaneText K) → ℕ → List K
   all_calls_on j [] l = []
-  all_calls_on j (x ∷ xs) zero = cell_calls j x.cells.items x.lines.items
+  all_calls_on j (x ∷ xs) zero = cell_calls j x.cells x.lines
   all_calls_on j (x ∷ xs) (suc l) = all_calls_on j xs l
 
   -- each lane has made all its calls
-  abbrev pub AllDone : List (Lane K) → (ℕ → ℕ) → Type 0
-  AllDone lanes done = (l : ℕ) (x : Lane K) → get_elem? lanes l ≡ some x → done l ≡ length x.lines.items
+  abbrev pub AllDone : List (LaneText K) → (ℕ → ℕ) → Type 0
+  AllDone lanes done = (l : ℕ) (x : LaneText K) → get_elem? lanes l ≡ some x → done l ≡ length x.lines
 
   -- a lane has calls left that it has not made
-  abbrev pub SomeLeft : List (Lane K) → (ℕ → ℕ) → Type 0
-  SomeLeft lanes done = (l : ℕ) × (x : Lane K) × (get_elem? lanes l ≡ some x) × (done l < length x.lines.items)
+  abbrev pub SomeLeft : List (LaneText K) → (ℕ → ℕ) → Type 0
+  SomeLeft lanes done = (l : ℕ) × (x : LaneText K) × (get_elem? lanes l ≡ some x) × (done l < length x.lines)
 
   -- a lane has calls left, or none has made any
-  abbrev pub Unfinished : List (Lane K) → (ℕ → ℕ) → Type 0
+  abbrev pub Unfinished : List (LaneText K) → (ℕ → ℕ) → Type 0
   Unfinished lanes done = SomeLeft lanes done ⊎ ((l : ℕ) → done l ≡ 0)
 
   -- a line's slot, if it is on a thing, is one of these
@@ -68,36 +68,36 @@ module _ {K : Type 0} where
   LineFit slots lines = (k : ℕ) (x : Line K) → get_elem? lines k ≡ some x → HasSlot slots x
 
   -- each cell that a lane names is there, and is named once; each line has a slot, or is on no thing
-  pub record Fit (count : ℕ) (lane : Lane K) : Type 0 where
-    pub cells : (s j : ℕ) → get_elem? lane.cells.items s ≡ some j → j < count
-    pub once : Distinct lane.cells.items
-    pub lines : LineFit (length lane.cells.items) lane.lines.items
+  pub record Fit (count : ℕ) (lane : LaneText K) : Type 0 where
+    pub cells : (s j : ℕ) → get_elem? lane.cells s ≡ some j → j < count
+    pub once : Distinct lane.cells
+    pub lines : LineFit (length lane.cells) lane.lines
 
-  abbrev pub AllFit : ℕ → List (Lane K) → Type 0
-  AllFit count lanes = (l : ℕ) (x : Lane K) → get_elem? lanes l ≡ some x → Fit count x
+  abbrev pub AllFit : ℕ → List (LaneText K) → Type 0
+  AllFit count lanes = (l : ℕ) (x : LaneText K) → get_elem? lanes l ≡ some x → Fit count x
 
   -- the cells that a lane names ascend and are there; each line has a slot, or is on no thing
-  pub record InOrder (count : ℕ) (lane : Lane K) : Type 0 where
-    pub cells : Ascend 0 count lane.cells.items
-    pub lines : LineFit (length lane.cells.items) lane.lines.items
+  pub record InOrder (count : ℕ) (lane : LaneText K) : Type 0 where
+    pub cells : Ascend 0 count lane.cells
+    pub lines : LineFit (length lane.cells) lane.lines
 
-  abbrev pub AllInOrder : ℕ → List (Lane K) → Type 0
-  AllInOrder count lanes = (l : ℕ) (x : Lane K) → get_elem? lanes l ≡ some x → InOrder count x
+  abbrev pub AllInOrder : ℕ → List (LaneText K) → Type 0
+  AllInOrder count lanes = (l : ℕ) (x : LaneText K) → get_elem? lanes l ≡ some x → InOrder count x
 
   -- a lane names cell j
-  abbrev pub Named : ℕ → List (Lane K) → Type 0
-  Named j lanes = (l : ℕ) × (x : Lane K) × (get_elem? lanes l ≡ some x) × ((s : ℕ) × (get_elem? x.cells.items s ≡ some j))
+  abbrev pub Named : ℕ → List (LaneText K) → Type 0
+  Named j lanes = (l : ℕ) × (x : LaneText K) × (get_elem? lanes l ≡ some x) × ((s : ℕ) × (get_elem? x.cells s ≡ some j))
 
 -- a relation of each one before and after
 abbrev pub Each : {S : Type 0} → (ℕ → S → S → Type 0) → List S → List S → Type 0
 Each {S} R cs ds = (j : ℕ) (c d : S) → get_elem? cs j ≡ some c → get_elem? ds j ≡ some d → R j c d
 
 -- the history grew by what the lanes asked for on cell j, in one order in which each lane's calls stand as it made them
-abbrev pub Grew : {S K M : Type 0} → (S → View M) → (K → List M → Type 0) → List (Lane K) → (ℕ → ℕ) → ℕ → S → S → Type 0
+abbrev pub Grew : {S K M : Type 0} → (S → View M) → (K → List M → Type 0) → List (LaneText K) → (ℕ → ℕ) → ℕ → S → S → Type 0
 Grew {M = M} root stands lanes done j c d = (lists : ℕ → List M) × ((l : ℕ) → StandAs stands (calls_on j lanes done l) (lists l)) × GrewInOrder lists (root c).seen (root d).seen
 
 -- the same where all lanes made all their calls, and calls that were made after the round stand behind them
-abbrev pub GrewWhole : {S K M : Type 0} → (S → View M) → (K → List M → Type 0) → List (Lane K) → (ℕ → List M) → ℕ → S → S → Type 0
+abbrev pub GrewWhole : {S K M : Type 0} → (S → View M) → (K → List M → Type 0) → List (LaneText K) → (ℕ → List M) → ℕ → S → S → Type 0
 GrewWhole {M = M} root stands lanes later j c d =
     (lists : ℕ → List M) × ((l : ℕ) → StandAs stands (all_calls_on j lanes l) (lists l)) × (order : List ℕ) × IsOrder order lists
     × (calls (root d).seen ≡ (calls (root c).seen ++ taken order lists) ++ later j)
@@ -110,7 +110,7 @@ abbrev pub later_on : {M : Type 0} → ℕ → List M → ℕ → List M
 later_on index made j = calls_if (j == index) made []
 
 -- a round that finished, and calls after it: there are as many things as before, and each history grew so
-pub record Finished {S K M : Type 0} (root : S → View M) (stands : K → List M → Type 0) (lanes : List (Lane K)) (later : ℕ → List M) (cs ds : List S) : Type 0 where
+pub record Finished {S K M : Type 0} (root : S → View M) (stands : K → List M → Type 0) (lanes : List (LaneText K)) (later : ℕ → List M) (cs ds : List S) : Type 0 where
   pub many : length ds ≡ length cs
   pub grew : Each (GrewWhole root stands lanes later) cs ds
 
@@ -128,7 +128,7 @@ pub record ReadAfter {K M R : Type 0} (reads : View M → R → View M → Type 
   pub grew : calls found.seen ≡ calls before.seen ++ taken order lists
 
 -- lanes that stopped: each history grew by the first calls of each lane; a lane has calls left, or none has made any
-abbrev pub Stopped : {S K M : Type 0} → (S → View M) → (K → List M → Type 0) → List (Lane K) → List S → List S → Type 0
+abbrev pub Stopped : {S K M : Type 0} → (S → View M) → (K → List M → Type 0) → List (LaneText K) → List S → List S → Type 0
 Stopped root stands lanes cs ds = (done : ℕ → ℕ) × Unfinished lanes done × Each (Grew root stands lanes done) cs ds
 
 module _ {S M : Type 0} (root : S → View M) where
@@ -205,10 +205,10 @@ abbrev pub LinesTaken : {F L K : Type 0} → (F → L → Type 0) → (F → K �
 LinesTaken {K = K} owns takes slots lines = (k : ℕ) (x : Line K) → get_elem? lines k ≡ some x → LineTaken owns takes slots x
 
 -- each lane's calls are on things that take them, or on none
-abbrev pub AllTaken : {S F K : Type 0} → (S → F) → (F → K → Type 0) → List S → List (Lane K) → Type 0
-AllTaken {S} {F} {K} fixed takes cs lanes = (l : ℕ) (a : Lane K) (k : ℕ) (x : Line K)
-    → get_elem? lanes l ≡ some a → get_elem? a.lines.items k ≡ some x
-    → IfSome x.slot (λ slot. (j : ℕ) (c : S) → get_elem? a.cells.items slot ≡ some j → get_elem? cs j ≡ some c → takes (fixed c) x.call)
+abbrev pub AllTaken : {S F K : Type 0} → (S → F) → (F → K → Type 0) → List S → List (LaneText K) → Type 0
+AllTaken {S} {F} {K} fixed takes cs lanes = (l : ℕ) (a : LaneText K) (k : ℕ) (x : Line K)
+    → get_elem? lanes l ≡ some a → get_elem? a.lines k ≡ some x
+    → IfSome x.slot (λ slot. (j : ℕ) (c : S) → get_elem? a.cells slot ≡ some j → get_elem? cs j ≡ some c → takes (fixed c) x.call)
 
 -- how many passes of cell j are out with these jobs
 abbrev pub lent_on : {L : Type 0} → ℕ → List (Job L) → ℕ
@@ -227,8 +227,8 @@ module _ {L M : Type 0} (knows : L → View M) where
   Fresh slots = (s : ℕ) (x : Slot L) → get_elem? slots s ≡ some x → (knows x.lent).mine ≡ []
 
   -- each lane has fresh passes, of the first cells that it names, and has made no call
-  abbrev pub JobsFresh : {K : Type 0} → List (Lane K) → List (Job L) → Type 0
-  JobsFresh {K} lanes jobs = (l : ℕ) (a : Lane K) (x : Job L) → get_elem? lanes l ≡ some a → get_elem? jobs l ≡ some x → (cells_of x.slots.items ≡ take (length x.slots.items) a.cells.items) × Fresh x.slots.items × (x.done ≡ 0)
+  abbrev pub JobsFresh : {K : Type 0} → List (LaneText K) → List (Job L) → Type 0
+  JobsFresh {K} lanes jobs = (l : ℕ) (a : LaneText K) (x : Job L) → get_elem? lanes l ≡ some a → get_elem? jobs l ≡ some x → (cells_of x.slots.items ≡ take (length x.slots.items) a.cells) × Fresh x.slots.items × (x.done ≡ 0)
 
   abbrev pub slot_news : ℕ → ℕ → Slot L → List (ℕ × Held M)
   slot_news j l x = keep (x.cell == j) (l, held (knows x.lent).number (knows x.lent).mine (knows x.lent).seen) []
@@ -256,18 +256,18 @@ module _ {L M : Type 0} (knows : L → View M) where
     NoneMade slots slots' = (lines : List (Line K)) → SlotsMade lines slots → SlotsMade lines slots'
 
     -- a lane has one pass for each cell that it names, and its passes have made its first lines; or it has some of them, and has made none
-    pub record JobRan (lane : Lane K) (job : Job L) : Type 0 where
-      pub some_cells : cells_of job.slots.items ≡ take (length job.slots.items) lane.cells.items
-      pub whole : (job.done ≡ 0) ⊎ (cells_of job.slots.items ≡ lane.cells.items)
-      pub made : SlotsMade (take job.done lane.lines.items) job.slots.items
+    pub record JobRan (lane : LaneText K) (job : Job L) : Type 0 where
+      pub some_cells : cells_of job.slots.items ≡ take (length job.slots.items) lane.cells
+      pub whole : (job.done ≡ 0) ⊎ (cells_of job.slots.items ≡ lane.cells)
+      pub made : SlotsMade (take job.done lane.lines) job.slots.items
 
-    abbrev pub JobsRan : List (Lane K) → List (Job L) → Type 0
-    JobsRan lanes jobs = (l : ℕ) (a : Lane K) (x : Job L) → get_elem? lanes l ≡ some a → get_elem? jobs l ≡ some x → JobRan a x
+    abbrev pub JobsRan : List (LaneText K) → List (Job L) → Type 0
+    JobsRan lanes jobs = (l : ℕ) (a : LaneText K) (x : Job L) → get_elem? lanes l ≡ some a → get_elem? jobs l ≡ some x → JobRan a x
 
     -- what a lane has while it ran: the passes of the same cells, which have made its first lines
-    abbrev pub LaneRan : {S : Type 0} → (S → L → Type 0) → Lane K → Job L → Job L → Type 0
-    LaneRan owns lane before after = SlotsKept owns before.slots.items after.slots.items × SlotsMade (take after.done lane.lines.items) after.slots.items × (after.done ≤ length lane.lines.items)
+    abbrev pub LaneRan : {S : Type 0} → (S → L → Type 0) → LaneText K → Job L → Job L → Type 0
+    LaneRan owns lane before after = SlotsKept owns before.slots.items after.slots.items × SlotsMade (take after.done lane.lines) after.slots.items × AreDone lane.lines after.done after.is_done
 
   -- a lane has fresh passes, one for each of its lines, of things that take the calls
-  abbrev pub LaneReady : {F K : Type 0} → (F → L → Type 0) → (F → K → Type 0) → Lane K → Job L → Type 0
-  LaneReady owns takes lane job = Fresh job.slots.items × LineFit (length job.slots.items) lane.lines.items × LinesTaken owns takes job.slots.items lane.lines.items
+  abbrev pub LaneReady : {F K : Type 0} → (F → L → Type 0) → (F → K → Type 0) → LaneText K → Job L → Type 0
+  LaneReady owns takes lane job = Fresh job.slots.items × LineFit (length job.slots.items) lane.lines × LinesTaken owns takes job.slots.items lane.lines

@@ -1,4 +1,5 @@
 pub mod Calls
 pub mod Things
+pub mod Lines
 pub mod Lanes
 pub mod Owned

@@ -48,16 +48,16 @@ fn slots_below<K>(lines: &[Line<K>], count: usize) -> bool
 
 /// Whether the lane names its things in ascending order, all of them below `count`, and has a slot for each line that is on
 /// one.
-pub fn lane_fits<K>(lane: &Lane<K>, count: usize) -> bool
+pub fn lane_fits<K: Copy + Sync + Drop>(lane: &Lane<Vec<Line<K>>>, count: usize) -> bool
     ensures in_order { IsTrue result ↔ InOrder count lane.now }
     ensures fit { result ≡ true → Fit count lane.now }
 {
-    ascend_below(lane.cells.as_slice(), count)
-        && slots_below(lane.lines.as_slice(), lane.cells.len())
+    let cells = lane.cells();
+    ascend_below(cells, count) && slots_below(lane.lines().as_slice(), cells.len())
 }
 
 /// Whether each lane names its things so.
-pub fn lanes_fit<K>(lanes: &[Lane<K>], count: usize) -> bool
+pub fn lanes_fit<K: Copy + Sync + Drop>(lanes: &[Lane<Vec<Line<K>>>], count: usize) -> bool
     ensures in_order { IsTrue result ↔ AllInOrder count lanes.now }
     ensures fit { result ≡ true → AllFit count lanes.now }
 {

@@ -7,7 +7,7 @@ ghost use Rattle.cell_lanes.specs.Lanes.{Roots, AtRest, AllFit, Finished, Stoppe
 
 use crate::cell::SharedCell;
 use crate::hook::LaneHook;
-use crate::lane::Lane;
+use crate::lane::{Lane, LaneLines};
 use crate::owned::OwnedCell;
 use crate::round::run_lanes;
 use metrics_core::Memory;
@@ -18,12 +18,17 @@ use std::thread::Threads;
 /// Runs lanes side by side over cells, and reads the cell with this index. Each history has then grown by all calls of the lanes
 /// on it, in one order in which each lane's calls stand as the lane has them, and the reading is made behind them. All passes are
 /// back at the end, also after a refusal; then a lane has calls left, or none has made any.
-pub fn run_and_read<R: Threads + Wait + Sync, H: LaneHook + Sync, C: SharedCell>(
+pub fn run_and_read<
+    R: Threads + Wait + Sync,
+    H: LaneHook + Sync,
+    C: SharedCell,
+    L: LaneLines<Call = C::Call> + Sync,
+>(
     rt: &R,
     alloc: Global,
     hook: &H,
     cells: &mut Vec<OwnedCell<C>>,
-    lanes: &[Lane<C::Call>],
+    lanes: &[Lane<L>],
     index: usize,
 ) -> Result<C::Reading, Memory>
     requires roots { Roots root_of cells.old.items × AtRest root_of cells.old.items }

@@ -4,13 +4,13 @@ ghost use mathlib.Core.Option.{some};
 ghost use lib.ListN.{get_elem?};
 ghost use Rattle.legal_history.specs.Order.{times};
 ghost use Rattle.cell_lanes.specs.declared.lane.Line.{Line};
-ghost use Rattle.cell_lanes.specs.declared.lane.Lane.{Lane};
+ghost use Rattle.cell_lanes.specs.Lines.{AreDone, LaneText};
 ghost use Rattle.cell_lanes.specs.declared.lane.Job.{Job};
 ghost use Rattle.cell_lanes.specs.Things.{root_of, fixed_of};
 ghost use Rattle.cell_lanes.specs.Lanes.{Each, Roots, Stays, Owns, Home, SettledAt, AtRest, Lends, Takes, Same, Grew, AllFit, Named, AllDone, SomeLeft, Unfinished, SlotsFit, SlotsKept, Fresh, SlotsMade, LineMade, NoneMade, HasSlot, LineFit, LineTaken, LinesTaken, AllTaken, LaneReady, LaneRan, cells_of, given, JobsFit, JobsFresh, JobsRan, lent_on, all_given, done_of};
 
 use crate::hook::LaneHook;
-use crate::lane::{Job, Lane, Line, Slot};
+use crate::lane::{Job, Lane, LaneLines, Line, Slot};
 use crate::lenders::Lenders;
 use metrics_core::Memory;
 use side_by_side::for_each_beside;
@@ -48,10 +48,10 @@ fn lend_lane<S: Lenders>(
 }
 
 /// Lends all lanes their passes, until one is refused.
-fn lend_all<S: Lenders>(
+fn lend_all<S: Lenders, L: LaneLines<Call = S::Call> + Sync>(
     alloc: Global,
     shared: &mut S,
-    lanes: &[Lane<S::Call>],
+    lanes: &[Lane<L>],
     jobs: &mut Vec<Job<S::Lent>>,
 ) -> Result<(), Memory>
     requires roots { Roots root_of (S.things shared.old) }
@@ -66,13 +66,17 @@ fn lend_all<S: Lenders>(
     ensures fresh { JobsFresh S.knows lanes.now jobs.new.items
         × (length jobs.new.items ≤ length lanes.now) }
     ensures ok { OnOk result ((length jobs.new.items ≡ length lanes.now)
-        × ((l : ℕ) (a : Lane S.Call) (x : Job S.Lent) → get_elem? lanes.now l ≡ some a
-        → get_elem? jobs.new.items l ≡ some x → cells_of x.slots.items ≡ a.cells.items)) }
+        × ((l : ℕ) (a : LaneText S.Call) (x : Job S.Lent) → get_elem? lanes.now l ≡ some a
+        → get_elem? jobs.new.items l ≡ some x → cells_of x.slots.items ≡ a.cells)) }
 {
     for lane in lanes {
-        let mut slots = Vec::with_capacity(alloc, lane.cells.len())?;
-        let lent = lend_lane(alloc, shared, lane.cells.as_slice(), &mut slots);
-        jobs.push_reserved(Job { slots, done: 0 });
+        let mut slots = Vec::with_capacity(alloc, lane.cells().len())?;
+        let lent = lend_lane(alloc, shared, lane.cells(), &mut slots);
+        jobs.push_reserved(Job {
+            slots,
+            done: 0,
+            is_done: false,
+        });
         match lent {
             Ok(()) => {}
             Err(refused) => return Err(refused),
@@ -101,95 +105,94 @@ fn make_line<R: Wait, S: Lenders>(
     S::make(rt, alloc, &mut slot.lent, &line.call)
 }
 
-/// Makes the calls of a lane, until one is refused, and answers how many of its lines it has done.
-fn run_slots<R: Wait, H: LaneHook, S: Lenders>(
+/// Makes the calls of a lane, until one is refused, and answers how many of its lines it has done, and whether these are all.
+fn run_slots<R: Wait, H: LaneHook, S: Lenders, L: LaneLines<Call = S::Call> + Sync>(
     rt: &R,
     alloc: Global,
     hook: &H,
-    lane: usize,
+    lane: &Lane<L>,
     slots: &mut [Slot<S::Lent>],
-    lines: &[Line<S::Call>],
-) -> usize
+) -> (usize, bool)
     requires fresh { Fresh S.knows slots.old }
-    requires lines { LineFit (length slots.old) lines.now }
-    requires taken { LinesTaken S.owns S.takes slots.old lines.now }
+    requires lines { LineFit (length slots.old) lane.now.lines }
+    requires taken { LinesTaken S.owns S.takes slots.old lane.now.lines }
     ensures kept { SlotsKept S.owns slots.old slots.new }
-    ensures made { SlotsMade S.knows S.stands_as (take result lines.now) slots.new }
-    ensures done { result ≤ length lines.now }
+    ensures made { SlotsMade S.knows S.stands_as (take result.0 lane.now.lines) slots.new }
+    ensures done { AreDone lane.now.lines result.0 result.1 }
 {
-    for call in 0..lines.len() {
-        let line = &lines[call];
-        hook.before(rt, lane, call);
-        let outcome = make_line::<R, S>(rt, alloc, slots, line);
-        hook.after(rt, lane, call);
+    let number = lane.number();
+    let lines = lane.lines();
+    let mut walk = lines.walk();
+    let mut done = 0;
+    while let Some(line) = lines.next(&mut walk) {
+        hook.before(rt, number, done);
+        let outcome = make_line::<R, S>(rt, alloc, slots, &line);
+        hook.after(rt, number, done);
         match outcome {
             Ok(()) => {}
-            Err(_) => return call,
+            Err(_) => return (done, false),
         }
+        done += 1;
     }
-    lines.len()
+    (done, true)
 }
 
-/// Makes the calls of the lane with this number.
-fn run_job<R: Wait, H: LaneHook, S: Lenders>(
+/// Makes the calls of a lane.
+fn run_job<R: Wait, H: LaneHook, S: Lenders, L: LaneLines<Call = S::Call> + Sync>(
     rt: &R,
     alloc: Global,
     hook: &H,
-    lane: usize,
+    lane: &Lane<L>,
     job: &mut Job<S::Lent>,
-    lines: &[Line<S::Call>],
 )
-    requires fresh { Fresh S.knows job.old.slots.items }
-    requires lines { LineFit (length job.old.slots.items) lines.now }
-    requires taken { LinesTaken S.owns S.takes job.old.slots.items lines.now }
-    ensures kept { SlotsKept S.owns job.old.slots.items job.new.slots.items }
-    ensures made { SlotsMade S.knows S.stands_as (take job.new.done lines.now) job.new.slots.items }
-    ensures done { job.new.done ≤ length lines.now }
+    requires ready { LaneReady S.knows S.owns S.takes lane.now job.old }
+    ensures ran { LaneRan S.knows S.stands_as S.owns lane.now job.old job.new }
 {
-    job.done = run_slots::<R, H, S>(rt, alloc, hook, lane, job.slots.as_mut_slice(), lines);
+    let slots = job.slots.as_mut_slice();
+    let (done, is_done) = run_slots::<R, H, S, L>(rt, alloc, hook, lane, slots);
+    job.done = done;
+    job.is_done = is_done;
 }
 
 /// Runs all lanes side by side, each in a thread of its own with the passes of its job.
-fn run_all<R: Threads + Wait + Sync, H: LaneHook + Sync, S: Lenders>(
+fn run_all<R: Threads + Wait + Sync, H: LaneHook + Sync, S: Lenders, L: LaneLines<Call = S::Call> + Sync>(
     rt: &R,
     alloc: Global,
     hook: &H,
     jobs: &mut [Job<S::Lent>],
-    lanes: &[Lane<S::Call>],
+    lanes: &[Lane<L>],
 )
     requires len { length jobs.old ≡ length lanes.now }
-    requires ready { (l : ℕ) (a : Lane S.Call) (x : Job S.Lent) → get_elem? lanes.now l ≡ some a
-        → get_elem? jobs.old l ≡ some x → LaneReady S.knows S.owns S.takes a x }
-    ensures ran { (l : ℕ) (a : Lane S.Call) (x y : Job S.Lent) → get_elem? lanes.now l ≡ some a
-        → get_elem? jobs.old l ≡ some x → get_elem? jobs.new l ≡ some y
-        → LaneRan S.knows S.stands_as S.owns a x y }
+    requires ready { (l : ℕ) (a : LaneText S.Call) (x : Job S.Lent)
+        → get_elem? lanes.now l ≡ some a → get_elem? jobs.old l ≡ some x
+        → LaneReady S.knows S.owns S.takes a x }
+    ensures ran { (l : ℕ) (a : LaneText S.Call) (x y : Job S.Lent)
+        → get_elem? lanes.now l ≡ some a → get_elem? jobs.old l ≡ some x
+        → get_elem? jobs.new l ≡ some y → LaneRan S.knows S.stands_as S.owns a x y }
 {
     for_each_beside(
         rt,
         jobs,
         &|l: usize, job: &mut Job<S::Lent>|
             requires { (l < length lanes.now)
-                × ((a : Lane S.Call) → get_elem? lanes.now l ≡ some a
+                × ((a : LaneText S.Call) → get_elem? lanes.now l ≡ some a
                 → LaneReady S.knows S.owns S.takes a job.now) }
-            ensures { (a : Lane S.Call) → get_elem? lanes.entry.now l ≡ some a
+            ensures { (a : LaneText S.Call) → get_elem? lanes.entry.now l ≡ some a
                 → LaneRan S.knows S.stands_as S.owns a job.entry.now job.exit.now }
-        {
-            let lane = &lanes[l];
-            run_job::<R, H, S>(rt, alloc, hook, lane.number, job, lane.lines.as_slice())
-        },
+        { run_job::<R, H, S, L>(rt, alloc, hook, &lanes[l], job) },
     );
 }
 
 /// Whether each lane has made all its calls. The refusal that one of them had was want of memory.
-fn all_done<K, L>(lanes: &[Lane<K>], jobs: &[Job<L>]) -> Result<(), Memory>
+fn all_done<L: LaneLines, P>(lanes: &[Lane<L>], jobs: &[Job<P>]) -> Result<(), Memory>
     requires each { length jobs.now ≡ length lanes.now }
-    requires done { (l : ℕ) (a : Lane K) (x : Job L) → get_elem? lanes.now l ≡ some a
-        → get_elem? jobs.now l ≡ some x → x.done ≤ length a.lines.items }
+    requires done { (l : ℕ) (a : LaneText L.Call) (x : Job P) → get_elem? lanes.now l ≡ some a
+        → get_elem? jobs.now l ≡ some x → AreDone a.lines x.done x.is_done }
     ensures ok { OnOk result (AllDone lanes.now (done_of jobs.now)) }
     ensures refused { OnErr result (SomeLeft lanes.now (done_of jobs.now)) }
 {
     for l in 0..lanes.len() {
-        if jobs[l].done != lanes[l].lines.len() {
+        if !jobs[l].is_done {
             return Err(Memory);
         }
     }
@@ -197,12 +200,17 @@ fn all_done<K, L>(lanes: &[Lane<K>], jobs: &[Job<L>]) -> Result<(), Memory>
 }
 
 /// Lends all lanes their passes, and runs them. Where lending was refused, no lane runs.
-fn lend_and_run<R: Threads + Wait + Sync, H: LaneHook + Sync, S: Lenders>(
+fn lend_and_run<
+    R: Threads + Wait + Sync,
+    H: LaneHook + Sync,
+    S: Lenders,
+    L: LaneLines<Call = S::Call> + Sync,
+>(
     rt: &R,
     alloc: Global,
     hook: &H,
     shared: &mut S,
-    lanes: &[Lane<S::Call>],
+    lanes: &[Lane<L>],
     jobs: &mut Vec<Job<S::Lent>>,
 ) -> Result<(), Memory>
     requires roots { Roots root_of (S.things shared.old) }
@@ -224,7 +232,7 @@ fn lend_and_run<R: Threads + Wait + Sync, H: LaneHook + Sync, S: Lenders>(
         Ok(()) => {}
         Err(refused) => return Err(refused),
     }
-    run_all::<R, H, S>(rt, alloc, hook, jobs.as_mut_slice(), lanes);
+    run_all::<R, H, S, L>(rt, alloc, hook, jobs.as_mut_slice(), lanes);
     all_done(lanes, jobs.as_slice())
 }
 
@@ -253,7 +261,7 @@ fn take_all<S: Lenders>(shared: &mut S, mut jobs: Vec<Job<S::Lent>>)
         (all_given S.knows j 0 jobs.items)) (S.things shared.old) (S.things shared.new) }
 {
     while let Some(job) = jobs.pop() {
-        let Job { slots, done: _ } = job;
+        let Job { slots, .. } = job;
         take_lane(shared, jobs.len(), slots);
     }
 }
@@ -273,7 +281,7 @@ fn settle_lane<R: Wait, S: Lenders>(rt: &R, shared: &mut S, named: &[usize])
 }
 
 /// Settles each thing that some lane names. A thing that two lanes name is settled twice.
-fn settle_named<R: Wait, S: Lenders>(rt: &R, shared: &mut S, lanes: &[Lane<S::Call>])
+fn settle_named<R: Wait, S: Lenders, L: LaneLines>(rt: &R, shared: &mut S, lanes: &[Lane<L>])
     requires home { Roots root_of (S.things shared.old) × Home root_of (S.things shared.old) }
     requires fit { AllFit (length (S.things shared.old)) lanes.now }
     ensures same { S.things shared.new ≡ S.things shared.old }
@@ -281,7 +289,7 @@ fn settle_named<R: Wait, S: Lenders>(rt: &R, shared: &mut S, lanes: &[Lane<S::Ca
     ensures settled { (j : ℕ) → Named j lanes.now → SettledAt root_of (S.things shared.old) j }
 {
     for lane in lanes {
-        settle_lane(rt, shared, lane.cells.as_slice());
+        settle_lane(rt, shared, lane.cells());
     }
 }
 
@@ -291,12 +299,17 @@ fn settle_named<R: Wait, S: Lenders>(rt: &R, shared: &mut S, lanes: &[Lane<S::Ca
 ///
 /// A lane that is refused memory makes no further call, and the answer is then `Memory`, once all lanes have returned.
 /// Where a pass can't be lent, no lane runs. So after `Memory` a lane has calls left, or none has made any.
-pub fn run_lanes<R: Threads + Wait + Sync, H: LaneHook + Sync, S: Lenders>(
+pub fn run_lanes<
+    R: Threads + Wait + Sync,
+    H: LaneHook + Sync,
+    S: Lenders,
+    L: LaneLines<Call = S::Call> + Sync,
+>(
     rt: &R,
     alloc: Global,
     hook: &H,
     shared: &mut S,
-    lanes: &[Lane<S::Call>],
+    lanes: &[Lane<L>],
 ) -> Result<(), Memory>
     requires roots { Roots root_of (S.things shared.old) × AtRest root_of (S.things shared.old) }
     requires fit { AllFit (length (S.things shared.old)) lanes.now }
@@ -313,7 +326,7 @@ pub fn run_lanes<R: Threads + Wait + Sync, H: LaneHook + Sync, S: Lenders>(
         Ok(jobs) => jobs,
         Err(_) => return Err(Memory),
     };
-    let outcome = lend_and_run::<R, H, S>(rt, alloc, hook, shared, lanes, &mut jobs);
+    let outcome = lend_and_run::<R, H, S, L>(rt, alloc, hook, shared, lanes, &mut jobs);
     take_all(shared, jobs);
     settle_named(rt, shared, lanes);
     outcome

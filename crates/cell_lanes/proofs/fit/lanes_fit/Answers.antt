@@ -3,7 +3,7 @@ use Rattle.std.proofs.lemmas.List.{take_more}
 use mathlib.Core.Option.{some}
 use lib.ListN.{get_elem?}
 use Rattle.atomic_table.proofs.Lists.{at_snoc, at_index}
-use Rattle.cell_lanes.specs.declared.lane.Lane.{Lane}
+use Rattle.cell_lanes.specs.Lines.{LaneText}
 use Rattle.cell_lanes.specs.Lanes.{Fit, AllFit, InOrder, AllInOrder}
 use Rattle.cell_lanes.proofs.Lists.{take_whole}
 use Rattle.cell_lanes.proofs.fit.lanes_fit.Goals as goal
@@ -23,9 +23,9 @@ loop-lane-preserved g c =
     let yes = c.if-not-lane_fits.false in
     let i = c.loop-lane.invariant in
     record {
-      fit = λ l x at. ⊎_elim (i.fit l x) (λ (q : y ≡ x). subst (λ (z : Lane _). Fit c.args.count z) q (e.fit yes))
+      fit = λ l x at. ⊎_elim (i.fit l x) (λ (q : y ≡ x). subst (λ (z : LaneText _). Fit c.args.count z) q (e.fit yes))
           (at_snoc (take c.loop-lane.lane-index c.args.lanes.now) y x l (subst (λ ls. get_elem? ls l ≡ some x) more at));
-      in_order = λ l x at. ⊎_elim (i.in_order l x) (λ (q : y ≡ x). subst (λ (z : Lane _). InOrder c.args.count z) q (e.in_order.0 yes))
+      in_order = λ l x at. ⊎_elim (i.in_order l x) (λ (q : y ≡ x). subst (λ (z : LaneText _). InOrder c.args.count z) q (e.in_order.0 yes))
           (at_snoc (take c.loop-lane.lane-index c.args.lanes.now) y x l (subst (λ ls. get_elem? ls l ≡ some x) more at));
     }
 

@@ -1,7 +1,7 @@
 use Rattle.std.proofs.Common.{◌≡◌, ℕ, length, vec_len, vec_capacity}
 use mathlib.Core.Option.{some}
 use lib.ListN.{get_elem?}
-use Rattle.cell_lanes.specs.declared.lane.Lane.{Lane}
+use Rattle.cell_lanes.specs.Lines.{LaneText}
 use Rattle.cell_lanes.specs.declared.lane.Job.{Job}
 use Rattle.cell_lanes.specs.Lanes.{Owns, Stays, Each, Lends, JobsFit, JobsFresh, cells_of, lent_on}
 use Rattle.cell_lanes.specs.Things.{root_of, fixed_of}
@@ -14,7 +14,7 @@ invariant-loop-lane g l = record {
   lends : Each (λ j. Lends root_of (Stays g.S.Lenders.lasts fixed_of) (lent_on j l.jobs.items)) (g.S.Lenders.things l.initial.shared) (g.S.Lenders.things l.shared);
   fit : JobsFit (Owns fixed_of g.S.Lenders.owns) (g.S.Lenders.things l.shared) l.jobs.items;
   fresh : JobsFresh g.S.Lenders.knows l.lanes l.jobs.items;
-  full : (i : ℕ) (a : Lane _) (x : Job _) → get_elem? l.lanes i ≡ some a → get_elem? l.jobs.items i ≡ some x → cells_of x.slots.items ≡ a.cells.items;
+  full : (i : ℕ) (a : LaneText _) (x : Job _) → get_elem? l.lanes i ≡ some a → get_elem? l.jobs.items i ≡ some x → cells_of x.slots.items ≡ a.cells;
   items : length l.jobs.items ≡ l.lane-index;
   count : vec_len l.jobs ≡ l.lane-index;
   room : vec_capacity l.jobs ≡ vec_capacity l.initial.jobs;

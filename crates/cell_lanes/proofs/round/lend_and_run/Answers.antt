@@ -19,7 +19,7 @@ returns-in-Err-clause-refused g c = inr
     (λ l x e. let a = below_some c.args.lanes.now l (let b = some_below c.lend_all.new.jobs.items l x e in omega (arith, c.lend_all.ensures.fresh.1)) in (c.lend_all.ensures.fresh.0 l a.0 x a.1 e).2))
 
 pub all_done-requires-clause-done : goal.all_done-requires-clause-done
-all_done-requires-clause-done g c l a x e f =
+all_done-requires-clause-done g c κs within = λ l a x e f.
     let m = c.as_mut_slice.ensures in
     let jobs = c.lend_all.new.jobs.items in
     let news = c.run_all.new.jobs in

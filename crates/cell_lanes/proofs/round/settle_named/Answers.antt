@@ -5,7 +5,7 @@ use native.Mathlib.Decide.{ℕ_discrete}
 use lib.ListN.{get_elem?}
 use Rattle.atomic_table.proofs.Lists.{at_index}
 use Rattle.legal_history.proofs.Steps.{some_below, one_at}
-use Rattle.cell_lanes.specs.declared.lane.Lane.{Lane}
+use Rattle.cell_lanes.specs.Lines.{LaneText}
 use Rattle.cell_lanes.specs.Lanes.{Home, Roots, SettledAt}
 use Rattle.cell_lanes.specs.Things.{root_of}
 use Rattle.cell_lanes.proofs.round.settle_named.Goals as goal
@@ -20,7 +20,7 @@ pub settle_lane-requires-clause-named : goal.settle_lane-requires-clause-named
 settle_lane-requires-clause-named g c κs within =
     let a = c.lane-item.result in
     let at = at_index c.args.lanes.now c.loop-lane.lane-index a c.loop-lane-test.true c.lane-item.is in
-    λ s j e. subst (λ things. j < length things) (sym c.loop-lane.invariant.same) ((c.requires.fit c.loop-lane.lane-index a at).cells s j (subst (λ l. get_elem? l s ≡ some j) c.as_slice.ensures.value e))
+    λ s j e. subst (λ things. j < length things) (sym c.loop-lane.invariant.same) ((c.requires.fit c.loop-lane.lane-index a at).cells s j (subst (λ l. get_elem? l s ≡ some j) c.cells.ensures e))
 
 pub loop-lane-preserved : goal.loop-lane-preserved
 loop-lane-preserved g c =
@@ -34,7 +34,7 @@ loop-lane-preserved g c =
       settled = λ l s j a lt e f. dite (ℕ_discrete l c.loop-lane.lane-index)
           (λ (here : l ≡ c.loop-lane.lane-index).
           let is : x ≡ a = one_at c.args.lanes.now c.loop-lane.lane-index x a at (subst (λ n. get_elem? c.args.lanes.now n ≡ some a) here e) in
-          let its = subst (λ cells. get_elem? cells s ≡ some j) (ap (λ (b : Lane _). b.cells.items) (sym is) ∙ sym c.as_slice.ensures.value) f in
+          let its = subst (λ cells. get_elem? cells s ≡ some j) (ap (λ (b : LaneText _). b.cells) (sym is) ∙ sym c.cells.ensures) f in
           subst (λ things. SettledAt root_of things j) i.same (lane.settled s j its))
           (λ (ne : ¬ (l ≡ c.loop-lane.lane-index)). i.settled l s j a (omega arith) e f);
     }

@@ -1,9 +1,8 @@
-use Rattle.std.proofs.Common.{◌≡◌}
 use Rattle.atomic_table.proofs.Lists.{at_index, at_map}
 use Rattle.std.specs.Prelude.{Result, Ok, Err, IfOk, OnOk}
 use Rattle.std.proofs.lemmas.Result.{IfOk-weaker, on_err_weaker}
 use Rattle.std.proofs.lemmas.List.{map-set}
-use Rattle.cell_lanes.proofs.Rows.{thing, things, below, thing_is, set_same}
+use Rattle.cell_lanes.proofs.Rows.{thing, below, thing_is, set_same}
 use Rattle.cell_lanes.proofs.lenders.VecLenders.lend.Goals as goal
 
 pub lend-requires : goal.lend-requires
