@@ -6,7 +6,7 @@ ghost use Rattle.legal_history.specs.History.{Distinct};
 ghost use Rattle.legal_history.specs.Places.{Ascend};
 ghost use Rattle.cell_lanes.specs.Lanes.{Fit, AllFit, HasSlot, LineFit, InOrder, AllInOrder};
 
-use crate::lane::{Lane, Line};
+use crate::lane::{Line, ListedLane};
 
 /// Whether the indices ascend, and are below `count`.
 fn ascend_below(cells: &[usize], count: usize) -> bool
@@ -48,7 +48,7 @@ fn slots_below<K>(lines: &[Line<K>], count: usize) -> bool
 
 /// Whether the lane names its things in ascending order, all of them below `count`, and has a slot for each line that is on
 /// one.
-pub fn lane_fits<K: Copy + Sync + Drop>(lane: &Lane<Vec<Line<K>>>, count: usize) -> bool
+pub fn lane_fits<K: Copy + Sync + Drop>(lane: &ListedLane<K>, count: usize) -> bool
     ensures in_order { IsTrue result ↔ InOrder count lane.now }
     ensures fit { result ≡ true → Fit count lane.now }
 {
@@ -57,7 +57,7 @@ pub fn lane_fits<K: Copy + Sync + Drop>(lane: &Lane<Vec<Line<K>>>, count: usize)
 }
 
 /// Whether each lane names its things so.
-pub fn lanes_fit<K: Copy + Sync + Drop>(lanes: &[Lane<Vec<Line<K>>>], count: usize) -> bool
+pub fn lanes_fit<K: Copy + Sync + Drop>(lanes: &[ListedLane<K>], count: usize) -> bool
     ensures in_order { IsTrue result ↔ AllInOrder count lanes.now }
     ensures fit { result ≡ true → AllFit count lanes.now }
 {

@@ -72,6 +72,9 @@ pub struct Lane<L: LaneLines> {
     lines: L,
 }
 
+/// A lane whose lines stand in a list.
+pub type ListedLane<K> = Lane<Vec<Line<K>>>;
+
 impl<L: LaneLines> Model for Lane<L> {
     ghost use Rattle.cell_lanes.specs.Lines.{LaneText};
 

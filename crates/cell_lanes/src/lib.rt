@@ -26,7 +26,7 @@ mod round;
 pub use cell::{CountedCell, SharedCell, StillCell, ValueCell};
 pub use fit::{lane_fits, lanes_fit};
 pub use hook::{LaneHook, NoHook};
-pub use lane::{Job, Lane, LaneLines, Line, Slot};
+pub use lane::{Job, Lane, LaneLines, Line, ListedLane, Slot};
 pub use lender::Lender;
 pub use lenders::Lenders;
 pub use lent::LentCell;

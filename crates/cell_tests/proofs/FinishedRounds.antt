@@ -6,7 +6,7 @@ use lib.ListN.{get_elem?}
 use Rattle.legal_history.specs.declared.history.View.{View}
 use Rattle.legal_history.specs.History.{calls}
 use Rattle.legal_history.specs.Order.{taken, IsOrder}
-use Rattle.cell_lanes.specs.declared.lane.Lane.{Lane}
+use Rattle.cell_lanes.specs.Lines.{LaneText}
 use Rattle.cell_lanes.specs.Lanes.{Finished, GrewWhole, all_calls_on, none_later}
 use Rattle.metrics_core.specs.declared.calls.SeriesCall.{SeriesCall}
 use Rattle.series_cells.specs.Series.{all_as}
@@ -14,7 +14,7 @@ use Rattle.series_cells.proofs.Played.{stand_all}
 
 module _ (makes : SeriesCall → List SeriesCall) where
   -- a history after a round that finished: what it was before, and then, in one order, what the lanes asked for
-  pub played : {S R : Type 0} (root : S → View SeriesCall) (value_of : List SeriesCall → R) (lanes : List (Lane SeriesCall)) (cs ds : List S) → Finished root (λ call made. made ≡ makes call) lanes none_later cs ds
+  pub played : {S R : Type 0} (root : S → View SeriesCall) (value_of : List SeriesCall → R) (lanes : List (LaneText SeriesCall)) (cs ds : List S) → Finished root (λ call made. made ≡ makes call) lanes none_later cs ds
       → (j : ℕ) (c d : S) → get_elem? cs j ≡ some c → get_elem? ds j ≡ some d
       → (order : List ℕ) × IsOrder order (λ l. all_as makes (all_calls_on j lanes l)) × (value_of (calls (root d).seen) ≡ value_of (calls (root c).seen ++ taken order (λ l. all_as makes (all_calls_on j lanes l))))
   played root value_of lanes cs ds finished j c d before after =

@@ -2,7 +2,7 @@
 
 use crate::answers::answers;
 use crate::lanes::two_lanes;
-use cell_lanes::{Lane, NoHook, lanes_fit};
+use cell_lanes::{ListedLane, NoHook, lanes_fit};
 use flushed_cells::{CounterChange, DsdCounter, DsdGauge, GaugeChange, run_counters, run_gauges};
 use metrics_core::{Fixed, GaugeValue, Memory};
 use std::alloc::Global;
@@ -146,7 +146,7 @@ fn calls_of_each_kind_are_made(rt: HostRuntime) -> Result<(), Fail> {
 fn counted<R: Threads + Wait + Sync>(
     rt: &R,
     alloc: Global,
-    lanes: &[Lane<CounterChange>],
+    lanes: &[ListedLane<CounterChange>],
 ) -> Result<Option<(u64, u64)>, Memory> {
     if !lanes_fit(lanes, 1) {
         return Ok(None);
@@ -174,7 +174,7 @@ fn lanes_count_side_by_side(rt: HostRuntime) -> Result<(), Fail> {
 fn moved<R: Threads + Wait + Sync>(
     rt: &R,
     alloc: Global,
-    lanes: &[Lane<GaugeChange>],
+    lanes: &[ListedLane<GaugeChange>],
 ) -> Result<Option<(Fixed, u64)>, Memory> {
     if !lanes_fit(lanes, 1) {
         return Ok(None);

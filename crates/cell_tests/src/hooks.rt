@@ -3,7 +3,7 @@
 ghost use Rattle.std.specs.Prelude.{◌<◌};
 
 use crate::lanes::lane_of;
-use cell_lanes::{Lane, LaneHook, Line, OwnedCell, SharedCell, lanes_fit, run_and_read};
+use cell_lanes::{Lane, LaneHook, Line, ListedLane, OwnedCell, SharedCell, lanes_fit, run_and_read};
 use metrics_core::{Memory, SeriesCall};
 use series_cells::{CellPass, PromCounter, run_counters};
 use std::alloc::Global;
@@ -31,18 +31,14 @@ impl LaneHook for Adding {
 }
 
 /// One lane of three lines, of which the second is on no thing.
-fn lane_with_a_gap(alloc: Global) -> Result<Lane<SeriesCall>, Memory> {
+fn lane_with_a_gap(alloc: Global) -> Result<ListedLane<SeriesCall>, Memory> {
     let lines = [(Some(0), 1), (None, 5), (Some(0), 2)].map(|(slot, count)| Line {
         slot,
         call: SeriesCall::Increment(count),
     });
     let lines = Vec::from_array(alloc, lines)?;
     let cells = vec![in alloc; 0usize]?;
-    Ok(Lane {
-        number: 0,
-        cells,
-        lines,
-    })
+    Ok(Lane::new(0, cells, lines))
 }
 
 /// What a new counter reads after lanes.
@@ -50,7 +46,7 @@ fn counted<R: Threads + Wait + Sync>(
     rt: &R,
     alloc: Global,
     hook: &Adding,
-    lanes: &[Lane<SeriesCall>],
+    lanes: &[ListedLane<SeriesCall>],
 ) -> Result<Option<u64>, Memory> {
     if !lanes_fit(lanes, 1) {
         return Ok(None);
@@ -194,12 +190,12 @@ impl LaneHook for Watching {
 }
 
 /// A lane of two calls, each of which adds its digits.
-fn lane_of_two(alloc: Global, number: usize) -> Result<Lane<SeriesCall>, Memory> {
+fn lane_of_two(alloc: Global, number: usize) -> Result<ListedLane<SeriesCall>, Memory> {
     lane_of(alloc, number, SeriesCall::Increment(digits(number)), 2)
 }
 
 /// Three lanes with the numbers 0, 2 and 7.
-fn three_lanes(alloc: Global) -> Result<Vec<Lane<SeriesCall>>, Memory> {
+fn three_lanes(alloc: Global) -> Result<Vec<ListedLane<SeriesCall>>, Memory> {
     let first = lane_of_two(alloc, 0)?;
     let second = lane_of_two(alloc, 2)?;
     let third = lane_of_two(alloc, 7)?;
@@ -211,7 +207,7 @@ fn read_after<R: Threads + Wait + Sync>(
     rt: &R,
     alloc: Global,
     hook: &Watching,
-    lanes: &[Lane<SeriesCall>],
+    lanes: &[ListedLane<SeriesCall>],
 ) -> Result<Option<u64>, Memory> {
     if !lanes_fit(lanes, 1) {
         return Ok(None);

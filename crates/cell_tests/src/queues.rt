@@ -3,7 +3,7 @@
 ghost use Rattle.std.specs.Prelude.{◌≡◌};
 
 use crate::lanes::two_lanes;
-use cell_lanes::{Lane, Lender, LentCell, NoHook, OwnedCell, lanes_fit};
+use cell_lanes::{Lender, LentCell, ListedLane, NoHook, OwnedCell, lanes_fit};
 use metrics_core::{Fixed, Memory};
 use metrics_facade::HistogramFn;
 use sample_queue::{DsdHistogram, PromHistogram, Sample, SampleEntry, SampleQueue, run_queues};
@@ -134,7 +134,7 @@ fn no_item_is_lost_or_repeated(rt: HostRuntime) -> Result<(), Fail> {
 fn front_after<R: Threads + Wait + Sync>(
     rt: &R,
     alloc: Global,
-    lanes: &[Lane<Sample<u8>>],
+    lanes: &[ListedLane<Sample<u8>>],
 ) -> Result<Option<SampleEntry<u8>>, Memory> {
     if !lanes_fit(lanes, 1) {
         return Ok(None);

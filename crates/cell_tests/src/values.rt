@@ -1,7 +1,7 @@
 //! Two threads on one counter, and on one gauge.
 
 use crate::lanes::two_lanes;
-use cell_lanes::{Lane, NoHook, lanes_fit};
+use cell_lanes::{ListedLane, NoHook, lanes_fit};
 use metrics_core::{Fixed, Memory, SeriesCall};
 use series_cells::{PromCounter, PromGauge, run_counters, run_gauges};
 use std::alloc::Global;
@@ -13,7 +13,7 @@ use std::thread::Threads;
 fn counted<R: Threads + Wait + Sync>(
     rt: &R,
     alloc: Global,
-    lanes: &[Lane<SeriesCall>],
+    lanes: &[ListedLane<SeriesCall>],
 ) -> Result<Option<u64>, Memory> {
     if !lanes_fit(lanes, 1) {
         return Ok(None);
@@ -38,7 +38,7 @@ fn two_threads_count_to_two_thousand(rt: HostRuntime) -> Result<(), Fail> {
 fn moved<R: Threads + Wait + Sync>(
     rt: &R,
     alloc: Global,
-    lanes: &[Lane<SeriesCall>],
+    lanes: &[ListedLane<SeriesCall>],
 ) -> Result<Option<Fixed>, Memory> {
     if !lanes_fit(lanes, 1) {
         return Ok(None);

@@ -10,7 +10,7 @@ use Rattle.legal_history.proofs.Steps.{one_at}
 use Rattle.legal_history.specs.declared.history.View.{View}
 use Rattle.legal_history.specs.Order.{GrewInOrder}
 use Rattle.legal_history.specs.Mapped.{IsOneToOne, mapped_view}
-use Rattle.cell_lanes.specs.declared.lane.Lane.{Lane}
+use Rattle.cell_lanes.specs.Lines.{LaneText}
 use Rattle.cell_lanes.specs.Things.{root_of, fixed_of}
 use Rattle.cell_lanes.specs.Lanes.{all_calls_on, calls_on}
 use Rattle.cell_lanes.proofs.Asked.{all_weaker, asked_is_taken}
@@ -33,7 +33,7 @@ use Rattle.dsd_exporter.proofs.LaneThings.{SeriesThing}
 
 -- ---- a round
 
-module _ (lanes : List (Lane SeriesCall)) (old new : Exporter) (round : IsRound lanes old new) where
+module _ (lanes : List (LaneText SeriesCall)) (old new : Exporter) (round : IsRound lanes old new) where
   all_of : (l j : ℕ) → calls_on j lanes round.done l ≡ all_calls_on j lanes l
   all_of l j = all_calls j lanes round.done l round.all_done
 

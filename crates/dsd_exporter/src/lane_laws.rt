@@ -1,7 +1,7 @@
 //! Laws of the series of an exporter under their indices, and of rounds of lanes over them, each the contract of a function that does nothing.
 
 ghost use Rattle.std.specs.Prelude.{List};
-ghost use Rattle.cell_lanes.specs.declared.lane.Lane.{Lane};
+ghost use Rattle.cell_lanes.specs.Lines.{LaneText};
 ghost use Rattle.metrics_core.specs.declared.calls.SeriesCall.{SeriesCall};
 ghost use Rattle.metrics_registry.specs.Live.{IsNumbered};
 ghost use Rattle.dsd_exporter.specs.Exporter.{Exporter};
@@ -26,18 +26,18 @@ pub fn an_id_has_one_index()
 /// After a round each counter of the sequential state is what it was after the calls of all lanes on it, in one order in which
 /// each lane's calls stand as the lane has them.
 pub fn a_round_leaves_the_state_of_counters()
-    ensures { (lanes : List (Lane SeriesCall)) (old new : Exporter) → IsRound lanes old new
+    ensures { (lanes : List (LaneText SeriesCall)) (old new : Exporter) → IsRound lanes old new
         → LeavesCounters lanes old new }
 {}
 
 /// The same of each gauge.
 pub fn a_round_leaves_the_state_of_gauges()
-    ensures { (lanes : List (Lane SeriesCall)) (old new : Exporter) → IsRound lanes old new
+    ensures { (lanes : List (LaneText SeriesCall)) (old new : Exporter) → IsRound lanes old new
         → LeavesGauges lanes old new }
 {}
 
 /// The same of each histogram, whose samples are those that wait to be sent. A record of no sample is none.
 pub fn a_round_leaves_the_state_of_histograms()
-    ensures { (lanes : List (Lane SeriesCall)) (old new : Exporter) → IsRound lanes old new
+    ensures { (lanes : List (LaneText SeriesCall)) (old new : Exporter) → IsRound lanes old new
         → LeavesHistograms lanes old new }
 {}

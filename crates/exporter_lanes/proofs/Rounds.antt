@@ -6,7 +6,7 @@ use Rattle.std.proofs.lemmas.List.{append-nil, length-map}
 use mathlib.Core.Option.{some}
 use lib.ListN.{get_elem?}
 use Rattle.legal_history.specs.Order.{GrewInOrder}
-use Rattle.cell_lanes.specs.declared.lane.Lane.{Lane}
+use Rattle.cell_lanes.specs.Lines.{LaneText}
 use Rattle.cell_lanes.specs.Things.{fixed_of, root_of}
 use Rattle.cell_lanes.specs.Lanes.{all_calls_on, calls_on}
 use Rattle.cell_lanes.proofs.Asked.{all_weaker, asked_is_taken}
@@ -98,7 +98,7 @@ as_many_of_dogstatsd old new frame =
 
 -- ---- a round
 
-module _ (lanes : List (Lane ExporterCall)) (old new : Exporters) (round : IsRound lanes old new) where
+module _ (lanes : List (LaneText ExporterCall)) (old new : Exporters) (round : IsRound lanes old new) where
   pub prometheus_frame : P.frame_of new.prometheus ≡ P.frame_of old.prometheus
   prometheus_frame = ap (λ (e : Exporters). e.prometheus) round.frame
 

@@ -8,7 +8,7 @@ use Rattle.legal_history.specs.declared.history.View.{View}
 use Rattle.legal_history.specs.History.{calls}
 use Rattle.legal_history.specs.Object.{Runs}
 use Rattle.legal_history.specs.Order.{taken, IsOrder}
-use Rattle.cell_lanes.specs.declared.lane.Lane.{Lane}
+use Rattle.cell_lanes.specs.Lines.{LaneText}
 use Rattle.cell_lanes.specs.Calls.{StandAs}
 use Rattle.cell_lanes.specs.Things.{Thing, root_of}
 use Rattle.cell_lanes.specs.Lanes.{Finished, Stopped, all_calls_on, later_on}
@@ -33,11 +33,11 @@ module _ {S K A C : Type 0} (Step : C → S → S → Type 0) (start : S) (answe
       × (s t : S) × Runs Step start (calls v.seen ++ taken order lists) s × Step (flushed answer) s t
 
   -- the same of the cell with this index
-  abbrev pub FlushedAt : {D : Type 0} → List (Lane K) → ℕ → Vec (Thing C D) → A → Type 0
+  abbrev pub FlushedAt : {D : Type 0} → List (LaneText K) → ℕ → Vec (Thing C D) → A → Type 0
   FlushedAt {D} lanes index before answer = (c : Thing C D) → get_elem? before.items index ≡ some c → FlushedAfter (all_calls_on index lanes) c.root answer
 
 -- each history grew by what all lanes asked for on it, and that of the cell with this index by a flush with this answer behind them
-abbrev pub FlushedBehind : {S K A C D : Type 0} → (K → S → C) → (A → C) → List (Lane K) → ℕ → Vec (Thing C D) → Vec (Thing C D) → A → Type 0
+abbrev pub FlushedBehind : {S K A C D : Type 0} → (K → S → C) → (A → C) → List (LaneText K) → ℕ → Vec (Thing C D) → Vec (Thing C D) → A → Type 0
 FlushedBehind answered flushed lanes index before after answer = Finished root_of (StandsAs answered) lanes (later_on index (only flushed answer)) before.items after.items
 
 -- counters as a state keeps them, and gauges
@@ -48,21 +48,21 @@ abbrev pub Gauges : Type 0
 Gauges = Vec (Thing GaugeCall DsdGauge)
 
 -- the words above, of counters
-abbrev pub CountersFlushed : List (Lane CounterChange) → ℕ → Counters → Counters → ℕ × ℕ → Type 0
+abbrev pub CountersFlushed : List (LaneText CounterChange) → ℕ → Counters → Counters → ℕ × ℕ → Type 0
 CountersFlushed = FlushedBehind counters.answered counter_flush
 
-abbrev pub CountersStopped : List (Lane CounterChange) → Counters → Counters → Type 0
+abbrev pub CountersStopped : List (LaneText CounterChange) → Counters → Counters → Type 0
 CountersStopped lanes before after = Stopped root_of (StandsAs counters.answered) lanes before.items after.items
 
-abbrev pub CounterFlushed : List (Lane CounterChange) → ℕ → Counters → ℕ × ℕ → Type 0
+abbrev pub CounterFlushed : List (LaneText CounterChange) → ℕ → Counters → ℕ × ℕ → Type 0
 CounterFlushed = FlushedAt CounterStep counter_start counters.answered counter_flush
 
 -- and of gauges
-abbrev pub GaugesFlushed : List (Lane GaugeChange) → ℕ → Gauges → Gauges → FixedOf × ℕ → Type 0
+abbrev pub GaugesFlushed : List (LaneText GaugeChange) → ℕ → Gauges → Gauges → FixedOf × ℕ → Type 0
 GaugesFlushed = FlushedBehind gauges.answered gauge_flush
 
-abbrev pub GaugesStopped : List (Lane GaugeChange) → Gauges → Gauges → Type 0
+abbrev pub GaugesStopped : List (LaneText GaugeChange) → Gauges → Gauges → Type 0
 GaugesStopped lanes before after = Stopped root_of (StandsAs gauges.answered) lanes before.items after.items
 
-abbrev pub GaugeFlushed : List (Lane GaugeChange) → ℕ → Gauges → FixedOf × ℕ → Type 0
+abbrev pub GaugeFlushed : List (LaneText GaugeChange) → ℕ → Gauges → FixedOf × ℕ → Type 0
 GaugeFlushed = FlushedAt GaugeStep gauge_start gauges.answered gauge_flush

@@ -8,7 +8,7 @@ use crate::counter::DsdCounter;
 use crate::counter_calls::CounterChange;
 use crate::gauge::DsdGauge;
 use crate::gauge_calls::GaugeChange;
-use cell_lanes::{Lane, LaneHook, OwnedCell, run_and_read};
+use cell_lanes::{LaneHook, ListedLane, OwnedCell, run_and_read};
 use metrics_core::{Fixed, Memory};
 use std::alloc::Global;
 use std::sync::Wait;
@@ -23,7 +23,7 @@ pub fn run_counters<R: Threads + Wait + Sync, H: LaneHook + Sync>(
     alloc: Global,
     hook: &H,
     counters: &mut Vec<OwnedCell<DsdCounter>>,
-    lanes: &[Lane<CounterChange>],
+    lanes: &[ListedLane<CounterChange>],
     index: usize,
 ) -> Result<(u64, u64), Memory>
     requires roots { Roots root_of counters.old.items × AtRest root_of counters.old.items }
@@ -46,7 +46,7 @@ pub fn run_gauges<R: Threads + Wait + Sync, H: LaneHook + Sync>(
     alloc: Global,
     hook: &H,
     gauges: &mut Vec<OwnedCell<DsdGauge>>,
-    lanes: &[Lane<GaugeChange>],
+    lanes: &[ListedLane<GaugeChange>],
     index: usize,
 ) -> Result<(Fixed, u64), Memory>
     requires roots { Roots root_of gauges.old.items × AtRest root_of gauges.old.items }

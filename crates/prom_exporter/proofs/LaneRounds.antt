@@ -15,7 +15,7 @@ use Rattle.legal_history.specs.Order.{taken, GrewInOrder}
 use Rattle.legal_history.specs.Mapped.{IsOneToOne, mapped_view}
 use Rattle.legal_history.proofs.Mapped.{taken-mapped, is_order-back}
 use Rattle.cell_lanes.specs.declared.lane.Line.{Line}
-use Rattle.cell_lanes.specs.declared.lane.Lane.{Lane}
+use Rattle.cell_lanes.specs.Lines.{LaneText}
 use Rattle.cell_lanes.specs.Things.{root_of}
 use Rattle.cell_lanes.specs.Lanes.{AllFit, LineFit, all_calls_on, calls_on, cell_calls, is_on}
 use Rattle.cell_lanes.proofs.Jobs.{all_calls}
@@ -72,11 +72,11 @@ module _ {K : Type 0} (P : K → Type 0) (j : ℕ) where
   cell_calls_hold cs (x ∷ xs) fit holds = one_more cs x.slot x.call (cell_calls j cs xs) (fit 0 x refl) (holds 0 x refl)
       (cell_calls_hold cs xs (λ i y e. fit (suc i) y e) (λ i y e. holds (suc i) y e))
 
-  all_calls_hold : (n : ℕ) (lanes : List (Lane K)) → AllFit n lanes
-      → ((l : ℕ) (a : Lane K) (i : ℕ) (x : Line K) → get_elem? lanes l ≡ some a → get_elem? a.lines.items i ≡ some x → HoldsOn a.cells.items x)
+  all_calls_hold : (n : ℕ) (lanes : List (LaneText K)) → AllFit n lanes
+      → ((l : ℕ) (a : Lane K) (i : ℕ) (x : Line K) → get_elem? lanes l ≡ some a → get_elem? a.lines i ≡ some x → HoldsOn a.cells x)
       → (l : ℕ) → AllByRecursion P (all_calls_on j lanes l)
   all_calls_hold n [] fit holds l = tt
-  all_calls_hold n (a ∷ lanes) fit holds zero = cell_calls_hold a.cells.items a.lines.items (fit 0 a refl).lines (λ i x e. holds 0 a i x refl e)
+  all_calls_hold n (a ∷ lanes) fit holds zero = cell_calls_hold a.cells a.lines (fit 0 a refl).lines (λ i x e. holds 0 a i x refl e)
   all_calls_hold n (a ∷ lanes) fit holds (suc l) = all_calls_hold n lanes (λ k b e. fit (suc k) b e) (λ k b i x e f. holds (suc k) b i x e f) l
 
 -- ---- what stands for a call on each kind
@@ -205,7 +205,7 @@ module _ (lists : ℕ → List SeriesCall) (s t : Sampled) (mine : t.series.root
 
 -- ---- a round
 
-module _ (lanes : List (Lane SeriesCall)) (old new : Exporter) (round : IsRound lanes old new) where
+module _ (lanes : List (LaneText SeriesCall)) (old new : Exporter) (round : IsRound lanes old new) where
   -- what is asked for on a thing is taken by it
   taken_on : (j : ℕ) (t : SeriesThing) → get_elem? (things_of old) j ≡ some t → (l : ℕ) → AllByRecursion (TakesCall t.fixed) (all_calls_on j lanes l)
   taken_on j t here = all_calls_hold (TakesCall t.fixed) j (length (things_of old)) lanes round.fit

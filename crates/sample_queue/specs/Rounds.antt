@@ -5,7 +5,7 @@ use lib.ListN.{get_elem?}
 use Rattle.legal_history.specs.declared.history.View.{View}
 use Rattle.legal_history.specs.History.{calls}
 use Rattle.legal_history.specs.Order.{taken, IsOrder}
-use Rattle.cell_lanes.specs.declared.lane.Lane.{Lane}
+use Rattle.cell_lanes.specs.Lines.{LaneText}
 use Rattle.cell_lanes.specs.Things.{Thing, root_of}
 use Rattle.cell_lanes.specs.Lanes.{Finished, Stopped, all_calls_on, later_on}
 use Rattle.sample_queue.specs.declared.calls.SampleEntry.{SampleEntry}
@@ -26,13 +26,13 @@ module _ {T : Type 0} where
       (order : List ℕ) × IsOrder order (λ l. flat_map pushes (asked l)) × (items : Entries T) × Leaves (calls v.seen ++ taken order (λ l. flat_map pushes (asked l))) items × (answer ≡ front items)
 
   -- each history grew by what all lanes pushed on it, and that of the queue with this index by the pop of this answer behind them
-  abbrev pub Popped : List (Lane (Sample T)) → ℕ → Kept T → Kept T → Option (SampleEntry T) → Type 0
+  abbrev pub Popped : List (LaneText (Sample T)) → ℕ → Kept T → Kept T → Option (SampleEntry T) → Type 0
   Popped lanes index before after answer = Finished root_of StandsAsPushes lanes (later_on index (pops answer)) before after
 
   -- the answer is the front of what the queue with this index held before, and then what all lanes pushed on it
-  abbrev pub GivenAfter : List (Lane (Sample T)) → ℕ → Kept T → Option (SampleEntry T) → Type 0
+  abbrev pub GivenAfter : List (LaneText (Sample T)) → ℕ → Kept T → Option (SampleEntry T) → Type 0
   GivenAfter lanes index before answer = (q : Thing (QueueCall T) (SampleQueue T)) → get_elem? before index ≡ some q → GivenOut (all_calls_on index lanes) q.root answer
 
   -- each history grew by what the first calls of each lane pushed on it
-  abbrev pub PushesStopped : List (Lane (Sample T)) → Kept T → Kept T → Type 0
+  abbrev pub PushesStopped : List (LaneText (Sample T)) → Kept T → Kept T → Type 0
   PushesStopped = Stopped root_of StandsAsPushes

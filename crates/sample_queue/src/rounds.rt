@@ -7,7 +7,7 @@ ghost use Rattle.sample_queue.specs.Rounds.{Popped, GivenAfter, PushesStopped};
 use crate::calls::SampleEntry;
 use crate::queue::SampleQueue;
 use crate::series::Sample;
-use cell_lanes::{Lane, LaneHook, OwnedCell, run_and_read};
+use cell_lanes::{LaneHook, ListedLane, OwnedCell, run_and_read};
 use metrics_core::Memory;
 use std::alloc::Global;
 use std::sync::Wait;
@@ -22,7 +22,7 @@ pub fn run_queues<R: Threads + Wait + Sync, H: LaneHook + Sync, T: Copy + Drop +
     alloc: Global,
     hook: &H,
     queues: &mut Vec<OwnedCell<SampleQueue<T>>>,
-    lanes: &[Lane<Sample<T>>],
+    lanes: &[ListedLane<Sample<T>>],
     index: usize,
 ) -> Result<Option<SampleEntry<T>>, Memory>
     requires roots { Roots root_of queues.old.items × AtRest root_of queues.old.items }

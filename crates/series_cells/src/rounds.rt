@@ -11,7 +11,7 @@ ghost use Rattle.series_cells.specs.Series.{StandsAsCounter, StandsAsGauge, Play
 
 use crate::counter::PromCounter;
 use crate::gauge::PromGauge;
-use cell_lanes::{Lane, LaneHook, OwnedCell, run_and_read};
+use cell_lanes::{LaneHook, ListedLane, OwnedCell, run_and_read};
 use metrics_core::{Fixed, Memory, SeriesCall};
 use std::alloc::Global;
 use std::sync::Wait;
@@ -25,7 +25,7 @@ pub fn run_counters<R: Threads + Wait + Sync, H: LaneHook + Sync>(
     alloc: Global,
     hook: &H,
     counters: &mut Vec<OwnedCell<PromCounter>>,
-    lanes: &[Lane<SeriesCall>],
+    lanes: &[ListedLane<SeriesCall>],
     index: usize,
 ) -> Result<u64, Memory>
     requires roots { Roots root_of counters.old.items × AtRest root_of counters.old.items }
@@ -49,7 +49,7 @@ pub fn run_gauges<R: Threads + Wait + Sync, H: LaneHook + Sync>(
     alloc: Global,
     hook: &H,
     gauges: &mut Vec<OwnedCell<PromGauge>>,
-    lanes: &[Lane<SeriesCall>],
+    lanes: &[ListedLane<SeriesCall>],
     index: usize,
 ) -> Result<Fixed, Memory>
     requires roots { Roots root_of gauges.old.items × AtRest root_of gauges.old.items }
