@@ -9,7 +9,7 @@ use Rattle.atomic_table.proofs.Lists.{at_map}
 use Rattle.legal_history.specs.History.{Distinct}
 use Rattle.legal_history.specs.Order.{taken, GrewInOrder}
 use Rattle.legal_history.proofs.Steps.{one_at}
-use Rattle.cell_lanes.specs.declared.lane.Lane.{Lane}
+use Rattle.cell_lanes.specs.Lines.{LaneText}
 use Rattle.cell_lanes.specs.Things.{Thing}
 use Rattle.metrics_core.specs.declared.calls.SeriesCall.{SeriesCall}
 use Rattle.metrics_core.specs.declared.kinds.MetricKind.{MetricKind}
@@ -246,7 +246,7 @@ module _ (moment : ℕ) (e f : Exporter) (handles : List SeriesId) (lines : List
           ))
 
   -- the same of lanes whose calls on a series are those that they ask for of this exporter
-  module _ {K : Type 0} (asks : K → List SeriesCall) (lanes : List (Lane K)) (apart : Distinct (map number_of lanes)) (same : (j l : ℕ) → told_on asks j lanes l ≡ asked_at j l) where
+  module _ {K : Type 0} (asks : K → List SeriesCall) (lanes : List (LaneText K)) (apart : Distinct (map number_of lanes)) (same : (j l : ℕ) → told_on asks j lanes l ≡ asked_at j l) where
     pub lanes_called : IsNumbered e.series → frame_of f ≡ frame_of e → EachGrew (λ j. asked_on asks j lanes) → All (λ (line : CallValue). FitsHandle handles (call_line_of line)) lines
         → All (λ (call : CallLine). RecordsSome call.act) (map call_line_of lines) → (round : RoundText) → round.moment ≡ moment → round.calls ≡ map call_line_of lines → IsFlushCalled before round after
     lanes_called =

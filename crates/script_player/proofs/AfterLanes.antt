@@ -12,7 +12,7 @@ use Rattle.legal_history.specs.Mapped.{mapped_log}
 use Rattle.legal_history.specs.Order.{taken, IsOrder, GrewInOrder}
 use Rattle.legal_history.proofs.Mapped.{calls-mapped, is_order-back, taken-mapped}
 use Rattle.legal_history.proofs.Steps.{one_at}
-use Rattle.cell_lanes.specs.declared.lane.Lane.{Lane}
+use Rattle.cell_lanes.specs.Lines.{LaneText}
 use Rattle.cell_lanes.specs.Things.{Thing}
 use Rattle.metrics_core.specs.declared.kinds.MetricKind.{MetricKind}
 use Rattle.metrics_core.specs.declared.kinds.MetricKind.TheVariants as kinds
@@ -458,7 +458,7 @@ module _ (moment : ℕ) (e f : Exporter) (handles : List SeriesId) (lines : List
           )
 
   -- the same of lanes whose calls on a series are those that they ask for of this exporter, where so many things are before its first one
-  module _ {K : Type 0} (asks : K → List SeriesCall) (first : ℕ) (lanes : List (Lane K)) (apart : Distinct (map number_of lanes)) (same : (j l : ℕ) → told_on asks (first + j) lanes l ≡ asked_at j l) where
+  module _ {K : Type 0} (asks : K → List SeriesCall) (first : ℕ) (lanes : List (LaneText K)) (apart : Distinct (map number_of lanes)) (same : (j l : ℕ) → told_on asks (first + j) lanes l ≡ asked_at j l) where
     pub lanes_made : AllRest e → frame_of f ≡ frame_of e → EachGrew (λ j. asked_on asks (first + j) lanes) → All (λ (line : CallValue). FitsHandle handles (call_line_of line)) lines
         → All (λ (call : CallLine). RecordsSome call.act) (map call_line_of lines) → (round : RoundText) → round.moment ≡ moment → round.calls ≡ map call_line_of lines → IsCalled before round after
     lanes_made =

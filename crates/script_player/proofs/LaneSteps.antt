@@ -14,7 +14,7 @@ use Rattle.atomic_table.proofs.Lists.{at_longer, at_map, at_set}
 use Rattle.legal_history.specs.History.{Distinct, In, keep}
 use Rattle.legal_history.proofs.Steps.{at_snoc_index, one_at, some_below}
 use Rattle.cell_lanes.specs.declared.lane.Line.{Line}
-use Rattle.cell_lanes.specs.declared.lane.Lane.{Lane}
+use Rattle.cell_lanes.specs.Lines.{LaneText}
 use Rattle.cell_lanes.specs.Lanes.{HasSlot, LineFit, cell_calls, is_on}
 use Rattle.indexmap.specs.IndexSet.{insert_key}
 use Rattle.metrics_core.specs.declared.calls.SeriesCall.{SeriesCall}
@@ -561,7 +561,7 @@ some_lines x is = by (lane_lines x) is
     by (y ∷ ys) is = omega arith
 
 -- lanes with these parts
-module _ (lanes : List (Lane ExporterCall)) (gs : List LaneCalls) (parts : map parts_of lanes ≡ map gathered_parts (filter has_lines gs)) where
+module _ (lanes : List (LaneText ExporterCall)) (gs : List LaneCalls) (parts : map parts_of lanes ≡ map gathered_parts (filter has_lines gs)) where
   abbrev number_in : Parts → ℕ
   number_in p = p.0
 
@@ -580,7 +580,7 @@ module _ (lanes : List (Lane ExporterCall)) (gs : List LaneCalls) (parts : map p
   pub built_numbers : AreInPlace 0 gs → Distinct (map lane_number lanes)
   built_numbers places = subst Distinct (sym (same_numbers lanes (filter has_lines gs) parts)) (numbers_apart 0 gs places)
     where
-      same_numbers : (lanes : List (Lane ExporterCall)) (xs : List LaneCalls) → map parts_of lanes ≡ map gathered_parts xs → map lane_number lanes ≡ map g_number xs
+      same_numbers : (lanes : List (LaneText ExporterCall)) (xs : List LaneCalls) → map parts_of lanes ≡ map gathered_parts xs → map lane_number lanes ≡ map g_number xs
       same_numbers [] [] e = refl
       same_numbers [] (x ∷ xs) e = absurd cc
       same_numbers (a ∷ more) [] e = absurd cc
@@ -592,18 +592,18 @@ module _ (lanes : List (Lane ExporterCall)) (gs : List LaneCalls) (parts : map p
           rest_parts : (p r : Parts) (ps rs : List Parts) → p ∷ ps ≡ r ∷ rs → ps ≡ rs
           rest_parts p r ps rs e = cc
 
-  found_in : (i : ℕ) (lane : Lane ExporterCall) → get_elem? lanes i ≡ some lane → (k : ℕ) × ((x : LaneCalls) × (get_elem? gs k ≡ some x) × (has_lines x ≡ true) × (gathered_parts x ≡ parts_of lane))
+  found_in : (i : ℕ) (lane : LaneText ExporterCall) → get_elem? lanes i ≡ some lane → (k : ℕ) × ((x : LaneCalls) × (get_elem? gs k ≡ some x) × (has_lines x ≡ true) × (gathered_parts x ≡ parts_of lane))
   found_in i lane at =
       let found = map_at gathered_parts (filter has_lines gs) i (parts_of lane) (subst (λ ps. get_elem? ps i ≡ some (parts_of lane)) parts (at_map parts_of lanes i lane at)) in
       let old = filter_at has_lines gs i found.0 found.1 in
       (old.0, (found.0, old.1, old.2, found.2))
 
-  pub built_ready : (ids : SeriesIds) → AreReady ids gs → (i : ℕ) (lane : Lane ExporterCall) → get_elem? lanes i ≡ some lane → LineFit (length lane.cells.items) lane.lines.items × AllAsked ids lane.cells.items lane.lines.items
+  pub built_ready : (ids : SeriesIds) → AreReady ids gs → (i : ℕ) (lane : LaneText ExporterCall) → get_elem? lanes i ≡ some lane → LineFit (length lane.cells) lane.lines × AllAsked ids lane.cells lane.lines
   built_ready ids ready i lane at =
       let h = found_in i lane at in
       subst (λ (p : Parts). LineFit (length p.1) p.2 × AllAsked ids p.1 p.2) h.1.3 (ready h.0 h.1.0 h.1.1)
 
-  pub built_busy : (i : ℕ) (lane : Lane ExporterCall) → get_elem? lanes i ≡ some lane → 0 < length lane.lines.items
+  pub built_busy : (i : ℕ) (lane : LaneText ExporterCall) → get_elem? lanes i ≡ some lane → 0 < length lane.lines
   built_busy i lane at = let h = found_in i lane at in subst (λ (p : Parts). 0 < length p.2) h.1.3 (some_lines h.1.0 h.1.2)
 
 -- ---- answers

@@ -6,7 +6,7 @@ use mathlib.Core.Logic.{dite}
 use native.Mathlib.Decide.{ℕ_discrete, dec_le}
 use Rattle.legal_history.specs.History.{Distinct, In}
 use Rattle.legal_history.specs.Order.{flag, times, first_of, rest_of, rest_if, without_first, taken, IsOrder}
-use Rattle.cell_lanes.specs.declared.lane.Lane.{Lane}
+use Rattle.cell_lanes.specs.Lines.{LaneText}
 use Rattle.cell_lanes.specs.Lanes.{all_calls_on, cell_calls}
 use Rattle.script_player.specs.LaneCalls.{numbered, numbered_at}
 
@@ -101,20 +101,20 @@ module _ {A : Type 0} (n : ℕ → ℕ) (count : ℕ) (apart : (i k : ℕ) → i
 -- ---- lanes
 
 module _ {K : Type 0} where
-  abbrev pub number_at : List (Lane K) → ℕ → ℕ
+  abbrev pub number_at : List (LaneText K) → ℕ → ℕ
   number_at [] i = 0
   number_at (x ∷ xs) zero = x.number
   number_at (x ∷ xs) (suc i) = number_at xs i
 
-  abbrev pub number_of : Lane K → ℕ
+  abbrev pub number_of : LaneText K → ℕ
   number_of lane = lane.number
 
-  numbered_in : (lanes : List (Lane K)) (i : ℕ) → i < length lanes → In (number_at lanes i) (map number_of lanes)
+  numbered_in : (lanes : List (LaneText K)) (i : ℕ) → i < length lanes → In (number_at lanes i) (map number_of lanes)
   numbered_in [] i less = absurd (omega (arith, less))
   numbered_in (x ∷ xs) zero less = inl refl
   numbered_in (x ∷ xs) (suc i) less = inr (numbered_in xs i (omega (arith, less)))
 
-  pub numbers_differ : (lanes : List (Lane K)) → Distinct (map number_of lanes) → (i k : ℕ) → i < length lanes → k < length lanes → number_at lanes i ≡ number_at lanes k → i ≡ k
+  pub numbers_differ : (lanes : List (LaneText K)) → Distinct (map number_of lanes) → (i k : ℕ) → i < length lanes → k < length lanes → number_at lanes i ≡ number_at lanes k → i ≡ k
   numbers_differ [] apart i k less below e = absurd (omega (arith, less))
   numbers_differ (x ∷ xs) apart zero zero less below e = refl
   numbers_differ (x ∷ xs) apart zero (suc k) less below e = absurd (apart.0 (subst (λ t. In t (map number_of xs)) (sym e) (numbered_in xs k (omega (arith, below)))))
@@ -124,17 +124,17 @@ module _ {K : Type 0} where
 -- of lanes that ask for calls of another kind: those among them that are for one exporter
 module _ {K A : Type 0} (asks : K → List A) (j : ℕ) where
   -- what a lane asks for on cell j
-  abbrev pub asked_by : Lane K → List A
-  asked_by lane = flat_map asks (cell_calls j lane.cells.items lane.lines.items)
+  abbrev pub asked_by : LaneText K → List A
+  asked_by lane = flat_map asks (cell_calls j lane.cells lane.lines)
 
   -- the same of the lane with this place in the list, and of the lane with this number
-  abbrev pub asked_on : List (Lane K) → ℕ → List A
+  abbrev pub asked_on : List (LaneText K) → ℕ → List A
   asked_on lanes i = flat_map asks (all_calls_on j lanes i)
 
-  abbrev pub told_on : List (Lane K) → ℕ → List A
+  abbrev pub told_on : List (LaneText K) → ℕ → List A
   told_on = numbered number_of asked_by
 
-  told_own : (lanes : List (Lane K)) → Distinct (map number_of lanes) → (i : ℕ) → i < length lanes → asked_on lanes i ≡ told_on lanes (number_at lanes i)
+  told_own : (lanes : List (LaneText K)) → Distinct (map number_of lanes) → (i : ℕ) → i < length lanes → asked_on lanes i ≡ told_on lanes (number_at lanes i)
   told_own [] apart i less = absurd (omega (arith, less))
   told_own (x ∷ xs) apart zero less = sym (ap (λ b. if b then asked_by x else told_on xs x.number) (eq-eqb x.number x.number refl))
   told_own (x ∷ xs) apart (suc i) less =
@@ -142,24 +142,24 @@ module _ {K A : Type 0} (asks : K → List A) (j : ℕ) where
       told_own xs apart.1 i within
       ∙ sym (ap (λ b. if b then asked_by x else told_on xs (number_at xs i)) (ne_eqb x.number (number_at xs i) (λ e. apart.0 (subst (λ t. In t (map number_of xs)) (sym e) (numbered_in xs i within)))))
 
-  told_past : (lanes : List (Lane K)) (i : ℕ) → length lanes ≤ i → asked_on lanes i ≡ []
+  told_past : (lanes : List (LaneText K)) (i : ℕ) → length lanes ≤ i → asked_on lanes i ≡ []
   told_past [] i past = refl
   told_past (x ∷ xs) zero past = absurd (omega (arith, past))
   told_past (x ∷ xs) (suc i) past = told_past xs i (omega (arith, past))
 
-  told_none : (lanes : List (Lane K)) (t : ℕ) → ((i : ℕ) → i < length lanes → number_at lanes i ≡ t → ⊥) → told_on lanes t ≡ []
+  told_none : (lanes : List (LaneText K)) (t : ℕ) → ((i : ℕ) → i < length lanes → number_at lanes i ≡ t → ⊥) → told_on lanes t ≡ []
   told_none [] t far = refl
   told_none (x ∷ xs) t far = ap (λ b. if b then asked_by x else told_on xs t) (ne_eqb x.number t (far 0 (omega arith))) ∙ told_none xs t (λ i less e. far (suc i) (omega (arith, less)) e)
 
   -- of all that the lane with this number asks for on the cell, the calls for the exporter
-  pub told_calls : (lanes : List (Lane K)) (l : ℕ) → told_on lanes l ≡ flat_map asks (numbered_at j lanes l)
+  pub told_calls : (lanes : List (LaneText K)) (l : ℕ) → told_on lanes l ≡ flat_map asks (numbered_at j lanes l)
   told_calls [] l = refl
   told_calls (x ∷ xs) l = by (x.number == l) (told_calls xs l)
     where
-      by : (b : Bool) → told_on xs l ≡ flat_map asks (numbered_at j xs l) → (if b then asked_by x else told_on xs l) ≡ flat_map asks (if b then cell_calls j x.cells.items x.lines.items else numbered_at j xs l)
+      by : (b : Bool) → told_on xs l ≡ flat_map asks (numbered_at j xs l) → (if b then asked_by x else told_on xs l) ≡ flat_map asks (if b then cell_calls j x.cells x.lines else numbered_at j xs l)
       by true rest = refl
       by false rest = rest
 
   -- what lanes ask for by their places, under their numbers
-  pub told_under : (lanes : List (Lane K)) (apart : Distinct (map number_of lanes)) → Under (number_at lanes) (length lanes) (numbers_differ lanes apart) (asked_on lanes) (told_on lanes)
+  pub told_under : (lanes : List (LaneText K)) (apart : Distinct (map number_of lanes)) → Under (number_at lanes) (length lanes) (numbers_differ lanes apart) (asked_on lanes) (told_on lanes)
   told_under lanes apart = record { same = told_own lanes apart; past = told_past lanes; none = told_none lanes }

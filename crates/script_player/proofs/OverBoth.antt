@@ -8,7 +8,7 @@ use native.Mathlib.Decide.{dec_le}
 use lib.ListN.{get_elem?}
 use Rattle.legal_history.specs.History.{Distinct}
 use Rattle.legal_history.proofs.Steps.{one_at, some_below}
-use Rattle.cell_lanes.specs.declared.lane.Lane.{Lane}
+use Rattle.cell_lanes.specs.Lines.{LaneText}
 use Rattle.cell_lanes.proofs.Lists.{below_some}
 use Rattle.cell_lanes.specs.Things.{fixed_of, root_of}
 use Rattle.cell_lanes.specs.Lanes.{AllDone, AllFit, AllTaken, AtRest, Each, Grew, Roots}
@@ -122,12 +122,12 @@ module _ (both : Exporters) (rest : AllRest both.prometheus) (numbered : IsNumbe
       subst (λ (y : ExporterThing). TakesCall y.fixed (exporter.Prometheus call)) (one_at (things_of both) (first_prometheus both + k) (prometheus_thing own.0) t (prometheus_at both k own.0 own.1) here)
       (takes_at both.prometheus rest k own.0 call own.1 (id, at_id, is))
 
-  pub all_taken : (lanes : List (Lane ExporterCall)) → ((l : ℕ) (lane : Lane ExporterCall) → get_elem? lanes l ≡ some lane → AllAsked (ids_of both) lane.cells.items lane.lines.items) → AllTaken fixed_of TakesCall (things_of both) lanes
+  pub all_taken : (lanes : List (LaneText ExporterCall)) → ((l : ℕ) (lane : LaneText ExporterCall) → get_elem? lanes l ≡ some lane → AllAsked (ids_of both) lane.cells lane.lines) → AllTaken fixed_of TakesCall (things_of both) lanes
   all_taken lanes asked l a k x at_lane at_line = IfSome_then x.slot ((asked l a at_lane).1 k x at_line) (λ slot asks_at j t at_cell at_thing. call_taken x.call j t at_thing (asks_at j at_cell))
 
   -- lanes that ran and made all their calls are a round
-  pub is_round : (lanes : List (Lane ExporterCall)) (new : Exporters) (done : ℕ → ℕ) → AllFit (length (things_of both)) lanes
-      → ((l : ℕ) (lane : Lane ExporterCall) → get_elem? lanes l ≡ some lane → AllAsked (ids_of both) lane.cells.items lane.lines.items) → frame_of new ≡ frame_of both → AllDone lanes done → Each (Grew root_of StandsAsEntries lanes done) (things_of both) (things_of new)
+  pub is_round : (lanes : List (LaneText ExporterCall)) (new : Exporters) (done : ℕ → ℕ) → AllFit (length (things_of both)) lanes
+      → ((l : ℕ) (lane : LaneText ExporterCall) → get_elem? lanes l ≡ some lane → AllAsked (ids_of both) lane.cells lane.lines) → frame_of new ≡ frame_of both → AllDone lanes done → Each (Grew root_of StandsAsEntries lanes done) (things_of both) (things_of new)
       → IsRound lanes both new
   is_round lanes new done fit asked frame all grew = record { done = done; all_done = all; fit = fit; taken = all_taken lanes asked; frame = frame; grew = grew }
 
@@ -172,7 +172,7 @@ module _ (ids handles : List SeriesId) (j : ℕ) (past : length ids ≤ j) where
 
 -- ---- what a round leaves
 
-module _ (moment : ℕ) (old new : Exporters) (handles line_handles : List SeriesId) (lines : List CallValue) (lanes : List (Lane ExporterCall)) (round : IsRound lanes old new) (apart : Distinct (map lane_number lanes))
+module _ (moment : ℕ) (old new : Exporters) (handles line_handles : List SeriesId) (lines : List CallValue) (lanes : List (LaneText ExporterCall)) (round : IsRound lanes old new) (apart : Distinct (map lane_number lanes))
     (prometheus : (j l : ℕ) → numbered_at (first_prometheus old + j) lanes l ≡ map exporter.Prometheus (calls_at moment (P.ids_of old.prometheus) handles l j lines))
     (some_are : All (λ (call : CallLine). RecordsSome call.act) (map call_line_of lines)) where
   told_prometheus : (j l : ℕ) → told_on asks_prometheus (first_prometheus old + j) lanes l ≡ calls_at moment (P.ids_of old.prometheus) handles l j lines

@@ -2,7 +2,7 @@
 use Rattle.std.specs.Prelude.{◌≡◌, ℕ, zero, suc, ◌+◌, ◌<◌, ◌⊎◌, ◌==◌, ◌&&◌, Bool, false, if◌then◌else◌, not, List, [], ◌∷◌, ◌++◌, Option, Some, None, IfSome, map, filter, length, option_map, unwrap_or, slice_get}
 use mathlib.Core.Option.{some}
 use lib.ListN.{get_elem?}
-use Rattle.cell_lanes.specs.declared.lane.Lane.{Lane}
+use Rattle.cell_lanes.specs.Lines.{LaneText}
 use Rattle.cell_lanes.specs.declared.lane.Line.{Line}
 use Rattle.legal_history.specs.History.{keep}
 use Rattle.cell_lanes.specs.Lanes.{LineFit, cell_calls}
@@ -120,22 +120,22 @@ abbrev pub numbered : {X A : Type 0} → (X → ℕ) → (X → List A) → List
 numbered number tells [] l = []
 numbered number tells (x ∷ xs) l = if number x == l then tells x else numbered number tells xs l
 
-abbrev pub lane_number : {K : Type 0} → Lane K → ℕ
+abbrev pub lane_number : {K : Type 0} → LaneText K → ℕ
 lane_number lane = lane.number
 
 -- what the lane with number l asks for on the series at an index, and all that it asks for
-abbrev pub numbered_at : {K : Type 0} → ℕ → List (Lane K) → ℕ → List K
-numbered_at j = numbered lane_number (λ lane. cell_calls j lane.cells.items lane.lines.items)
+abbrev pub numbered_at : {K : Type 0} → ℕ → List (LaneText K) → ℕ → List K
+numbered_at j = numbered lane_number (λ lane. cell_calls j lane.cells lane.lines)
 
-abbrev pub numbered_asked : List (Lane ExporterCall) → ℕ → List ExporterCall
-numbered_asked = numbered lane_number (λ lane. map call_asked lane.lines.items)
+abbrev pub numbered_asked : List (LaneText ExporterCall) → ℕ → List ExporterCall
+numbered_asked = numbered lane_number (λ lane. map call_asked lane.lines)
 
 -- a lane's number, cells and lines
 abbrev pub Parts : Type 0
 Parts = ℕ × List ℕ × List (Line ExporterCall)
 
-abbrev pub parts_of : Lane ExporterCall → Parts
-parts_of lane = (lane.number, lane.cells.items, lane.lines.items)
+abbrev pub parts_of : LaneText ExporterCall → Parts
+parts_of lane = (lane.number, lane.cells, lane.lines)
 
 -- a lane while it is gathered
 abbrev pub lane_cells : LaneCalls → List ℕ

@@ -2,7 +2,7 @@
 use Rattle.std.specs.Prelude.{◌≡◌, ℕ, suc, ◌+◌, ◌<◌, Bool, false, List, [], ◌∷◌, Option, None, IfSome, All, flat_map, length, map, option_map, unwrap_or, slice_get}
 use mathlib.Core.Option.{some}
 use lib.ListN.{get_elem?}
-use Rattle.cell_lanes.specs.declared.lane.Lane.{Lane}
+use Rattle.cell_lanes.specs.Lines.{LaneText}
 use Rattle.cell_lanes.specs.Lanes.{AllFit, LineFit, cell_calls}
 use Rattle.legal_history.specs.History.{Distinct}
 use Rattle.metrics_core.specs.declared.kinds.SeriesId.{SeriesId}
@@ -80,18 +80,18 @@ pub record AreGathered (exporters : Exporters) (handles line_handles : List Seri
   pub lines : (n : ℕ) → gathered_asked gathered n ≡ flat_map on_both (lane_asks moment n calls)
 
 -- the lanes of a round, as they can be run side by side
-pub record AreLanes (exporters : Exporters) (lanes : List (Lane ExporterCall)) : Type 0 where
+pub record AreLanes (exporters : Exporters) (lanes : List (LaneText ExporterCall)) : Type 0 where
   -- each line is on a cell of its lane, or on none, and each cell is that of a series, once
   pub fit : AllFit (length (things_of exporters)) lanes
   -- each call is for the exporter of its series, and on the series' kind
-  pub asked : (l : ℕ) (lane : Lane ExporterCall) → get_elem? lanes l ≡ some lane → AllAsked (ids_of exporters) lane.cells.items lane.lines.items
+  pub asked : (l : ℕ) (lane : LaneText ExporterCall) → get_elem? lanes l ≡ some lane → AllAsked (ids_of exporters) lane.cells lane.lines
   -- no number is that of two lanes
   pub numbers : Distinct (map lane_number lanes)
   -- and no lane is without calls
-  pub busy : (i : ℕ) (lane : Lane ExporterCall) → get_elem? lanes i ≡ some lane → 0 < length lane.lines.items
+  pub busy : (i : ℕ) (lane : LaneText ExporterCall) → get_elem? lanes i ≡ some lane → 0 < length lane.lines
 
 -- the lanes of a round at a moment have these calls, on the series that the handles name
-pub record HaveCalls (exporters : Exporters) (handles line_handles : List SeriesId) (moment : ℕ) (calls : List CallLine) (lanes : List (Lane ExporterCall)) : Type 0 where
+pub record HaveCalls (exporters : Exporters) (handles line_handles : List SeriesId) (moment : ℕ) (calls : List CallLine) (lanes : List (LaneText ExporterCall)) : Type 0 where
   -- those of each lane on each Prometheus series, in the script's order
   pub prometheus : (j l : ℕ) → numbered_at (first_prometheus exporters + j) lanes l ≡ map exporter.Prometheus (calls_at moment (P.ids_of exporters.prometheus) handles l j calls)
   -- those on each DogStatsD series

@@ -9,9 +9,7 @@ ghost use Rattle.script_player.specs.Fitting.{FitsHandle};
 ghost use Rattle.script_player.specs.LaneCalls.{ids_of};
 ghost use Rattle.script_player.specs.LaneTables.{AreGathered, AreTasks, IsLaneOf, IsTable};
 
-use crate::lanes::{
-    LaneCalls, LaneCounts, LineRoom, Places, behind, dogstatsd_place, prometheus_place,
-};
+use crate::lanes::{LaneCalls, LaneCounts, Places, behind, dogstatsd_place, prometheus_place};
 use drive_script::CallLine;
 use exporter_lanes::Exporters;
 use metrics_core::{Memory, SeriesId};
@@ -26,7 +24,6 @@ pub(crate) struct LaneTask<'a> {
     number: usize,
     /// How many calls it has, for its room alone.
     count: usize,
-    room: Option<LineRoom>,
     moment: u64,
     table: &'a [Places],
     /// The calls of all lanes.
@@ -64,7 +61,6 @@ impl<'a> LaneTask<'a> {
             alloc,
             self.number,
             self.count,
-            self.room.take(),
             self.moment,
             self.table,
             self.calls,
@@ -93,7 +89,6 @@ pub(crate) fn gather_beside<R: Threads + Sync>(
     moment: u64,
     calls: &[CallLine],
     counts: &LaneCounts,
-    rooms: &mut Vec<LineRoom>,
 ) -> Result<Vec<LaneCalls>, Memory>
     requires fit { All (λ line. FitsHandle handles.now (call_line_of line)) calls.now }
     requires line_fit { All (λ line. FitsHandle line_handles.now (call_line_of line)) calls.now }
@@ -110,7 +105,7 @@ pub(crate) fn gather_beside<R: Threads + Sync>(
         line_handles,
         line_guesses,
     )?;
-    let mut tasks = tasks_of(alloc, moment, &table, calls, counts, rooms)?;
+    let mut tasks = tasks_of(alloc, moment, &table, calls, counts)?;
     take_beside(rt, alloc, &mut tasks);
     into_gathered(alloc, tasks)
 }
@@ -142,14 +137,13 @@ fn table_of(
     Ok(table)
 }
 
-/// The tasks of all lanes up to the last that has calls, in order. They have the rooms of lanes before, as far as there are any.
+/// The tasks of all lanes up to the last that has calls, in order.
 fn tasks_of<'a>(
     alloc: Global,
     moment: u64,
     table: &'a [Places],
     calls: &'a [CallLine],
     counts: &LaneCounts,
-    rooms: &mut Vec<LineRoom>,
 ) -> Result<Vec<LaneTask<'a>>, Memory>
     ensures tasks { IfOk result (λ tasks. AreTasks moment table.now calls.now 0 tasks.items) }
     ensures count { IfOk result (λ tasks. length tasks.items ≡ counts.now.lanes) }
@@ -159,7 +153,6 @@ fn tasks_of<'a>(
         tasks.push(LaneTask {
             number,
             count: counts.of_lane(number),
-            room: rooms.pop(),
             moment,
             table,
             calls,

@@ -2,7 +2,7 @@
 //! series, where that is live, and then on the DogStatsD series.
 
 ghost use Rattle.std.specs.Prelude.{◌≡◌, ◌<◌, ◌++◌, ◌∷◌, ◌+◌, ◌==◌, ℕ, [], All, IfOk, IfSome, IsTrue, OnOk, Some, filter, if◌then◌else◌, length, map, option_map, slice_get};
-ghost use Rattle.cell_lanes.specs.declared.lane.Lane.{Lane};
+ghost use Rattle.cell_lanes.specs.Lines.{LaneText};
 ghost use mathlib.Core.Option.{some};
 ghost use lib.ListN.{get_elem?};
 ghost use Rattle.cell_lanes.specs.Lanes.{LineFit, cell_calls};
@@ -19,7 +19,7 @@ ghost use Rattle.script_player.specs.LaneTables.{AreGathered, AreLanes, HaveCall
 ghost use Rattle.script_player.specs.LaneCalls.{AllAsked, AreInPlace, AreReady, AreWith, AsksKind, IsOfKind, PlacesAsk, SeriesIds, asked, both_at, call_asked, gathered_asked, gathered_at, gathered_parts, has_lines, ids_of, is_at, is_place, lane_cells, lane_lines, on_both, parts_of};
 
 use crate::lane_tasks::gather_beside;
-use cell_lanes::{Lane, Line};
+use cell_lanes::{Lane, Line, ListedLane};
 use drive_script::{Act, CallLine};
 use dsd_exporter::State;
 use exporter_lanes::{ExporterCall, Exporters};
@@ -41,8 +41,7 @@ const GUESSES: usize = 1024;
 /// The lanes of a round at a moment that have calls, each with its number. A call line is two lines of its lane: its call on the
 /// Prometheus series that the handle names, and the same on the DogStatsD series. Where an exporter has no such series, the line is
 /// on none. Many calls are gathered side by side. `handles` are the series that register lines were given by the Prometheus exporter, `line_handles` those by the
-/// DogStatsD exporter, and for each of them a guess says where to look first. The lines stand in the rooms of lanes before, as far
-/// as there are any.
+/// DogStatsD exporter, and for each of them a guess says where to look first.
 pub(crate) fn lanes_of<R: Threads + Sync>(
     rt: &R,
     alloc: Global,
@@ -53,8 +52,7 @@ pub(crate) fn lanes_of<R: Threads + Sync>(
     line_guesses: &mut [u32],
     moment: u64,
     calls: &[CallLine],
-    rooms: &mut Vec<LineRoom>,
-) -> Result<Vec<Lane<ExporterCall>>, Memory>
+) -> Result<Vec<ListedLane<ExporterCall>>, Memory>
     requires fit { All (λ line. FitsHandle handles.now (call_line_of line)) calls.now }
     requires line_fit { All (λ line. FitsHandle line_handles.now (call_line_of line)) calls.now }
     ensures lanes { IfOk result (λ lanes. AreLanes exporters.now lanes.items) }
@@ -72,7 +70,6 @@ pub(crate) fn lanes_of<R: Threads + Sync>(
         line_guesses,
         moment,
         calls,
-        rooms,
     )?;
     into_lanes(alloc, gathered)
 }
@@ -88,7 +85,6 @@ fn gathered_of<R: Threads + Sync>(
     line_guesses: &mut [u32],
     moment: u64,
     calls: &[CallLine],
-    rooms: &mut Vec<LineRoom>,
 ) -> Result<Vec<LaneCalls>, Memory>
     requires fit { All (λ line. FitsHandle handles.now (call_line_of line)) calls.now }
     requires line_fit { All (λ line. FitsHandle line_handles.now (call_line_of line)) calls.now }
@@ -108,7 +104,6 @@ fn gathered_of<R: Threads + Sync>(
             moment,
             calls,
             &counts,
-            rooms,
         );
     }
     gather_beside(
@@ -122,7 +117,6 @@ fn gathered_of<R: Threads + Sync>(
         moment,
         calls,
         &counts,
-        rooms,
     )
 }
 
@@ -137,7 +131,6 @@ fn gather_all(
     moment: u64,
     calls: &[CallLine],
     counts: &LaneCounts,
-    rooms: &mut Vec<LineRoom>,
 ) -> Result<Vec<LaneCalls>, Memory>
     requires fit { All (λ line. FitsHandle handles.now (call_line_of line)) calls.now }
     requires line_fit { All (λ line. FitsHandle line_handles.now (call_line_of line)) calls.now }
@@ -158,7 +151,6 @@ fn gather_all(
             alloc,
             &mut gathered,
             counts,
-            rooms,
             lane,
             places,
             call_of(moment, line.act),
@@ -290,7 +282,6 @@ fn gather(
     alloc: Global,
     gathered: &mut Vec<LaneCalls>,
     counts: &LaneCounts,
-    rooms: &mut Vec<LineRoom>,
     lane: usize,
     places: Places,
     call: SeriesCall,
@@ -308,7 +299,7 @@ fn gather(
         ≡ gathered_asked gathered.old.items l
         ++ (if lane == l then on_both call else [])) }
 {
-    make_room(alloc, gathered, counts, rooms, lane)?;
+    make_room(alloc, gathered, counts, lane)?;
     gathered[lane].push_both(places, call)
 }
 
@@ -317,7 +308,6 @@ fn make_room(
     alloc: Global,
     gathered: &mut Vec<LaneCalls>,
     counts: &LaneCounts,
-    rooms: &mut Vec<LineRoom>,
     lane: usize,
 ) -> Result<(), Memory>
     requires { lane < 256 }
@@ -332,18 +322,18 @@ fn make_room(
         → gathered_asked gathered.new.items l ≡ gathered_asked gathered.old.items l) }
 {
     for number in gathered.len()..lane + 1 {
-        let empty = LaneCalls::with_room(alloc, number, counts.of_lane(number), rooms.pop())?;
+        let empty = LaneCalls::with_room(alloc, number, counts.of_lane(number))?;
         gathered.push(empty)?;
     }
     Ok(())
 }
 
 /// The lanes that have calls, from what was gathered.
-fn into_lanes(alloc: Global, gathered: Vec<LaneCalls>) -> Result<Vec<Lane<ExporterCall>>, Memory>
+fn into_lanes(alloc: Global, gathered: Vec<LaneCalls>) -> Result<Vec<ListedLane<ExporterCall>>, Memory>
     ensures parts { IfOk result (λ lanes. map parts_of lanes.items
         ≡ map gathered_parts (filter has_lines gathered.items)) }
-    ensures once { IfOk result (λ lanes. (l : ℕ) (lane : Lane ExporterCall)
-        → get_elem? lanes.items l ≡ some lane → Distinct lane.cells.items) }
+    ensures once { IfOk result (λ lanes. (l : ℕ) (lane : LaneText ExporterCall)
+        → get_elem? lanes.items l ≡ some lane → Distinct lane.cells) }
 {
     let mut lanes = Vec::new(alloc);
     for lane in gathered {
@@ -353,19 +343,6 @@ fn into_lanes(alloc: Global, gathered: Vec<LaneCalls>) -> Result<Vec<Lane<Export
         lanes.push(lane.into_lane(alloc)?)?;
     }
     Ok(lanes)
-}
-
-/// Room for the lines of a lane, which is kept from round to round. Lines that are left in it are over.
-pub type LineRoom = Vec<Line<ExporterCall>>;
-
-/// Keeps the rooms of lanes that have run for those of the next round, as far as there is memory for it.
-pub(crate) fn keep_rooms(rooms: &mut Vec<LineRoom>, lanes: Vec<Lane<ExporterCall>>) {
-    for lane in lanes {
-        let Lane { lines, .. } = lane;
-        if rooms.push(lines).is_err() {
-            return;
-        }
-    }
 }
 
 /// A lane while its calls are gathered.
@@ -382,19 +359,13 @@ pub struct LaneCalls {
 
 impl LaneCalls {
     /// The lane with this number, without calls, and with room for the two lines of each of so many calls: so none of its lines
-    /// is moved while they are gathered. The room is that of a lane before, where there is one.
-    fn with_room(
-        alloc: Global,
-        number: usize,
-        count: usize,
-        room: Option<LineRoom>,
-    ) -> Result<LaneCalls, Memory>
+    /// is moved while they are gathered.
+    fn with_room(alloc: Global, number: usize, count: usize) -> Result<LaneCalls, Memory>
         ensures empty { IfOk result (λ lane. (lane_cells lane ≡ []) × (lane_lines lane ≡ [])) }
         ensures number { IfOk result (λ lane. lane.number ≡ number) }
     {
         let guesses = if count < GUESSES { 0 } else { GUESSES };
-        let mut lines = room.unwrap_or(Vec::new(alloc));
-        lines.clear();
+        let mut lines = Vec::new(alloc);
         lines.reserve(count.saturating_mul(2))?;
         Ok(LaneCalls {
             number,
@@ -405,12 +376,11 @@ impl LaneCalls {
     }
 
     /// The lane with this number of those whose calls these are, in a round at a moment, with its calls, each on the series whose
-    /// places a table has for its handle. The count and the room are those of `with_room`.
+    /// places a table has for its handle. The count is that of `with_room`.
     pub(crate) fn of_calls(
         alloc: Global,
         number: usize,
         count: usize,
-        room: Option<LineRoom>,
         moment: u64,
         table: &[Places],
         calls: &[CallLine],
@@ -418,7 +388,7 @@ impl LaneCalls {
         ensures { IfOk result (IsLaneOf
             (record { number = number; moment = moment; table = table.now; calls = calls.now })) }
     {
-        let mut lane = LaneCalls::with_room(alloc, number, count, room)?;
+        let mut lane = LaneCalls::with_room(alloc, number, count)?;
         for line in calls {
             if usize::from(line.lane) == number {
                 lane.push_both(places_of(table, line.handle), call_of(moment, line.act))?;
@@ -488,15 +458,12 @@ impl LaneCalls {
     }
 
     /// The lane.
-    fn into_lane(self, alloc: Global) -> Result<Lane<ExporterCall>, Memory>
+    fn into_lane(self, alloc: Global) -> Result<ListedLane<ExporterCall>, Memory>
         ensures parts { IfOk result (λ lane. parts_of lane ≡ gathered_parts self) }
-        ensures once { IfOk result (λ lane. Distinct lane.cells.items) }
+        ensures once { IfOk result (λ lane. Distinct lane.cells) }
     {
-        Ok(Lane {
-            number: self.number,
-            cells: Vec::from_slice(alloc, self.cells.as_slice())?,
-            lines: self.lines,
-        })
+        let cells = Vec::from_slice(alloc, self.cells.as_slice())?;
+        Ok(Lane::new(self.number, cells, self.lines))
     }
 }
 

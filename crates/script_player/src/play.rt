@@ -10,7 +10,7 @@ ghost use Rattle.script_player.specs.Rounds.{CutsScript, PlaysScript};
 use crate::flushes::{Flushes, lines_exporter};
 use crate::gates::GateHook;
 use crate::guesses::Guesses;
-use crate::lanes::{LineRoom, keep_rooms, lanes_of};
+use crate::lanes::lanes_of;
 use crate::page::write_both;
 use crate::set_up::{lines_for_flushes, make_room, set_up_both};
 use crate::settings::builder_of;
@@ -88,8 +88,6 @@ pub struct Player {
     /// For each of these handles, where to look for its series first.
     line_guesses: Guesses,
     flushes: Flushes,
-    /// What the lanes of the next round put their lines in.
-    rooms: Vec<LineRoom>,
 }
 
 impl Model for Player {
@@ -158,7 +156,6 @@ impl Player {
                 line_handles: Vec::new(alloc),
                 line_guesses: Guesses::new(alloc),
                 flushes,
-                rooms: Vec::new(alloc),
             }),
             Err(_) => Err(Memory),
         }
@@ -178,7 +175,6 @@ impl Player {
             line_handles: _,
             line_guesses: _,
             flushes,
-            rooms: _,
         } = self;
         let Exporters {
             prometheus,
@@ -318,12 +314,9 @@ impl Player {
             &mut self.line_guesses.places,
             moment,
             &calls,
-            &mut self.rooms,
         )?;
         drop(calls);
-        let run = run_lanes(rt, alloc, &GateHook { gate }, &mut self.exporters, &lanes);
-        keep_rooms(&mut self.rooms, lanes);
-        run
+        run_lanes(rt, alloc, &GateHook { gate }, &mut self.exporters, &lanes)
     }
 
     /// Writes the page of a round at its moment, and hands its flush to the link. For much work the flush is made beside the page.

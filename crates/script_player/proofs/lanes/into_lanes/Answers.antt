@@ -4,7 +4,7 @@ use Rattle.std.proofs.lemmas.List.Elements.{filter-append}
 use Rattle.std.proofs.lemmas.List.{map-append}
 use mathlib.Core.Option.{some}
 use lib.ListN.{get_elem?}
-use Rattle.cell_lanes.specs.declared.lane.Lane.{Lane}
+use Rattle.cell_lanes.specs.Lines.{LaneText}
 use Rattle.legal_history.specs.History.{Distinct}
 use Rattle.legal_history.proofs.Steps.{at_snoc_index}
 use Rattle.exporter_lanes.specs.declared.exporters.ExporterCall.{ExporterCall}
@@ -35,6 +35,6 @@ loop-lane-preserved c =
           ∙ ap (map gathered_parts) (sym (filter-append has_lines c.loop-lane.yielded (lane ∷ []) ∙ ap (λ b. filter has_lines c.loop-lane.yielded ++ cond b (lane ∷ []) []) some_are));
       once = λ n x at. ⊎_elim
           (λ (before : get_elem? old n ≡ some x). inv.once n x before)
-          (λ (last : (n ≡ length old) × (new ≡ x)). subst (λ (a : Lane ExporterCall). Distinct a.cells.items) last.1 c.in_ok-into_lane.ensures.once)
+          (λ (last : (n ≡ length old) × (new ≡ x)). subst (λ (a : LaneText ExporterCall). Distinct a.cells) last.1 c.in_ok-into_lane.ensures.once)
           (at_snoc_index old new x n (subst (λ ls. get_elem? ls n ≡ some x) items at));
     }

@@ -1,7 +1,7 @@
 use denote.Param.Send.{sendable}
 use Rattle.std.proofs.Common.{◌≡◌, ◌+◌, ◌<◌, ℕ, List, length, map, sym, ap, subst, ◌∙◌}
 use Rattle.std.specs.Prelude.{All}
-use Rattle.cell_lanes.specs.declared.lane.Lane.{Lane}
+use Rattle.cell_lanes.specs.Lines.{LaneText}
 use Rattle.cell_lanes.specs.Things.{fixed_of, root_of}
 use Rattle.cell_lanes.specs.Lanes.{AllDone, AllFit, AllTaken, Each, Grew}
 use Rattle.metrics_core.specs.declared.kinds.SeriesId.{SeriesId}
@@ -44,7 +44,7 @@ run_lanes-run-requires-clause-roots g c κs within = begin_at_rest c.self.inside
 
 pub run_lanes-run-requires-clause-fit : goal.run_lanes-run-requires-clause-fit
 run_lanes-run-requires-clause-fit g c κs within =
-    subst (λ (lanes : List (Lane ExporterCall)). AllFit (length (things_of c.self.inside.exporters)) lanes) (sym c.deref-4.ensures.value) c.in_ok-lanes.ensures.lanes.fit
+    subst (λ (lanes : List (LaneText ExporterCall)). AllFit (length (things_of c.self.inside.exporters)) lanes) (sym c.deref-4.ensures.value) c.in_ok-lanes.ensures.lanes.fit
 
 pub run_lanes-run-requires-clause-taken : goal.run_lanes-run-requires-clause-taken
 run_lanes-run-requires-clause-taken g c κs within =
@@ -75,13 +75,13 @@ returns-clause-called g c =
     let lanes = c.in_ok-lanes.lanes.items in
     let e = c.in_ok-lanes.ensures in
     let grew = c.run_lanes-run.ensures.grew in
-    let each = subst (λ (ls : List (Lane ExporterCall)). Each (Grew root_of StandsAsEntries ls grew.0) (things_of old) (things_of new)) c.deref-4.ensures.value grew.2 in
+    let each = subst (λ (ls : List (LaneText ExporterCall)). Each (Grew root_of StandsAsEntries ls grew.0) (things_of old) (things_of new)) c.deref-4.ensures.value grew.2 in
     let Same : List SeriesId → List CallLine → Type 0
     = λ hs calls. (j l : ℕ) → numbered_at (first_prometheus old + j) lanes l ≡ map exporter.Prometheus (calls_at c.args.moment (P.ids_of old.prometheus) hs l j calls) in
     let same = subst (Same c.self.inside.handles.items) c.deref-3.ensures.value (subst (λ hs. Same hs c.deref-3.result.now) c.deref.ensures.value e.calls.prometheus) in
     let fit : FitsCalls _ c.args.calls.items = subst (λ (p : PlayerText). FitsCalls p c.args.calls.items) (sym c.self.view_is) c.requires.fit in
     when_ok c.run_lanes-run.result grew.1 (λ done.
-    let round = is_round old c.self.invariant.rest e.numbered lanes new grew.0 e.lanes.fit e.lanes.asked c.run_lanes-run.ensures.frame (subst (λ (ls : List (Lane ExporterCall)). AllDone ls grew.0) c.deref-4.ensures.value done) each in
+    let round = is_round old c.self.invariant.rest e.numbered lanes new grew.0 e.lanes.fit e.lanes.asked c.run_lanes-run.ensures.frame (subst (λ (ls : List (LaneText ExporterCall)). AllDone ls grew.0) c.deref-4.ensures.value done) each in
     λ text at are. subst (λ (p : PlayerText). IsCalled p.pages text (rows_state new.prometheus c.self.inside.handles.items)) c.self.view_is
     (pages_called c.args.moment old new c.self.inside.handles.items c.self.inside.line_handles.items c.args.calls.items lanes round e.lanes.numbers same fit.some c.self.invariant.rest fit.fit text at are))
 
@@ -92,7 +92,7 @@ returns-clause-flush_called g c =
     let lanes = c.in_ok-lanes.lanes.items in
     let e = c.in_ok-lanes.ensures in
     let grew = c.run_lanes-run.ensures.grew in
-    let each = subst (λ (ls : List (Lane ExporterCall)). Each (Grew root_of StandsAsEntries ls grew.0) (things_of old) (things_of new)) c.deref-4.ensures.value grew.2 in
+    let each = subst (λ (ls : List (LaneText ExporterCall)). Each (Grew root_of StandsAsEntries ls grew.0) (things_of old) (things_of new)) c.deref-4.ensures.value grew.2 in
     let Same : List SeriesId → List CallLine → Type 0
     = λ hs calls. (j l : ℕ) → numbered_at (first_prometheus old + j) lanes l ≡ map exporter.Prometheus (calls_at c.args.moment (P.ids_of old.prometheus) hs l j calls) in
     let same = subst (Same c.self.inside.handles.items) c.deref-3.ensures.value (subst (λ hs. Same hs c.deref-3.result.now) c.deref.ensures.value e.calls.prometheus) in
@@ -101,6 +101,6 @@ returns-clause-flush_called g c =
     let fit : FitsCalls _ c.args.calls.items = subst (λ (p : PlayerText). FitsCalls p c.args.calls.items) (sym c.self.view_is) c.requires.fit in
     let lines_same = subst (LinesSame c.self.inside.line_handles.items) c.deref-3.ensures.value (subst (λ hs. LinesSame hs c.deref-3.result.now) c.deref-2.ensures.value e.calls.dogstatsd) in
     when_ok c.run_lanes-run.result grew.1 (λ done.
-    let round = is_round old c.self.invariant.rest e.numbered lanes new grew.0 e.lanes.fit e.lanes.asked c.run_lanes-run.ensures.frame (subst (λ (ls : List (Lane ExporterCall)). AllDone ls grew.0) c.deref-4.ensures.value done) each in
+    let round = is_round old c.self.invariant.rest e.numbered lanes new grew.0 e.lanes.fit e.lanes.asked c.run_lanes-run.ensures.frame (subst (λ (ls : List (LaneText ExporterCall)). AllDone ls grew.0) c.deref-4.ensures.value done) each in
     λ text at are. subst (λ (p : PlayerText). IsFlushCalled p.flushes text (lines_state c.self.inside.flushes.marks new.dogstatsd c.self.inside.line_handles.items)) c.self.view_is
     (flushes_called c.args.moment old new c.self.inside.handles.items c.self.inside.line_handles.items c.args.calls.items lanes round e.lanes.numbers same fit.some lines_same c.self.inside.flushes.marks e.numbered fit.lines_fit text at are))
