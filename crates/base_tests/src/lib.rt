@@ -15,6 +15,8 @@ mod devices;
 #[cfg(test)]
 mod handles;
 #[cfg(test)]
+mod held_keys;
+#[cfg(test)]
 mod keys;
 #[cfg(test)]
 mod kinds;
