@@ -32,6 +32,8 @@ mod scripts;
 #[cfg(test)]
 mod series;
 #[cfg(test)]
+mod starts;
+#[cfg(test)]
 mod texts;
 #[cfg(test)]
 mod values;
