@@ -15,6 +15,8 @@ mod devices;
 #[cfg(test)]
 mod handles;
 #[cfg(test)]
+mod held_keys;
+#[cfg(test)]
 mod keys;
 #[cfg(test)]
 mod kinds;
@@ -29,6 +31,8 @@ mod reservoirs;
 mod scripts;
 #[cfg(test)]
 mod series;
+#[cfg(test)]
+mod starts;
 #[cfg(test)]
 mod texts;
 #[cfg(test)]

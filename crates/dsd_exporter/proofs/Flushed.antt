@@ -44,4 +44,5 @@ module _ (moment : ℕ) (old a b c : Exporter) (marks noted : List Bool) (w x y 
         marked = counted.marked;
         sends = sends_then (one ++ two) three w y z u m r (sends_then one two w x y u n m counted.sends sends_two) sends_three;
         drawn = drawn;
+        many = third.many;
       }

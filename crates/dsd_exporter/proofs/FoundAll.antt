@@ -9,7 +9,7 @@ use Rattle.dsd_writer.specs.Writers.{WriterText}
 use Rattle.dsd_exporter.specs.State.{with_cell_of, marks_after, items_of_counters, items_of_gauges, items_of_histograms}
 use Rattle.dsd_exporter.specs.Updates.{UpdateText}
 use Rattle.dsd_exporter.specs.Exporter.{Exporter, CounterThing, GaugeThing, Queued, AllHome, IsHome, counter_seen, gauge_seen, samples_seen}
-use Rattle.dsd_exporter.specs.Flushing.{TakesCounter, TakesGauge, TakesSamples, Unchanged, MaybeDrained, Sends, with_found, Found, IsWhole, Flushes, FlushesAll}
+use Rattle.dsd_exporter.specs.Flushing.{TakesCounter, TakesGauge, TakesSamples, Unchanged, MaybeDrained, Sends, with_found, words_for_all, Found, IsWhole, Flushes, FlushesAll}
 use Rattle.dsd_exporter.proofs.FoundHome.{all-home, counter-home, counter-left, gauge-home, gauge-left, gauge_kept, samples-home}
 
 -- what was found is the cells of the series with what was found
@@ -34,6 +34,7 @@ flushes_all moment found old new marks noted w v u n to_come left flushes whole 
     record {
       words = found.words;
       drawn = subst (λ l. Draws to_come l left) (ap (λ l. found.words ++ l) whole.others ∙ append-nil found.words) flushes.drawn;
+      many = flushes.many ∙ ap (words_for_all old.settings) histograms.0;
       step = (λ j. record {
         series = record { counters = counters.1 j; gauges = gauges.1 j; histograms = histograms.1 j; made = (ap (λ (e : Exporter). e.series.made) flushes.rest) j };
         idle = (flushes.marked ∙ ap (λ l. marks_after l marks) cells) j;

@@ -308,10 +308,12 @@ pub record Flushes (moment : ℕ) (found : Found) (old new : Exporter) (marks no
   pub marked : noted ≡ marks_after found.counters marks
   pub sends : Sends (items_found old.settings w.global_tags moment marks old found) w v u n
   pub drawn : Draws to_come (found.words ++ found.others) left
+  pub many : length found.words ≡ words_for_all old.settings (with_found old.series.histograms found.histograms)
 
 -- Where no pass is out a whole flush is the step of the sequential state, and sends its items; so many words were drawn.
 pub record FlushesAll (moment : ℕ) (old new : Exporter) (marks noted : List Bool) (w v : WriterText) (u n : UpdateText) (to_come left : Option (ℕ → ℕ)) : Type 0 where
   pub words : List ℕ
   pub drawn : Draws to_come words left
+  pub many : length words ≡ words_for_all old.settings (state_seen marks old).series.histograms
   pub step : state_seen noted new ≡ flush_step (state_seen marks old)
   pub sends : Sends (flush_items old.settings w.global_tags moment words (state_seen marks old)) w v u n

@@ -415,10 +415,11 @@ impl State {
 
     /// Flushes all series: counters, gauges, and histograms, each kind in order of registration. Of each it takes what waits,
     /// writes its lines and counts it. A counter without updates is sent once, and is idle then: it is not sent again until it
-    /// has updates. The moment is in nanoseconds; words are drawn where histograms are sampled. Each series is taken at one
-    /// point of its history, also beside others that make calls. Where memory is refused, the series before the refused one
-    /// were flushed, and from that one on they are untouched, but that of a refused histogram entries may have gone from its
-    /// queue to those that were taken out of it, which come first at the next flush. What waits is sent by the next flush.
+    /// has updates. The moment is in nanoseconds; words are drawn where histograms are sampled, as many as their samples need.
+    /// Each series is taken at one point of its history, also beside others that make calls. Where memory is refused, the series
+    /// before the refused one were flushed, and from that one on they are untouched, but that of a refused histogram entries may
+    /// have gone from its queue to those that were taken out of it, which come first at the next flush. What waits is sent by the
+    /// next flush.
     pub fn flush<R: Wait, W: Words>(
         &mut self,
         rt: &R,

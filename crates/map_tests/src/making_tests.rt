@@ -12,30 +12,25 @@ type Made = Handles<u32, u32, (), KeepAll, PlainHasher>;
 
 type Reader = ReadHandle<u32, u32, (), KeepAll, PlainHasher>;
 
-/// Whether a map was made, and how many more readers there is room for, of two.
-fn made<R: Wait>(rt: &R, map: Result<Made, EvmapFault>) -> Option<usize> {
+/// Whether a map was made, and for how many more readers there is room beside its first, counted up to 80.
+fn made<R: Wait>(rt: &R, map: Result<Made, EvmapFault>) -> Option<u32> {
     match map {
         Ok((w, r)) => {
             w.end(rt);
-            Some(room(&r))
+            Some(room(&r, 80))
         }
         Err(_) => None,
     }
 }
 
-/// For how many more readers there is room, of two.
-fn room(r: &Reader) -> usize {
-    match r.clone() {
-        Ok(second) => room_beside(&second),
-        Err(_) => 0,
+/// For how many more readers there is room, while all those before stay, counted so far.
+fn room(r: &Reader, most: u32) -> u32 {
+    if most == 0 {
+        return 0;
     }
-}
-
-/// For how many more readers there is room, of two, where there is room for one.
-fn room_beside(r: &Reader) -> usize {
     match r.clone() {
-        Ok(_) => 2,
-        Err(_) => 1,
+        Ok(next) => room(&next, most - 1).saturating_add(1),
+        Err(_) => 0,
     }
 }
 
@@ -46,7 +41,7 @@ fn each_way_makes_a_map(rt: HostRuntime) {
     let lawful = made(&rt, new_assert_stable(&rt, alloc));
     let stable = made(&rt, Options::default().assert_stable(&rt, alloc));
     let hashing = made(&rt, with_hasher(&rt, alloc, (), BuildHasherDefault::new()));
-    assert!(rt; [plain, lawful, stable, hashing] == [Some(2), Some(2), Some(2), Some(2)]);
+    assert!(rt; [plain, lawful, stable, hashing] == [Some(63); 4]);
 }
 
 /// Options with room for so many readers.
@@ -60,5 +55,6 @@ fn with_room(places: u32) -> Options<(), PlainHasher>
 fn readers_have_as_many_places_as_were_asked_for(rt: HostRuntime) {
     let one = made(&rt, with_room(1).construct(&rt, rt.alloc()));
     let two = made(&rt, with_room(2).construct(&rt, rt.alloc()));
-    assert!(rt; [one, two] == [Some(0), Some(1)]);
+    let many = made(&rt, with_room(65).construct(&rt, rt.alloc()));
+    assert!(rt; [one, two, many] == [Some(0), Some(1), Some(64)]);
 }
