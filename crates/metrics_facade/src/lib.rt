@@ -23,7 +23,7 @@ pub use noop_cell::NoopCell;
 pub use noop_recorder::NoopRecorder;
 pub use once::{RecorderOnceCell, SetRecorderError};
 pub use once_cell::race::Note;
-pub use recorder::Recorder;
+pub use recorder::{LeadsToRecorder, Recorder};
 pub use scope::{
     Current, LocalRecorderGuard, RecorderScope, set_default_local_recorder, set_global_recorder,
     with_local_recorder, with_recorder,

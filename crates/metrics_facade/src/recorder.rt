@@ -113,267 +113,79 @@ pub trait Recorder {
         ensures refused { OnErr result (may_refuse self.now) };
 }
 
-impl<T: Recorder> Recorder for &T {
-    type Counter = T::Counter;
+/// What leads to a recorder: a reference to one, or what owns or shares one. It is a recorder that does what that one does.
+pub trait LeadsToRecorder {
+    ghost use Rattle.std.specs.Prelude.{◌≡◌};
 
-    type Gauge = T::Gauge;
+    /// The recorder's type.
+    type Target: Recorder;
 
-    type Histogram = T::Histogram;
+    /// The recorder.
+    ghost led_to: { Self → Self.Target };
 
-    ghost counter_of = { λ it. T.counter_of it.now };
+    /// The recorder that this leads to.
+    fn recorder(&self) -> &Self::Target
+        ensures { result.now ≡ led_to self.now };
+}
 
-    ghost gauge_of = { λ it. T.gauge_of it.now };
+impl<T: Recorder> LeadsToRecorder for &T {
+    type Target = T;
 
-    ghost histogram_of = { λ it. T.histogram_of it.now };
+    ghost led_to = { λ it. it.now };
 
-    ghost describes = { λ it. T.describes it.now };
-
-    ghost may_refuse = { λ it. T.may_refuse it.now };
-
-    fn describe_counter<R: Wait>(
-        &self,
-        rt: &R,
-        alloc: Global,
-        key: KeyName,
-        unit: Option<Unit>,
-        description: SharedString,
-    ) -> Result<(), Memory> {
-        (**self).describe_counter(rt, alloc, key, unit, description)
-    }
-
-    fn describe_gauge<R: Wait>(
-        &self,
-        rt: &R,
-        alloc: Global,
-        key: KeyName,
-        unit: Option<Unit>,
-        description: SharedString,
-    ) -> Result<(), Memory> {
-        (**self).describe_gauge(rt, alloc, key, unit, description)
-    }
-
-    fn describe_histogram<R: Wait>(
-        &self,
-        rt: &R,
-        alloc: Global,
-        key: KeyName,
-        unit: Option<Unit>,
-        description: SharedString,
-    ) -> Result<(), Memory> {
-        (**self).describe_histogram(rt, alloc, key, unit, description)
-    }
-
-    fn register_counter<R: Wait>(
-        &self,
-        rt: &R,
-        alloc: Global,
-        key: &Key,
-        metadata: &Metadata<'_>,
-    ) -> Result<T::Counter, Memory> {
-        (**self).register_counter(rt, alloc, key, metadata)
-    }
-
-    fn register_gauge<R: Wait>(
-        &self,
-        rt: &R,
-        alloc: Global,
-        key: &Key,
-        metadata: &Metadata<'_>,
-    ) -> Result<T::Gauge, Memory> {
-        (**self).register_gauge(rt, alloc, key, metadata)
-    }
-
-    fn register_histogram<R: Wait>(
-        &self,
-        rt: &R,
-        alloc: Global,
-        key: &Key,
-        metadata: &Metadata<'_>,
-    ) -> Result<T::Histogram, Memory> {
-        (**self).register_histogram(rt, alloc, key, metadata)
+    fn recorder(&self) -> &T {
+        self
     }
 }
 
-impl<T: Recorder> Recorder for &mut T {
-    type Counter = T::Counter;
+impl<T: Recorder> LeadsToRecorder for &mut T {
+    type Target = T;
 
-    type Gauge = T::Gauge;
+    ghost led_to = { λ it. it.now };
 
-    type Histogram = T::Histogram;
-
-    ghost counter_of = { λ it. T.counter_of it.now };
-
-    ghost gauge_of = { λ it. T.gauge_of it.now };
-
-    ghost histogram_of = { λ it. T.histogram_of it.now };
-
-    ghost describes = { λ it. T.describes it.now };
-
-    ghost may_refuse = { λ it. T.may_refuse it.now };
-
-    fn describe_counter<R: Wait>(
-        &self,
-        rt: &R,
-        alloc: Global,
-        key: KeyName,
-        unit: Option<Unit>,
-        description: SharedString,
-    ) -> Result<(), Memory> {
-        (**self).describe_counter(rt, alloc, key, unit, description)
-    }
-
-    fn describe_gauge<R: Wait>(
-        &self,
-        rt: &R,
-        alloc: Global,
-        key: KeyName,
-        unit: Option<Unit>,
-        description: SharedString,
-    ) -> Result<(), Memory> {
-        (**self).describe_gauge(rt, alloc, key, unit, description)
-    }
-
-    fn describe_histogram<R: Wait>(
-        &self,
-        rt: &R,
-        alloc: Global,
-        key: KeyName,
-        unit: Option<Unit>,
-        description: SharedString,
-    ) -> Result<(), Memory> {
-        (**self).describe_histogram(rt, alloc, key, unit, description)
-    }
-
-    fn register_counter<R: Wait>(
-        &self,
-        rt: &R,
-        alloc: Global,
-        key: &Key,
-        metadata: &Metadata<'_>,
-    ) -> Result<T::Counter, Memory> {
-        (**self).register_counter(rt, alloc, key, metadata)
-    }
-
-    fn register_gauge<R: Wait>(
-        &self,
-        rt: &R,
-        alloc: Global,
-        key: &Key,
-        metadata: &Metadata<'_>,
-    ) -> Result<T::Gauge, Memory> {
-        (**self).register_gauge(rt, alloc, key, metadata)
-    }
-
-    fn register_histogram<R: Wait>(
-        &self,
-        rt: &R,
-        alloc: Global,
-        key: &Key,
-        metadata: &Metadata<'_>,
-    ) -> Result<T::Histogram, Memory> {
-        (**self).register_histogram(rt, alloc, key, metadata)
+    fn recorder(&self) -> &T {
+        self
     }
 }
 
-impl<T: Recorder> Recorder for Box<T> {
-    type Counter = T::Counter;
+impl<T: Recorder> LeadsToRecorder for Box<T> {
+    type Target = T;
 
-    type Gauge = T::Gauge;
+    ghost led_to = { λ it. it.value };
 
-    type Histogram = T::Histogram;
-
-    ghost counter_of = { λ it. T.counter_of it.value };
-
-    ghost gauge_of = { λ it. T.gauge_of it.value };
-
-    ghost histogram_of = { λ it. T.histogram_of it.value };
-
-    ghost describes = { λ it. T.describes it.value };
-
-    ghost may_refuse = { λ it. T.may_refuse it.value };
-
-    fn describe_counter<R: Wait>(
-        &self,
-        rt: &R,
-        alloc: Global,
-        key: KeyName,
-        unit: Option<Unit>,
-        description: SharedString,
-    ) -> Result<(), Memory> {
-        (**self).describe_counter(rt, alloc, key, unit, description)
-    }
-
-    fn describe_gauge<R: Wait>(
-        &self,
-        rt: &R,
-        alloc: Global,
-        key: KeyName,
-        unit: Option<Unit>,
-        description: SharedString,
-    ) -> Result<(), Memory> {
-        (**self).describe_gauge(rt, alloc, key, unit, description)
-    }
-
-    fn describe_histogram<R: Wait>(
-        &self,
-        rt: &R,
-        alloc: Global,
-        key: KeyName,
-        unit: Option<Unit>,
-        description: SharedString,
-    ) -> Result<(), Memory> {
-        (**self).describe_histogram(rt, alloc, key, unit, description)
-    }
-
-    fn register_counter<R: Wait>(
-        &self,
-        rt: &R,
-        alloc: Global,
-        key: &Key,
-        metadata: &Metadata<'_>,
-    ) -> Result<T::Counter, Memory> {
-        (**self).register_counter(rt, alloc, key, metadata)
-    }
-
-    fn register_gauge<R: Wait>(
-        &self,
-        rt: &R,
-        alloc: Global,
-        key: &Key,
-        metadata: &Metadata<'_>,
-    ) -> Result<T::Gauge, Memory> {
-        (**self).register_gauge(rt, alloc, key, metadata)
-    }
-
-    fn register_histogram<R: Wait>(
-        &self,
-        rt: &R,
-        alloc: Global,
-        key: &Key,
-        metadata: &Metadata<'_>,
-    ) -> Result<T::Histogram, Memory> {
-        (**self).register_histogram(rt, alloc, key, metadata)
+    fn recorder(&self) -> &T {
+        self
     }
 }
 
-impl<T: Recorder> Recorder for Arc<T> {
+impl<T: Recorder> LeadsToRecorder for Arc<T> {
     ghost use Rattle.std.specs.Arc.{arc_value};
 
-    type Counter = T::Counter;
+    type Target = T;
 
-    type Gauge = T::Gauge;
+    ghost led_to = { arc_value };
 
-    type Histogram = T::Histogram;
+    fn recorder(&self) -> &T {
+        self
+    }
+}
 
-    ghost counter_of = { λ it. T.counter_of (arc_value it) };
+impl<P: LeadsToRecorder> Recorder for P {
+    type Counter = <P::Target as Recorder>::Counter;
 
-    ghost gauge_of = { λ it. T.gauge_of (arc_value it) };
+    type Gauge = <P::Target as Recorder>::Gauge;
 
-    ghost histogram_of = { λ it. T.histogram_of (arc_value it) };
+    type Histogram = <P::Target as Recorder>::Histogram;
 
-    ghost describes = { λ it. T.describes (arc_value it) };
+    ghost counter_of = { λ it. P.Target.counter_of (P.led_to it) };
 
-    ghost may_refuse = { λ it. T.may_refuse (arc_value it) };
+    ghost gauge_of = { λ it. P.Target.gauge_of (P.led_to it) };
+
+    ghost histogram_of = { λ it. P.Target.histogram_of (P.led_to it) };
+
+    ghost describes = { λ it. P.Target.describes (P.led_to it) };
+
+    ghost may_refuse = { λ it. P.Target.may_refuse (P.led_to it) };
 
     fn describe_counter<R: Wait>(
         &self,
@@ -383,7 +195,8 @@ impl<T: Recorder> Recorder for Arc<T> {
         unit: Option<Unit>,
         description: SharedString,
     ) -> Result<(), Memory> {
-        (**self).describe_counter(rt, alloc, key, unit, description)
+        self.recorder()
+            .describe_counter(rt, alloc, key, unit, description)
     }
 
     fn describe_gauge<R: Wait>(
@@ -394,7 +207,8 @@ impl<T: Recorder> Recorder for Arc<T> {
         unit: Option<Unit>,
         description: SharedString,
     ) -> Result<(), Memory> {
-        (**self).describe_gauge(rt, alloc, key, unit, description)
+        self.recorder()
+            .describe_gauge(rt, alloc, key, unit, description)
     }
 
     fn describe_histogram<R: Wait>(
@@ -405,7 +219,8 @@ impl<T: Recorder> Recorder for Arc<T> {
         unit: Option<Unit>,
         description: SharedString,
     ) -> Result<(), Memory> {
-        (**self).describe_histogram(rt, alloc, key, unit, description)
+        self.recorder()
+            .describe_histogram(rt, alloc, key, unit, description)
     }
 
     fn register_counter<R: Wait>(
@@ -414,8 +229,8 @@ impl<T: Recorder> Recorder for Arc<T> {
         alloc: Global,
         key: &Key,
         metadata: &Metadata<'_>,
-    ) -> Result<T::Counter, Memory> {
-        (**self).register_counter(rt, alloc, key, metadata)
+    ) -> Result<Self::Counter, Memory> {
+        self.recorder().register_counter(rt, alloc, key, metadata)
     }
 
     fn register_gauge<R: Wait>(
@@ -424,8 +239,8 @@ impl<T: Recorder> Recorder for Arc<T> {
         alloc: Global,
         key: &Key,
         metadata: &Metadata<'_>,
-    ) -> Result<T::Gauge, Memory> {
-        (**self).register_gauge(rt, alloc, key, metadata)
+    ) -> Result<Self::Gauge, Memory> {
+        self.recorder().register_gauge(rt, alloc, key, metadata)
     }
 
     fn register_histogram<R: Wait>(
@@ -434,7 +249,7 @@ impl<T: Recorder> Recorder for Arc<T> {
         alloc: Global,
         key: &Key,
         metadata: &Metadata<'_>,
-    ) -> Result<T::Histogram, Memory> {
-        (**self).register_histogram(rt, alloc, key, metadata)
+    ) -> Result<Self::Histogram, Memory> {
+        self.recorder().register_histogram(rt, alloc, key, metadata)
     }
 }
