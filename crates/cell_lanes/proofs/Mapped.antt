@@ -1,14 +1,12 @@
 -- Things and lanes whose calls are seen as others.
-use Rattle.std.proofs.Common.{◌≡◌, ℕ, zero, suc, ◌<◌, ◌==◌, Bool, true, false, List, [], ◌∷◌, ◌++◌, length, map, take, refl, sym, ap, ◌∙◌, subst, append_assoc}
-use Rattle.std.specs.Prelude.{Option, Some, None, IfSome, flat_map}
+use Rattle.std.proofs.Common.{◌≡◌, ℕ, List, [], ◌∷◌, ◌++◌, map, sym, ap, ◌∙◌, subst}
+use Rattle.std.specs.Prelude.{flat_map}
 use Rattle.std.specs.List.{AllByRecursion}
-use Rattle.std.proofs.lemmas.List.{map-append, append-nil}
-use mathlib.Core.Option.{some}
+use Rattle.std.proofs.lemmas.List.{map-append}
 use mathlib.Core.List.{IsPrefix}
-use lib.ListN.{get_elem?}
 use Rattle.legal_history.specs.declared.history.Entry.{Entry}
 use Rattle.legal_history.specs.declared.history.View.{View}
-use Rattle.legal_history.specs.History.{calls, held, after, longer, Sees}
+use Rattle.legal_history.specs.History.{held, longer}
 use Rattle.legal_history.specs.Order.{GrewInOrder}
 use Rattle.legal_history.specs.Mapped.{IsOneToOne, mapped_entry, mapped_log, mapped_held, mapped_view}
 use Rattle.legal_history.proofs.Mapped.{after-mapped, sees-mapped, longer-mapped, prefix-mapped, grew-back}

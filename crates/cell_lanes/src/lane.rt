@@ -81,9 +81,9 @@ impl<L: LaneLines> Model for Lane<L> {
     ghost Value = { LaneText L.Call };
 
     ghost view = { λ lane. record {
-        number = lane.number;
-        cells = lane.cells.items;
-        lines = L.lines lane.lines;
+      number = lane.number;
+      cells = lane.cells.items;
+      lines = L.lines lane.lines;
     } };
 }
 

@@ -155,13 +155,12 @@ fn run_job<R: Wait, H: LaneHook, S: Lenders, L: LaneLines<Call = S::Call> + Sync
 }
 
 /// Runs all lanes side by side, each in a thread of its own with the passes of its job.
-fn run_all<R: Threads + Wait + Sync, H: LaneHook + Sync, S: Lenders, L: LaneLines<Call = S::Call> + Sync>(
-    rt: &R,
-    alloc: Global,
-    hook: &H,
-    jobs: &mut [Job<S::Lent>],
-    lanes: &[Lane<L>],
-)
+fn run_all<
+    R: Threads + Wait + Sync,
+    H: LaneHook + Sync,
+    S: Lenders,
+    L: LaneLines<Call = S::Call> + Sync,
+>(rt: &R, alloc: Global, hook: &H, jobs: &mut [Job<S::Lent>], lanes: &[Lane<L>])
     requires len { length jobs.old ≡ length lanes.now }
     requires ready { (l : ℕ) (a : LaneText S.Call) (x : Job S.Lent)
         → get_elem? lanes.now l ≡ some a → get_elem? jobs.old l ≡ some x
@@ -304,13 +303,7 @@ pub fn run_lanes<
     H: LaneHook + Sync,
     S: Lenders,
     L: LaneLines<Call = S::Call> + Sync,
->(
-    rt: &R,
-    alloc: Global,
-    hook: &H,
-    shared: &mut S,
-    lanes: &[Lane<L>],
-) -> Result<(), Memory>
+>(rt: &R, alloc: Global, hook: &H, shared: &mut S, lanes: &[Lane<L>]) -> Result<(), Memory>
     requires roots { Roots root_of (S.things shared.old) × AtRest root_of (S.things shared.old) }
     requires fit { AllFit (length (S.things shared.old)) lanes.now }
     requires taken { AllTaken fixed_of S.takes (S.things shared.old) lanes.now }

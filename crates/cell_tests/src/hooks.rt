@@ -3,7 +3,9 @@
 ghost use Rattle.std.specs.Prelude.{◌<◌};
 
 use crate::lanes::lane_of;
-use cell_lanes::{Lane, LaneHook, Line, ListedLane, OwnedCell, SharedCell, lanes_fit, run_and_read};
+use cell_lanes::{
+    Lane, LaneHook, Line, ListedLane, OwnedCell, SharedCell, lanes_fit, run_and_read,
+};
 use metrics_core::{Memory, SeriesCall};
 use series_cells::{CellPass, PromCounter, run_counters};
 use std::alloc::Global;

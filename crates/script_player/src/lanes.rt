@@ -329,7 +329,10 @@ fn make_room(
 }
 
 /// The lanes that have calls, from what was gathered.
-fn into_lanes(alloc: Global, gathered: Vec<LaneCalls>) -> Result<Vec<ListedLane<ExporterCall>>, Memory>
+fn into_lanes(
+    alloc: Global,
+    gathered: Vec<LaneCalls>,
+) -> Result<Vec<ListedLane<ExporterCall>>, Memory>
     ensures parts { IfOk result (λ lanes. map parts_of lanes.items
         ≡ map gathered_parts (filter has_lines gathered.items)) }
     ensures once { IfOk result (λ lanes. (l : ℕ) (lane : LaneText ExporterCall)

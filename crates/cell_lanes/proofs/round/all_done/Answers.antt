@@ -20,7 +20,7 @@ loop-l-preserved g c =
     λ i x lt e. dite (ℕ_discrete i l)
     (λ (q : i ≡ l).
     let its : (done_of c.args.jobs.now l ≡ job.done) × (job.done ≡ length x.lines) =
-        (done_at c.args.jobs.now l job at_job, (c.requires.done l x job (subst (λ n. get_elem? c.args.lanes.now n ≡ some x) q e) at_job).all c.if-not-jobs-l.false) in
+    (done_at c.args.jobs.now l job at_job, (c.requires.done l x job (subst (λ n. get_elem? c.args.lanes.now n ≡ some x) q e) at_job).all c.if-not-jobs-l.false) in
     ap (done_of c.args.jobs.now) q ∙ (its.0 ∙ its.1))
     (λ (ne : ¬ (i ≡ l)). c.loop-l.invariant i x (omega arith) e)
 
