@@ -1,4 +1,4 @@
--- A lane that is gathered call line by call line, each of them two lines, and the lanes of a round.
+-- What one more line adds to a lane, and where the series of handles stand.
 use Rattle.std.proofs.Common.{◌≡◌, ◌≢◌, ℕ, zero, suc, ◌+◌, ◌<◌, ◌≤◌, ◌⊎◌, Bool, true, false, cond, List, [], ◌∷◌, ◌++◌, length, map, refl, sym, ap, subst, ◌∙◌, inl, inr, ⊎_elim, append-nil, arith, length-append}
 use Rattle.std.specs.Prelude.{◌==◌, ◌&&◌, flat_map, Result, Ok, Err, IfOk, OnOk, Option, Some, None, IfSome, if◌then◌else◌, not, option_map, unwrap_or, set, slice_get, slice_index, filter}
 use Rattle.std.proofs.lemmas.Option.{IfSome_then}
@@ -14,7 +14,6 @@ use Rattle.atomic_table.proofs.Lists.{at_longer, at_map, at_set}
 use Rattle.legal_history.specs.History.{Distinct, In, keep}
 use Rattle.legal_history.proofs.Steps.{at_snoc_index, one_at, some_below}
 use Rattle.cell_lanes.specs.declared.lane.Line.{Line}
-use Rattle.cell_lanes.specs.Lines.{LaneText}
 use Rattle.cell_lanes.specs.Lanes.{HasSlot, LineFit, cell_calls, is_on}
 use Rattle.indexmap.specs.IndexSet.{insert_key}
 use Rattle.metrics_core.specs.declared.calls.SeriesCall.{SeriesCall}
@@ -37,9 +36,8 @@ use Rattle.drive_script.specs.Texts.{act_of}
 use Rattle.drive_script.specs.declared.script.CallLine.{CallLine}
 use Rattle.drive_script.specs.declared.script.Act.{Act}
 use Rattle.drive_script.specs.declared.script.Act.TheVariants as acts
-use Rattle.script_player.specs.declared.lanes.LaneCalls.{LaneCalls}
 use Rattle.script_player.specs.declared.lanes.Places.{Places}
-use Rattle.script_player.specs.LaneCalls.{AllAsked, AreInPlace, AreReady, AsksKind, HasLane, Parts, PlacesAsk, SeriesIds, IsOfKind, asked, both_at, call_asked, calls_at, count_of, gathered_asked, gathered_at, gathered_parts, has_lines, ids_of, kind_asked, id_at, is_at, is_place, lane_asks, lane_cells, lane_lines, lane_number, numbered, numbered_asked, numbered_at, on_both, parts_of, told_of}
+use Rattle.script_player.specs.LaneCalls.{AllAsked, AsksKind, HasLane, PlacesAsk, SeriesIds, IsOfKind, asked, both_at, call_asked, calls_at, count_of, ids_of, kind_asked, id_at, is_at, is_place, lane_asks, on_both}
 
 pub counter≢gauge : kinds.Counter ≡ kinds.Gauge → ⊥
 counter≢gauge e = true≢false (ap (λ k. kind_eq k kinds.Counter) e)
@@ -406,205 +404,12 @@ module _ (moment : ℕ) where
       ∙ map-append call_made (filter (HasLane l) xs) (cond (HasLane l x) (x ∷ []) [])
       ∙ ap (λ cs. lane_asks moment l xs ++ cs) (one_of x (HasLane l x))
 
--- ---- the calls of all lanes that are gathered
-
-module _ {A : Type 0} (tells : LaneCalls → List A) where
-  told_more : (gs : List LaneCalls) (y : LaneCalls) (k : ℕ) → tells y ≡ [] → told_of tells (gs ++ y ∷ []) k ≡ told_of tells gs k
-  told_more [] y zero none = none
-  told_more [] y (suc k) none = refl
-  told_more (x ∷ gs) y zero none = refl
-  told_more (x ∷ gs) y (suc k) none = told_more gs y k none
-
-  pub told_here : (gs : List LaneCalls) (lane : ℕ) (x : LaneCalls) → get_elem? gs lane ≡ some x → told_of tells gs lane ≡ tells x
-  told_here [] lane x at = absurd (some-ne-none x (sym at))
-  told_here (g ∷ gs) zero x at = ap tells (some-injective g x at)
-  told_here (g ∷ gs) (suc lane) x at = told_here gs lane x at
-
-  told_set : (gs : List LaneCalls) (lane : ℕ) (x y : LaneCalls) → get_elem? gs lane ≡ some x → told_of tells (set gs lane y) lane ≡ tells y
-  told_set [] lane x y at = absurd (some-ne-none x (sym at))
-  told_set (g ∷ gs) zero x y at = refl
-  told_set (g ∷ gs) (suc lane) x y at = told_set gs lane x y at
-
-  told_past : (gs : List LaneCalls) (lane k : ℕ) (y : LaneCalls) → lane ≢ k → told_of tells (set gs lane y) k ≡ told_of tells gs k
-  told_past [] lane k y ne = refl
-  told_past (g ∷ gs) zero zero y ne = absurd (ne refl)
-  told_past (g ∷ gs) zero (suc k) y ne = refl
-  told_past (g ∷ gs) (suc lane) zero y ne = refl
-  told_past (g ∷ gs) (suc lane) (suc k) y ne = told_past gs lane k y (λ e. ne (ap suc e))
-
-  -- more calls of one lane
-  pub told_step : (gs : List LaneCalls) (lane : ℕ) (x y : LaneCalls) (more : List A) → get_elem? gs lane ≡ some x → tells y ≡ tells x ++ more
-      → (k : ℕ) → told_of tells (set gs lane y) k ≡ told_of tells gs k ++ (if lane == k then more else [])
-  told_step gs lane x y more at is k = dite (ℕ_discrete lane k)
-      (λ (same : lane ≡ k).
-      ap (told_of tells (set gs lane y)) (sym same) ∙ told_set gs lane x y at ∙ is ∙ ap (λ l. l ++ more) (sym (told_here gs lane x at) ∙ ap (told_of tells gs) same)
-      ∙ ap (λ t. told_of tells gs k ++ (if t then more else [])) (sym (eq-eqb lane k same)))
-      (λ (ne : ¬ (lane ≡ k)).
-      told_past gs lane k y ne ∙ sym (append-nil (told_of tells gs k)) ∙ ap (λ t. told_of tells gs k ++ (if t then more else [])) (sym (ne_eqb lane k ne)))
-
--- a lane without calls
-pub room_told : {A : Type 0} (tells : LaneCalls → List A) (none : (y : LaneCalls) → lane_lines y ≡ [] → tells y ≡ []) (gs : List LaneCalls) (y : LaneCalls) → lane_lines y ≡ [] → (k : ℕ) → told_of tells (gs ++ y ∷ []) k ≡ told_of tells gs k
-room_told tells none gs y empty k = told_more tells gs y k (none y empty)
-
-pub room_ready : (ids : SeriesIds) (gs : List LaneCalls) (y : LaneCalls) → lane_cells y ≡ [] → lane_lines y ≡ [] → AreReady ids gs → AreReady ids (gs ++ y ∷ [])
-room_ready ids gs y no_cells no_lines ready l x at = ⊎_elim
-    (λ (before : get_elem? gs l ≡ some x). ready l x before)
-    (λ (last : (l ≡ length gs) × (y ≡ x)). subst (λ z. LineFit (length (lane_cells z)) (lane_lines z) × AllAsked ids (lane_cells z) (lane_lines z)) last.1 (
-      (λ k line e. absurd (some-ne-none line (sym (subst (λ ls. get_elem? ls k ≡ some line) no_lines e)))),
-      (
-        (λ s j e. absurd (some-ne-none j (sym (subst (λ cs. get_elem? cs s ≡ some j) no_cells e)))),
-        (λ k line e. absurd (some-ne-none line (sym (subst (λ ls. get_elem? ls k ≡ some line) no_lines e)))),
-      ),
-    ))
-    (at_snoc_index gs y x l at)
-
-pub set_ready : (ids : SeriesIds) (gs : List LaneCalls) (lane : ℕ) (y : LaneCalls) → LineFit (length (lane_cells y)) (lane_lines y) × AllAsked ids (lane_cells y) (lane_lines y) → AreReady ids gs → AreReady ids (set gs lane y)
-set_ready ids gs lane y one ready l x at = ⊎_elim
-    (λ (t : (l ≡ lane) × (y ≡ x)). subst (λ z. LineFit (length (lane_cells z)) (lane_lines z) × AllAsked ids (lane_cells z) (lane_lines z)) t.1 one)
-    (λ (t : (l ≢ lane) × (get_elem? gs l ≡ some x)). ready l x t.1)
-    (at_set gs lane l y x at)
-
--- ---- lanes that are built of what was gathered
+-- ---- what stands in a list that is mapped
 
 pub map_at : {A B : Type 0} (f : A → B) (xs : List A) (i : ℕ) (b : B) → get_elem? (map f xs) i ≡ some b → (a : A) × (get_elem? xs i ≡ some a) × (f a ≡ b)
 map_at f [] i b e = absurd (some-ne-none b (sym e))
 map_at f (x ∷ xs) zero b e = (x, refl, some-injective (f x) b e)
 map_at f (x ∷ xs) (suc i) b e = map_at f xs i b e
-
-pub in_place_more : (k n : ℕ) (gs : List LaneCalls) (y : LaneCalls) → length gs ≡ n → y.number ≡ k + n → AreInPlace k gs → AreInPlace k (gs ++ y ∷ [])
-in_place_more k n [] y many is places = (is ∙ omega (arith, many), tt)
-in_place_more k zero (g ∷ gs) y many is places = absurd (omega (arith, many))
-in_place_more k (suc n) (g ∷ gs) y many is places = (places.0, in_place_more (suc k) n gs y (omega (arith, many)) (is ∙ omega arith) places.1)
-
-pub in_place_set : (k : ℕ) (gs : List LaneCalls) (lane : ℕ) (x y : LaneCalls) → get_elem? gs lane ≡ some x → y.number ≡ x.number → AreInPlace k gs → AreInPlace k (set gs lane y)
-in_place_set k [] lane x y at same places = absurd (some-ne-none x (sym at))
-in_place_set k (g ∷ gs) zero x y at same places = (same ∙ ap (λ (z : LaneCalls). z.number) (sym (some-injective g x at)) ∙ places.0, places.1)
-in_place_set k (g ∷ gs) (suc lane) x y at same places = (places.0, in_place_set (suc k) gs lane x y at same places.1)
-
--- what is told by numbers, of the parts alone
-pub numbered_map : {X Y A : Type 0} (f : X → Y) (number : Y → ℕ) (tells : Y → List A) (xs : List X) (l : ℕ) → numbered (λ x. number (f x)) (λ x. tells (f x)) xs l ≡ numbered number tells (map f xs) l
-numbered_map f number tells [] l = refl
-numbered_map f number tells (x ∷ xs) l = ap (λ t. if number (f x) == l then tells (f x) else t) (numbered_map f number tells xs l)
-
-abbrev g_number : LaneCalls → ℕ
-g_number x = x.number
-
-module _ {A : Type 0} (tells : LaneCalls → List A) (silent : (x : LaneCalls) → has_lines x ≡ false → tells x ≡ []) where
-  told_before : (k l : ℕ) (gs : List LaneCalls) → l < k → AreInPlace k gs → numbered g_number tells (filter has_lines gs) l ≡ []
-  told_before k l [] less places = refl
-  told_before k l (x ∷ gs) less places = by (has_lines x) (told_before (suc k) l gs (omega (arith, less)) places.1)
-    where
-      by : (b : Bool) → numbered g_number tells (filter has_lines gs) l ≡ [] → numbered g_number tells (cond b (x ∷ filter has_lines gs) (filter has_lines gs)) l ≡ []
-      by true behind = ap (λ t. if t then tells x else numbered g_number tells (filter has_lines gs) l) (ne_eqb x.number l (λ e. (let is = places.0 in absurd (omega (arith, less, e, is))))) ∙ behind
-      by false behind = behind
-
-  -- what is told of the lanes that have lines is what is told of all
-  told_busy : (k n : ℕ) (gs : List LaneCalls) → AreInPlace k gs → numbered g_number tells (filter has_lines gs) (k + n) ≡ told_of tells gs n
-  told_busy k n [] places = refl
-  told_busy k zero (x ∷ gs) places = by (has_lines x) refl
-    where
-      by : (b : Bool) → has_lines x ≡ b → numbered g_number tells (cond b (x ∷ filter has_lines gs) (filter has_lines gs)) (k + 0) ≡ tells x
-      by true has = ap (λ t. if t then tells x else numbered g_number tells (filter has_lines gs) (k + 0)) (eq-eqb x.number (k + 0) (places.0 ∙ omega arith))
-      by false has = told_before (suc k) (k + 0) gs (omega arith) places.1 ∙ sym (silent x has)
-  told_busy k (suc n) (x ∷ gs) places =
-      let same : k + suc n ≡ suc k + n = omega arith in
-      by (has_lines x) (ap (numbered g_number tells (filter has_lines gs)) same ∙ told_busy (suc k) n gs places.1)
-    where
-      by : (b : Bool) → numbered g_number tells (filter has_lines gs) (k + suc n) ≡ told_of tells gs n
-          → numbered g_number tells (cond b (x ∷ filter has_lines gs) (filter has_lines gs)) (k + suc n) ≡ told_of tells gs n
-      by true behind =
-          ap (λ t. if t then tells x else numbered g_number tells (filter has_lines gs) (k + suc n)) (ne_eqb x.number (k + suc n) (λ e. (let is = places.0 in absurd (omega (arith, e, is)))))
-          ∙ behind
-      by false behind = behind
-
-  pub told_all : (l : ℕ) (gs : List LaneCalls) → AreInPlace 0 gs → numbered g_number tells (filter has_lines gs) l ≡ told_of tells gs l
-  told_all l gs places = let same : l ≡ 0 + l = omega arith in ap (numbered g_number tells (filter has_lines gs)) same ∙ told_busy 0 l gs places
-
--- the numbers of the lanes that have lines
-numbers_from : (k t : ℕ) (gs : List LaneCalls) → AreInPlace k gs → In t (map g_number (filter has_lines gs)) → k ≤ t
-numbers_from k t [] places is = absurd is
-numbers_from k t (x ∷ gs) places is = by (has_lines x) (λ (r : In t (map g_number (filter has_lines gs))). numbers_from (suc k) t gs places.1 r) is
-  where
-    by : (b : Bool) → (In t (map g_number (filter has_lines gs)) → suc k ≤ t) → In t (map g_number (cond b (x ∷ filter has_lines gs) (filter has_lines gs))) → k ≤ t
-    by true behind is = ⊎_elim (λ (e : t ≡ x.number). (let p = places.0 in omega (arith, e, p))) (λ (r : In t (map g_number (filter has_lines gs))). (let more = behind r in omega (arith, more))) is
-    by false behind is = let more = behind is in omega (arith, more)
-
-numbers_apart : (k : ℕ) (gs : List LaneCalls) → AreInPlace k gs → Distinct (map g_number (filter has_lines gs))
-numbers_apart k [] places = tt
-numbers_apart k (x ∷ gs) places = by (has_lines x) (numbers_apart (suc k) gs places.1)
-  where
-    by : (b : Bool) → Distinct (map g_number (filter has_lines gs)) → Distinct (map g_number (cond b (x ∷ filter has_lines gs) (filter has_lines gs)))
-    by true behind = ((λ is. (let more = numbers_from (suc k) x.number gs places.1 is in let p = places.0 in absurd (omega (arith, more, p)))), behind)
-    by false behind = behind
-
-filter_at : {X : Type 0} (test : X → Bool) (xs : List X) (i : ℕ) (x : X) → get_elem? (filter test xs) i ≡ some x → (k : ℕ) × (get_elem? xs k ≡ some x) × (test x ≡ true)
-filter_at test [] i x at = absurd (some-ne-none x (sym at))
-filter_at {X} test (y ∷ ys) i x at = by (test y) refl (λ k e. filter_at test ys k x e) i at
-  where
-    by : (b : Bool) → test y ≡ b → ((i : ℕ) → get_elem? (filter test ys) i ≡ some x → (k : ℕ) × (get_elem? ys k ≡ some x) × (test x ≡ true)) → (i : ℕ) → get_elem? (cond b (y ∷ filter test ys) (filter test ys)) i ≡ some x → (k : ℕ) × (get_elem? (y ∷ ys) k ≡ some x) × (test x ≡ true)
-    by true is behind zero e = (0, e, subst (λ (z : X). test z ≡ true) (some-injective y x e) is)
-    by true is behind (suc i) e = let h = behind i e in (suc h.0, h.1, h.2)
-    by false is behind i e = let h = behind i e in (suc h.0, h.1, h.2)
-
-no_lines : (x : LaneCalls) → has_lines x ≡ false → lane_lines x ≡ []
-no_lines x none = by (lane_lines x) none
-  where
-    by : (lines : List (Line ExporterCall)) → not (length lines == 0) ≡ false → lines ≡ []
-    by [] is = refl
-    by (y ∷ ys) is = absurd (true≢false (sym (ap not (ne_eqb (length (y ∷ ys)) 0 (λ e. absurd (omega (arith, e))))) ∙ is))
-
-some_lines : (x : LaneCalls) → has_lines x ≡ true → 0 < length (lane_lines x)
-some_lines x is = by (lane_lines x) is
-  where
-    by : (lines : List (Line ExporterCall)) → not (length lines == 0) ≡ true → 0 < length lines
-    by [] is = absurd cc
-    by (y ∷ ys) is = omega arith
-
--- lanes with these parts
-module _ (lanes : List (LaneText ExporterCall)) (gs : List LaneCalls) (parts : map parts_of lanes ≡ map gathered_parts (filter has_lines gs)) where
-  abbrev number_in : Parts → ℕ
-  number_in p = p.0
-
-  built_told : {A : Type 0} (tells : Parts → List A) (l : ℕ) → numbered lane_number (λ lane. tells (parts_of lane)) lanes l ≡ numbered g_number (λ x. tells (gathered_parts x)) (filter has_lines gs) l
-  built_told tells l =
-      numbered_map parts_of number_in tells lanes l ∙ ap (λ ps. numbered number_in tells ps l) parts ∙ sym (numbered_map gathered_parts number_in tells (filter has_lines gs) l)
-
-  pub built_at : AreInPlace 0 gs → (j l : ℕ) → numbered_at j lanes l ≡ gathered_at j gs l
-  built_at places j l =
-      built_told (λ p. cell_calls j p.1 p.2) l
-      ∙ told_all (λ x. cell_calls j (lane_cells x) (lane_lines x)) (λ x none. ap (cell_calls j (lane_cells x)) (no_lines x none)) l gs places
-
-  pub built_asked : AreInPlace 0 gs → (l : ℕ) → numbered_asked lanes l ≡ gathered_asked gs l
-  built_asked places l = built_told (λ p. map call_asked p.2) l ∙ told_all (λ x. map call_asked (lane_lines x)) (λ x none. ap (map call_asked) (no_lines x none)) l gs places
-
-  pub built_numbers : AreInPlace 0 gs → Distinct (map lane_number lanes)
-  built_numbers places = subst Distinct (sym (same_numbers lanes (filter has_lines gs) parts)) (numbers_apart 0 gs places)
-    where
-      same_numbers : (lanes : List (LaneText ExporterCall)) (xs : List LaneCalls) → map parts_of lanes ≡ map gathered_parts xs → map lane_number lanes ≡ map g_number xs
-      same_numbers [] [] e = refl
-      same_numbers [] (x ∷ xs) e = absurd cc
-      same_numbers (a ∷ more) [] e = absurd cc
-      same_numbers (a ∷ more) (x ∷ xs) e = (λ i. first_number (parts_of a) (gathered_parts x) (map parts_of more) (map gathered_parts xs) e i ∷ same_numbers more xs (rest_parts (parts_of a) (gathered_parts x) (map parts_of more) (map gathered_parts xs) e) i)
-        where
-          first_number : (p r : Parts) (ps rs : List Parts) → p ∷ ps ≡ r ∷ rs → p.0 ≡ r.0
-          first_number p r ps rs e = let same : p ≡ r = cc in ap (λ (s : Parts). s.0) same
-
-          rest_parts : (p r : Parts) (ps rs : List Parts) → p ∷ ps ≡ r ∷ rs → ps ≡ rs
-          rest_parts p r ps rs e = cc
-
-  found_in : (i : ℕ) (lane : LaneText ExporterCall) → get_elem? lanes i ≡ some lane → (k : ℕ) × ((x : LaneCalls) × (get_elem? gs k ≡ some x) × (has_lines x ≡ true) × (gathered_parts x ≡ parts_of lane))
-  found_in i lane at =
-      let found = map_at gathered_parts (filter has_lines gs) i (parts_of lane) (subst (λ ps. get_elem? ps i ≡ some (parts_of lane)) parts (at_map parts_of lanes i lane at)) in
-      let old = filter_at has_lines gs i found.0 found.1 in
-      (old.0, (found.0, old.1, old.2, found.2))
-
-  pub built_ready : (ids : SeriesIds) → AreReady ids gs → (i : ℕ) (lane : LaneText ExporterCall) → get_elem? lanes i ≡ some lane → LineFit (length lane.cells) lane.lines × AllAsked ids lane.cells lane.lines
-  built_ready ids ready i lane at =
-      let h = found_in i lane at in
-      subst (λ (p : Parts). LineFit (length p.1) p.2 × AllAsked ids p.1 p.2) h.1.3 (ready h.0 h.1.0 h.1.1)
-
-  pub built_busy : (i : ℕ) (lane : LaneText ExporterCall) → get_elem? lanes i ≡ some lane → 0 < length lane.lines
-  built_busy i lane at = let h = found_in i lane at in subst (λ (p : Parts). 0 < length p.2) h.1.3 (some_lines h.1.0 h.1.2)
 
 -- ---- answers
 

@@ -1,25 +1,27 @@
--- Lanes that take their calls by a table of where the series of handles stand.
-use Rattle.std.proofs.Common.{◌≡◌, ◌≢◌, ℕ, zero, suc, ◌+◌, ◌<◌, ◌≤◌, ◌⊎◌, inl, inr, ⊎_elim, cond, Bool, true, false, List, [], ◌∷◌, ◌++◌, length, map, refl, sym, ap, subst, ◌∙◌, append-nil, arith}
-use Rattle.std.specs.Prelude.{◌&&◌, flat_map, Option, Some, None, IfSome, All, if◌then◌else◌, unwrap_or, slice_get, slice_index_or, filter}
-use Rattle.std.specs.List.{AllZip}
+-- Lanes whose calls stand among those of a round: the series that they name, and what their lines ask for.
+use Rattle.std.proofs.Common.{◌≡◌, ◌≢◌, ℕ, zero, suc, ◌+◌, ◌<◌, ◌≤◌, ◌⊎◌, inl, inr, ⊎_elim, cond, Bool, true, false, List, [], ◌∷◌, ◌++◌, length, map, drop, refl, sym, ap, subst, ◌∙◌, append-nil, append_assoc, arith, length-append}
+use Rattle.std.specs.Prelude.{◌==◌, ◌&&◌, flat_map, Option, Some, None, IfSome, All, if◌then◌else◌, slice_get, slice_index_or, filter}
 use Rattle.std.proofs.lemmas.Bool.{true≢false, eq-eqb, ne_eqb}
-use Rattle.std.proofs.lemmas.List.{map-append}
+use Rattle.std.proofs.lemmas.List.Elements.{filter-append}
+use Rattle.std.proofs.lemmas.List.{map-append, length-map}
 use Rattle.std.proofs.lemmas.List.Concat.{flat_map-append}
 use mathlib.Core.Option.{some, some-injective, some-ne-none}
 use mathlib.Core.Logic.{dite}
 use native.Mathlib.Decide.{ℕ_discrete}
 use lib.ListN.{get_elem?}
+use Rattle.atomic_table.proofs.Lists.{at_longer, at_map}
 use Rattle.cell_lanes.specs.declared.lane.Line.{Line}
+use Rattle.cell_lanes.specs.Lines.{LaneText}
 use Rattle.cell_lanes.specs.Lanes.{LineFit, cell_calls}
-use Rattle.cell_lanes.proofs.Lists.{below_some}
-use Rattle.legal_history.specs.History.{keep}
+use Rattle.cell_lanes.proofs.Jobs.{in_at}
+use Rattle.legal_history.specs.History.{Distinct, In, keep}
+use Rattle.legal_history.proofs.Steps.{at_snoc_index, distinct_last}
 use Rattle.metrics_core.specs.declared.calls.SeriesCall.{SeriesCall}
 use Rattle.metrics_core.specs.declared.kinds.SeriesId.{SeriesId}
 use Rattle.metrics_core.specs.declared.kinds.MetricKind.{MetricKind}
 use Rattle.metrics_registry.specs.Live.{IsNumbered}
 use Rattle.prom_exporter.specs.Exporter.{Exporter as PrometheusExporter}
 use Rattle.prom_exporter.specs.LanePasses as P
-use Rattle.prom_exporter.proofs.LaneThings.{got_behind, got_front}
 use Rattle.dsd_exporter.specs.Exporter.{Exporter as DogStatsDExporter}
 use Rattle.dsd_exporter.specs.LanePasses as D
 use Rattle.exporter_lanes.specs.declared.exporters.Exporters.{Exporters}
@@ -28,12 +30,12 @@ use Rattle.exporter_lanes.specs.declared.exporters.ExporterCall.TheVariants as e
 use Rattle.exporter_lanes.specs.ExporterLanes.{first_prometheus}
 use Rattle.drive_script.specs.Texts.{call_line_of}
 use Rattle.drive_script.specs.declared.script.CallLine.{CallLine}
-use Rattle.script_player.specs.declared.lanes.LaneCalls.{LaneCalls}
 use Rattle.script_player.specs.declared.lanes.Places.{Places}
+use Rattle.script_player.specs.declared.lane_lines.Slots.{Slots}
 use Rattle.script_player.specs.Fitting.{FitsHandle}
-use Rattle.script_player.specs.LaneCalls.{AllAsked, AreInPlace, HasLane, IsOfKind, PlacesAsk, SeriesIds, asked, both_at, call_asked, calls_at, ids_of, is_at, kind_asked, lane_asks, lane_cells, lane_lines, on_both, told_of}
-use Rattle.script_player.specs.LaneTables.{AllFitHandles, AreGathered, ArePlacesOf, AreTasks, HasCalls, IsLaneOf, IsPlaceOf, IsTable, TaskText, nowhere, places_of}
-use Rattle.script_player.proofs.LaneSteps.{calls_at-last, dogstatsd_many, dogstatsd_place, dogstatsd_step, kind_of_asked, kinds_below, lane_asks-last, lines_step, places_ask, prometheus_place, prometheus_step, told_here}
+use Rattle.script_player.specs.LaneCalls.{AllAsked, AsksKind, HasLane, IsOfKind, PlacesAsk, SeriesIds, asked, both_at, call_asked, calls_at, ids_of, is_at, is_place, kind_asked, lane_asks, lane_number, numbered, numbered_asked, numbered_at, on_both}
+use Rattle.script_player.specs.LaneTables.{AllFitHandles, AreLanes, ArePlacesOf, HasCalls, HaveCalls, IsNamedAt, IsPlaceOf, NamesBoth, NamesCalls, calls_of, lane_of, lines_of, pair_of}
+use Rattle.script_player.proofs.LaneSteps.{both_many, calls_at-last, dogstatsd_many, dogstatsd_place, dogstatsd_step, kind_of_asked, kinds_below, lane_asks-last, lines_last, lines_step, past_asked, past_calls, past_fit, places_ask, prometheus_place, prometheus_step, pushed_asked, pushed_calls, pushed_fit}
 
 -- ---- the place of an id
 
@@ -61,77 +63,63 @@ placed_kind ids None (Some k) kind is fits = absurd (true≢false (sym (eq-eqb k
 placed_kind ids (Some id) None kind is fits = tt
 placed_kind ids (Some id) (Some k) kind is fits = subst (λ t. IsOfKind ids k t) (fits id refl) is.1
 
--- ---- a table
+-- ---- one more line, on the series that was named for it
 
-last_got : {X : Type 0} (xs : List X) (x : X) → slice_get (xs ++ x ∷ []) (length xs) ≡ Some x
-last_got xs x = let at : length xs ≡ length xs + 0 = omega arith in ap (slice_get (xs ++ x ∷ [])) at ∙ got_behind xs (x ∷ []) 0
+abbrev line_on : Option ℕ → ExporterCall → Line ExporterCall
+line_on slot call = record { slot = slot; call = call }
 
-get_past : {X : Type 0} (xs : List X) (h : ℕ) → length xs ≤ h → slice_get xs h ≡ None
-get_past [] h past = refl
-get_past (x ∷ xs) zero past = absurd (omega (arith, past))
-get_past (x ∷ xs) (suc h) past = get_past xs h (omega (arith, past))
+-- what one more line adds where its series, if any, was named
+pub record OneMore (place : Option ℕ) (old : List ℕ) (its : List (Line ExporterCall)) (call : ExporterCall) (new : List ℕ) (slot : Option ℕ) : Type 0 where
+  pub fit : LineFit (length new) (its ++ line_on slot call ∷ [])
+  pub asked : (ids : SeriesIds) → IfSome place (λ index. AsksKind ids index call) → AllAsked ids old its → AllAsked ids new (its ++ line_on slot call ∷ [])
+  pub calls : (j : ℕ) → cell_calls j new (its ++ line_on slot call ∷ []) ≡ cell_calls j old its ++ keep (is_place j place) call []
 
--- the places of the first handles, so many of them
-abbrev pub HasPlaces : SeriesIds → List SeriesId → List SeriesId → List Places → ℕ → Type 0
-HasPlaces ids handles line_handles table count = (h : ℕ) → h < count → ArePlacesOf ids (slice_get handles h) (slice_get line_handles h) (places_of table h)
+one_more : (place slot : Option ℕ) (old new : List ℕ) (its : List (Line ExporterCall)) (call : ExporterCall) → IsNamedAt place old new slot → LineFit (length old) its → OneMore place old its call new slot
+one_more None slot old new its call (none, same) fit =
+    subst (λ n. OneMore None old its call n slot) (sym same) (subst (OneMore None old its call old) (sym none) (record {
+      fit = past_fit old its (its ++ line_on None call ∷ []) call refl fit;
+      asked = λ ids asks. past_asked old its (its ++ line_on None call ∷ []) call refl ids;
+      calls = past_calls old its (its ++ line_on None call ∷ []) call refl;
+    }))
+one_more (Some index) slot old new its call (s, is, more, stored) fit =
+    subst (OneMore (Some index) old its call new) (sym is) (record {
+      fit = pushed_fit old new its (its ++ line_on (Some s) call ∷ []) index s call more stored refl fit;
+      asked = pushed_asked old new its (its ++ line_on (Some s) call ∷ []) index s call more stored refl fit;
+      calls = pushed_calls old new its (its ++ line_on (Some s) call ∷ []) index s call more stored refl fit;
+    })
 
-pub places_more : (ids : SeriesIds) (handles line_handles : List SeriesId) (table : List Places) (places : Places) → HasPlaces ids handles line_handles table (length table)
-    → ArePlacesOf ids (slice_get handles (length table)) (slice_get line_handles (length table)) places → HasPlaces ids handles line_handles (table ++ places ∷ []) (length table + 1)
-places_more ids handles line_handles table places so_far last h below = dite (ℕ_discrete h (length table))
-    (λ (same : h ≡ length table). subst (λ n. ArePlacesOf ids (slice_get handles n) (slice_get line_handles n) (places_of (table ++ places ∷ []) n)) (sym same)
-    (subst (ArePlacesOf ids (slice_get handles (length table)) (slice_get line_handles (length table))) (sym (ap (λ o. unwrap_or o nowhere) (last_got table places))) last))
-    (λ (ne : ¬ (h ≡ length table)).
-    let within : h < length table = omega (arith, below, ne) in
-    subst (ArePlacesOf ids (slice_get handles h) (slice_get line_handles h)) (sym (ap (λ o. unwrap_or o nowhere) (got_front table (places ∷ []) h within))) (so_far h within))
+-- a call goes last, on the series at both places
+abbrev pub IsPushed : Places → SeriesCall → List ℕ → List (Line ExporterCall) → List ℕ → List (Line ExporterCall) → Type 0
+IsPushed places call old its new after =
+    LineFit (length new) after
+    × ((ids : SeriesIds) → PlacesAsk ids places call → AllAsked ids old its → AllAsked ids new after)
+    × ((j : ℕ) → cell_calls j new after ≡ cell_calls j old its ++ both_at j places call)
+    × (map call_asked after ≡ map call_asked its ++ on_both call)
 
-below_or_past : (h n : ℕ) → (h < n) ⊎ (n ≤ h)
-below_or_past h zero = inr (omega arith)
-below_or_past zero (suc n) = inl (omega arith)
-below_or_past (suc h) (suc n) = ⊎_elim (λ (a : h < n). inl (omega (arith, a))) (λ (b : n ≤ h). inr (omega (arith, b))) (below_or_past h n)
-
-pub all_places : (ids : SeriesIds) (handles line_handles : List SeriesId) (table : List Places) → HasPlaces ids handles line_handles table (length table) → length handles ≤ length table → length line_handles ≤ length table → IsTable ids handles line_handles table
-all_places ids handles line_handles table known most line_most h = ⊎_elim
-    (λ (within : h < length table). known h within)
-    (λ (past : length table ≤ h).
-    let own = get_past handles h (omega (arith, past, most)) in
-    let other = get_past line_handles h (omega (arith, past, line_most)) in
-    let places = ap (λ o. unwrap_or o nowhere) (get_past table h past) in
-    subst (ArePlacesOf ids (slice_get handles h) (slice_get line_handles h)) (sym places)
-    (subst (λ o. ArePlacesOf ids (slice_get handles h) o nowhere) (sym other) (subst (λ o. ArePlacesOf ids o None nowhere) (sym own) (None, refl, no_place ids.prometheus, no_place ids.dogstatsd))))
-    (below_or_past h (length table))
-
--- ---- a lane that takes its calls, call line by call line
-
--- a call goes last on a lane, on the series at both places
-abbrev pub IsPushed : Places → SeriesCall → LaneCalls → LaneCalls → Type 0
-IsPushed places call old new =
-    ((ids : SeriesIds) → PlacesAsk ids places call → AllAsked ids (lane_cells old) (lane_lines old) → AllAsked ids (lane_cells new) (lane_lines new))
-    × ((j : ℕ) → cell_calls j (lane_cells new) (lane_lines new) ≡ cell_calls j (lane_cells old) (lane_lines old) ++ both_at j places call)
-    × (map call_asked (lane_lines new) ≡ map call_asked (lane_lines old) ++ on_both call)
-
-none_fit : (n : ℕ) (lines : List (Line ExporterCall)) → lines ≡ [] → LineFit n lines
-none_fit n lines none k line e = absurd (some-ne-none line (sym (subst (λ ls. get_elem? ls k ≡ some line) none e)))
+both_pushed : (places : Places) (call : SeriesCall) (old between new : List ℕ) (own : Slots) (its : List (Line ExporterCall)) → IsNamedAt places.prometheus old between own.prometheus → IsNamedAt places.dogstatsd between new own.dogstatsd → LineFit (length old) its
+    → IsPushed places call old its new (its ++ line_on own.prometheus (exporter.Prometheus call) ∷ line_on own.dogstatsd (exporter.DogStatsD call) ∷ [])
+both_pushed places call old between new own its first second fit =
+    let one = line_on own.prometheus (exporter.Prometheus call) in
+    let other = line_on own.dogstatsd (exporter.DogStatsD call) in
+    let a = one_more places.prometheus own.prometheus old between its (exporter.Prometheus call) first fit in
+    let b = one_more places.dogstatsd own.dogstatsd between new (its ++ one ∷ []) (exporter.DogStatsD call) second a.fit in
+    let all : (its ++ one ∷ []) ++ other ∷ [] ≡ its ++ one ∷ other ∷ [] = append_assoc its (one ∷ []) (other ∷ []) in (
+      subst (LineFit (length new)) all b.fit,
+      (λ ids asks before. subst (AllAsked ids new) all (b.asked ids asks.1 (a.asked ids asks.0 before))),
+      (λ j. ap (cell_calls j new) (sym all) ∙ b.calls j ∙ ap (λ l. l ++ keep (is_place j places.dogstatsd) (exporter.DogStatsD call) []) (a.calls j)
+      ∙ append_assoc (cell_calls j old its) (keep (is_place j places.prometheus) (exporter.Prometheus call) []) (keep (is_place j places.dogstatsd) (exporter.DogStatsD call) [])),
+      map-append call_asked its (one ∷ other ∷ []),
+    )
 
 module _ (ids : SeriesIds) (handles line_handles : List SeriesId) (moment number : ℕ) where
-  none_yet : (lane : LaneCalls) → lane_cells lane ≡ [] → lane_lines lane ≡ [] → HasCalls ids handles line_handles moment number [] lane
-  none_yet lane no_cells no_lines = record {
-    asked = (
-      (λ s j e. absurd (some-ne-none j (sym (subst (λ cs. get_elem? cs s ≡ some j) no_cells e)))),
-      (λ k line e. absurd (some-ne-none line (sym (subst (λ ls. get_elem? ls k ≡ some line) no_lines e)))),
-    );
-    prometheus = λ j. ap (cell_calls (length ids.dogstatsd + j) (lane_cells lane)) no_lines;
-    dogstatsd = λ j below. ap (cell_calls j (lane_cells lane)) no_lines;
-    lines = ap (map call_asked) no_lines;
-  }
-
   module _ (xs : List CallLine) (x : CallLine) where
     abbrev call : SeriesCall
     call = asked moment x.act
 
-    one_taken : (old new : LaneCalls) (places : Places) → ArePlacesOf ids (slice_get handles x.handle) (slice_get line_handles x.handle) places
-        → FitsHandle handles (call_line_of x) → FitsHandle line_handles (call_line_of x) → x.lane ≡ number → IsPushed places call old new
-        → HasCalls ids handles line_handles moment number xs old → HasCalls ids handles line_handles moment number (xs ++ x ∷ []) new
-    one_taken old new places (found, at, place, other_place) fits line_fits own (asks, calls, lines) before =
+    one_taken : (old new : List ℕ) (its after : List (Line ExporterCall)) (places : Places) → ArePlacesOf ids (slice_get handles x.handle) (slice_get line_handles x.handle) places
+        → FitsHandle handles (call_line_of x) → FitsHandle line_handles (call_line_of x) → x.lane ≡ number → IsPushed places call old its new after
+        → HasCalls ids handles line_handles moment number xs old its → HasCalls ids handles line_handles moment number (xs ++ x ∷ []) new after
+    one_taken old new its after places (found, at, place, other_place) fits line_fits own (fit, asks, calls, lines) before =
         let first = length ids.dogstatsd in
         let other = places.dogstatsd in
         let is : IfSome found (λ k. IsOfKind ids.prometheus k (kind_asked call)) = placed_kind ids.prometheus (slice_get handles x.handle) found (kind_asked call) place (λ id named. fits id named ∙ kind_of_asked moment x.act) in
@@ -139,6 +127,7 @@ module _ (ids : SeriesIds) (handles line_handles : List SeriesId) (moment number
         let within : IfSome other (λ k. k < first) = kinds_below ids.dogstatsd (kind_asked call) other is_other in
         let here : true ≡ HasLane number x = sym (eq-eqb x.lane number own) in
         record {
+          fit = fit;
           asked = asks ids (places_ask ids first found other places call refl at refl is is_other) before.asked;
           prometheus = λ j. calls (first + j)
               ∙ (λ i. before.prometheus j i ++ (ap (λ b. if b then both_at (first + j) places call else []) here ∙ prometheus_step first found other within places at refl (HasLane number x) call j (is_at ids.prometheus handles j x) (place.0 j)) i)
@@ -153,10 +142,11 @@ module _ (ids : SeriesIds) (handles line_handles : List SeriesId) (moment number
               ∙ sym (ap (flat_map on_both) (lane_asks-last moment number xs x) ∙ flat_map-append on_both (lane_asks moment number xs) (keep (HasLane number x) call []));
         }
 
-    passed_over : (lane : LaneCalls) → x.lane ≢ number → HasCalls ids handles line_handles moment number xs lane → HasCalls ids handles line_handles moment number (xs ++ x ∷ []) lane
-    passed_over lane other before =
+    passed_over : (cells : List ℕ) (its : List (Line ExporterCall)) → x.lane ≢ number → HasCalls ids handles line_handles moment number xs cells its → HasCalls ids handles line_handles moment number (xs ++ x ∷ []) cells its
+    passed_over cells its other before =
         let none : HasLane number x ≡ false = ne_eqb x.lane number other in
         record {
+          fit = before.fit;
           asked = before.asked;
           prometheus = λ j. before.prometheus j ∙ ap (map exporter.Prometheus) (sym (calls_at-last moment ids.prometheus handles number j xs x
               ∙ ap (λ b. calls_at moment ids.prometheus handles number j xs ++ keep (b && is_at ids.prometheus handles j x) call []) none ∙ append-nil _));
@@ -165,21 +155,60 @@ module _ (ids : SeriesIds) (handles line_handles : List SeriesId) (moment number
           lines = before.lines ∙ ap (flat_map on_both) (sym (lane_asks-last moment number xs x ∙ ap (λ b. lane_asks moment number xs ++ keep b call []) none ∙ append-nil _));
         }
 
--- a lane has its calls of these, wherever the table is one of places
-abbrev pub HasOwn : ℕ → ℕ → List Places → List CallLine → List CallLine → LaneCalls → Type 0
-HasOwn moment number table calls xs lane = (ids : SeriesIds) (handles line_handles : List SeriesId) → IsTable ids handles line_handles table → AllFitHandles handles calls → AllFitHandles line_handles calls
-    → HasCalls ids handles line_handles moment number xs lane
+-- ---- the lines of one more call
 
-module _ (moment number : ℕ) (table : List Places) (calls xs : List CallLine) (x : CallLine) (each : (handles : List SeriesId) → AllFitHandles handles calls → FitsHandle handles (call_line_of x)) where
-  pub own_taken : (old new : LaneCalls) (places : Places) (call : SeriesCall) → places ≡ places_of table x.handle → call ≡ asked moment x.act → x.lane ≡ number → IsPushed places call old new
-      → HasOwn moment number table calls xs old → HasOwn moment number table calls (xs ++ x ∷ []) new
-  own_taken old new places call at is own pushed before ids handles line_handles table_is fits line_fits =
-      one_taken ids handles line_handles moment number xs x old new (places_of table x.handle) (table_is x.handle) (each handles fits) (each line_handles line_fits) own
-      (subst (λ c. IsPushed (places_of table x.handle) c old new) is (subst (λ p. IsPushed p call old new) at pushed)) (before ids handles line_handles table_is fits line_fits)
+lines_more : (moment : ℕ) (cs : List CallLine) (ss : List Slots) (c : CallLine) (s : Slots) → length ss ≡ length cs → lines_of moment (cs ++ c ∷ []) (ss ++ s ∷ []) ≡ lines_of moment cs ss ++ pair_of moment c s
+lines_more moment [] [] c s e = refl
+lines_more moment [] (z ∷ ss) c s e = absurd (omega (arith, e))
+lines_more moment (d ∷ cs) [] c s e = absurd (omega (arith, e))
+lines_more moment (d ∷ cs) (z ∷ ss) c s e = ap (λ l. pair_of moment d z ++ l) (lines_more moment cs ss c s (omega (arith, e)))
 
-  pub own_passed : (lane : LaneCalls) → x.lane ≢ number → HasOwn moment number table calls xs lane → HasOwn moment number table calls (xs ++ x ∷ []) lane
-  own_passed lane other before ids handles line_handles table_is fits line_fits =
-      passed_over ids handles line_handles moment number xs x lane other (before ids handles line_handles table_is fits line_fits)
+own_more : (number : ℕ) (xs : List CallLine) (x : CallLine) → x.lane ≡ number → calls_of number (xs ++ x ∷ []) ≡ calls_of number xs ++ x ∷ []
+own_more number xs x own = filter-append (HasLane number) xs (x ∷ []) ∙ ap (λ b. calls_of number xs ++ cond b (x ∷ []) []) (eq-eqb x.lane number own)
+
+own_same : (number : ℕ) (xs : List CallLine) (x : CallLine) → x.lane ≢ number → calls_of number (xs ++ x ∷ []) ≡ calls_of number xs
+own_same number xs x other = filter-append (HasLane number) xs (x ∷ []) ∙ ap (λ b. calls_of number xs ++ cond b (x ∷ []) []) (ne_eqb x.lane number other) ∙ append-nil (calls_of number xs)
+
+-- a lane that names nothing yet
+pub none_named : (ids : SeriesIds) (handles line_handles : List SeriesId) (number : ℕ) (cells : List ℕ) (slots : List Slots) → cells ≡ [] → slots ≡ [] → NamesCalls ids handles line_handles number [] cells slots
+none_named ids handles line_handles number cells slots no_cells no_slots = (
+  ap length no_slots,
+  (λ moment. record {
+    fit = λ k line e. absurd (some-ne-none line (sym e));
+    asked = (
+      (λ s j e. absurd (some-ne-none j (sym (subst (λ cs. get_elem? cs s ≡ some j) no_cells e)))),
+      (λ k line e. absurd (some-ne-none line (sym e))),
+    );
+    prometheus = λ j. refl;
+    dogstatsd = λ j below. refl;
+    lines = refl;
+  }),
+)
+
+module _ (ids : SeriesIds) (handles line_handles : List SeriesId) (number : ℕ) (xs : List CallLine) (x : CallLine) (cells : List ℕ) (slots : List Slots) (before : NamesCalls ids handles line_handles number xs cells slots) where
+  -- a call of the lane, whose series were named
+  pub taken : (new : List ℕ) (slots' : List Slots) (places : Places) → x.lane ≡ number → NamesBoth places cells slots new slots' → ArePlacesOf ids (slice_get handles x.handle) (slice_get line_handles x.handle) places
+      → FitsHandle handles (call_line_of x) → FitsHandle line_handles (call_line_of x) → NamesCalls ids handles line_handles number (xs ++ x ∷ []) new slots'
+  taken new slots' places own (between, its_own, first, second, is) are fits line_fits =
+      let calls = own_more number xs x own in (
+        ap length is ∙ length-append slots (its_own ∷ []) ∙ ap (λ n. n + 1) before.0 ∙ sym (ap length calls ∙ length-append (calls_of number xs) (x ∷ [])),
+        (λ moment.
+        let its = lines_of moment (calls_of number xs) slots in
+        let after : lines_of moment (calls_of number (xs ++ x ∷ [])) slots' ≡ its ++ pair_of moment x its_own
+        = (λ i. lines_of moment (calls i) (is i)) ∙ lines_more moment (calls_of number xs) slots x its_own before.0 in
+        subst (HasCalls ids handles line_handles moment number (xs ++ x ∷ []) new) (sym after)
+        (one_taken ids handles line_handles moment number xs x cells new its (its ++ pair_of moment x its_own) places are fits line_fits own
+        (both_pushed places (asked moment x.act) cells between new its_own its first second (before.1 moment).fit) (before.1 moment))),
+      )
+
+  -- a call of another lane
+  pub passed : x.lane ≢ number → NamesCalls ids handles line_handles number (xs ++ x ∷ []) cells slots
+  passed other =
+      let calls = own_same number xs x other in (
+        before.0 ∙ sym (ap length calls),
+        (λ moment. subst (HasCalls ids handles line_handles moment number (xs ++ x ∷ []) cells) (ap (λ cs. lines_of moment cs slots) (sym calls))
+        (passed_over ids handles line_handles moment number xs x cells (lines_of moment (calls_of number xs) slots) other (before.1 moment))),
+      )
 
 -- ---- lanes below a number
 
@@ -189,84 +218,171 @@ all_below n m [] x le own all (suc k) d within = absurd (omega (arith, within))
 all_below n m (y ∷ xs) x le own all zero d within = let first = all 0 d (omega arith) in omega (arith, le, first)
 all_below n m (y ∷ xs) x le own all (suc k) d within = all_below n m xs x le own (λ k d w. all (suc k) d (omega (arith, w))) k d (omega (arith, within))
 
--- ---- what is told of a lane
+-- ---- what stands under a number
+
+below_or_past : (h n : ℕ) → (h < n) ⊎ (n ≤ h)
+below_or_past h zero = inr (omega arith)
+below_or_past zero (suc n) = inl (omega arith)
+below_or_past (suc h) (suc n) = ⊎_elim (λ (a : h < n). inl (omega (arith, a))) (λ (b : n ≤ h). inr (omega (arith, b))) (below_or_past h n)
 
 none_of : (test : CallLine → Bool) (xs : List CallLine) → All (λ x. test x ≡ false) xs → filter test xs ≡ []
 none_of test [] all = refl
 none_of test (x ∷ xs) all = ap (λ b. cond b (x ∷ filter test xs) (filter test xs)) (all 0 x (omega arith)) ∙ none_of test xs (λ k d below. all (suc k) d (omega (arith, below)))
 
-told_past_end : {A : Type 0} (tells : LaneCalls → List A) (gs : List LaneCalls) (n : ℕ) → length gs ≤ n → told_of tells gs n ≡ []
-told_past_end tells [] n past = refl
-told_past_end tells (g ∷ gs) zero past = absurd (omega (arith, past))
-told_past_end tells (g ∷ gs) (suc n) past = told_past_end tells gs n (omega (arith, past))
+none_of_both : (test other : CallLine → Bool) (xs : List CallLine) → filter test xs ≡ [] → filter (λ x. test x && other x) xs ≡ []
+none_of_both test other [] none = refl
+none_of_both test other (x ∷ xs) none = by (test x) refl none (none_of_both test other xs)
+  where
+    by : (b : Bool) → test x ≡ b → cond b (x ∷ filter test xs) (filter test xs) ≡ [] → (filter test xs ≡ [] → filter (λ y. test y && other y) xs ≡ []) → filter (λ y. test y && other y) (x ∷ xs) ≡ []
+    by true is none behind = let m = ap length none in absurd (omega (arith, m))
+    by false is none behind = ap (λ b. cond (b && other x) (x ∷ filter (λ y. test y && other y) xs) (filter (λ y. test y && other y) xs)) is ∙ behind none
 
--- what is told of lane n is this, if it is where there is such a lane, and nothing is where there is none
-told_all : {A : Type 0} (tells : LaneCalls → List A) (gs : List LaneCalls) (n : ℕ) (all : List A) → ((x : LaneCalls) → get_elem? gs n ≡ some x → tells x ≡ all) → (length gs ≤ n → all ≡ []) → told_of tells gs n ≡ all
-told_all tells gs n all own none = ⊎_elim
-    (λ (within : n < length gs). let here = below_some gs n within in told_here tells gs n here.0 here.1 ∙ own here.0 here.1)
-    (λ (past : length gs ≤ n). told_past_end tells gs n past ∙ sym (none past))
-    (below_or_past n (length gs))
+pub some_of : (n : ℕ) → (n == 0) ≡ false → 0 < n
+some_of zero e = absurd (true≢false (sym (eq-eqb 0 0 refl) ∙ e))
+some_of (suc n) e = omega arith
 
--- ---- tasks, and the lanes that they become
+module _ {X A : Type 0} (number : X → ℕ) (tells : X → List A) where
+  numbered_own : (xs : List X) → Distinct (map number xs) → (i : ℕ) (x : X) → get_elem? xs i ≡ some x → numbered number tells xs (number x) ≡ tells x
+  numbered_own [] apart i x at = absurd (some-ne-none x (sym at))
+  numbered_own (y ∷ ys) apart zero x at =
+      let same : y ≡ x = some-injective y x at in
+      ap (λ b. if b then tells y else numbered number tells ys (number x)) (eq-eqb (number y) (number x) (ap number same)) ∙ ap tells same
+  numbered_own (y ∷ ys) apart (suc i) x at =
+      ap (λ b. if b then tells y else numbered number tells ys (number x)) (ne_eqb (number y) (number x) (λ e. apart.0 (subst (λ n. In n (map number ys)) (sym e) (in_at (map number ys) i (number x) (at_map number ys i x at)))))
+      ∙ numbered_own ys apart.1 i x at
 
-module _ (moment : ℕ) (table : List Places) (calls : List CallLine) where
-  abbrev pub text : ℕ → TaskText
-  text n = record { number = n; moment = moment; table = table; calls = calls }
+  numbered_none : (xs : List X) (l : ℕ) → ((i : ℕ) (x : X) → get_elem? xs i ≡ some x → number x ≡ l → ⊥) → numbered number tells xs l ≡ []
+  numbered_none [] l none = refl
+  numbered_none (y ∷ ys) l none = ap (λ b. if b then tells y else numbered number tells ys l) (ne_eqb (number y) l (none 0 y refl)) ∙ numbered_none ys l (λ i x at. none (suc i) x at)
 
-  pub tasks_more : (k n : ℕ) (ts : List TaskText) (t : TaskText) → length ts ≡ n → t ≡ text (k + n) → AreTasks moment table calls k ts → AreTasks moment table calls k (ts ++ t ∷ [])
-  tasks_more k n [] t many is are = (is ∙ ap text (omega (arith, many)), tt)
-  tasks_more k zero (u ∷ ts) t many is are = absurd (omega (arith, many))
-  tasks_more k (suc n) (u ∷ ts) t many is are = (are.0, tasks_more (suc k) n ts t (omega (arith, many)) (is ∙ ap text (omega arith)) are.1)
+-- ---- the lanes of a round, number by number
 
-  abbrev AreLanes : ℕ → List LaneCalls → Type 0
-  AreLanes k [] = Unit {0}
-  AreLanes k (x ∷ xs) = IsLaneOf (text k) x × AreLanes (suc k) xs
+module _ (exporters : Exporters) (handles line_handles : List SeriesId) (moment : ℕ) (calls : List CallLine) where
+  abbrev its_ids : SeriesIds
+  its_ids = ids_of exporters
 
-  lanes_of_tasks : (k : ℕ) (ts : List TaskText) (gs : List LaneCalls) → AreTasks moment table calls k ts → AllZip IsLaneOf ts gs → AreLanes k gs
-  lanes_of_tasks k [] [] are zip = tt
-  lanes_of_tasks k [] (g ∷ gs) are zip = absurd zip
-  lanes_of_tasks k (t ∷ ts) [] are zip = absurd zip
-  lanes_of_tasks k (t ∷ ts) (g ∷ gs) are zip = (subst (λ u. IsLaneOf u g) are.0 zip.0, lanes_of_tasks (suc k) ts gs are.1 zip.1)
+  pub record IsLane (count : ℕ) (lane : LaneText ExporterCall) : Type 0 where
+    pub below : lane.number < count
+    pub once : Distinct lane.cells
+    pub busy : 0 < length lane.lines
+    pub has : HasCalls its_ids handles line_handles moment lane.number calls lane.cells lane.lines
 
-  lane_at : (k l m : ℕ) (gs : List LaneCalls) (x : LaneCalls) → k + l ≡ m → AreLanes k gs → get_elem? gs l ≡ some x → IsLaneOf (text m) x
-  lane_at k l m [] x is are at = absurd (some-ne-none x (sym at))
-  lane_at k zero m (g ∷ gs) x is are at = subst (λ n. IsLaneOf (text n) x) (omega (arith, is)) (subst (IsLaneOf (text k)) (some-injective g x at) are.0)
-  lane_at k (suc l) m (g ∷ gs) x is are at = lane_at (suc k) l m gs x (omega (arith, is)) are.1 at
+  -- the lanes with numbers below this one are there, but those without calls
+  pub record AreBelow (count : ℕ) (lanes : List (LaneText ExporterCall)) : Type 0 where
+    pub each : (i : ℕ) (lane : LaneText ExporterCall) → get_elem? lanes i ≡ some lane → IsLane count lane
+    pub apart : Distinct (map lane_number lanes)
+    pub all : (n : ℕ) → n < count → ((i : ℕ) × (lane : LaneText ExporterCall) × (get_elem? lanes i ≡ some lane) × (lane.number ≡ n)) ⊎ (calls_of n calls ≡ [])
 
-  in_place : (k : ℕ) (gs : List LaneCalls) → AreLanes k gs → AreInPlace k gs
-  in_place k [] are = tt
-  in_place k (g ∷ gs) are = (are.0.0, in_place (suc k) gs are.1)
+  pub none_below : (lanes : List (LaneText ExporterCall)) → lanes ≡ [] → AreBelow 0 lanes
+  none_below lanes none = record {
+    each = λ i lane at. absurd (some-ne-none lane (sym (subst (λ ls. get_elem? ls i ≡ some lane) none at)));
+    apart = subst (λ ls. Distinct (map lane_number ls)) (sym none) tt;
+    all = λ n below. absurd (omega (arith, below));
+  }
 
-  same_length : (ts : List TaskText) (gs : List LaneCalls) → AllZip IsLaneOf ts gs → length ts ≡ length gs
-  same_length [] [] zip = refl
-  same_length [] (g ∷ gs) zip = absurd zip
-  same_length (t ∷ ts) [] zip = absurd zip
-  same_length (t ∷ ts) (g ∷ gs) zip = ap suc (same_length ts gs zip.1)
+  higher : (n m : ℕ) (lane : LaneText ExporterCall) → n ≤ m → IsLane n lane → IsLane m lane
+  higher n m lane most is = record { below = (let b = is.below in omega (arith, most, b)); once = is.once; busy = is.busy; has = is.has }
 
-  module _ (exporters : Exporters) (handles line_handles : List SeriesId) (is : IsTable (ids_of exporters) handles line_handles table) (fits : AllFitHandles handles calls) (line_fits : AllFitHandles line_handles calls) where
-    abbrev ids : SeriesIds
-    ids = ids_of exporters
+  no_lines : (cs : List CallLine) (ss : List Slots) → length ss ≡ length cs → length ss ≡ 0 → cs ≡ []
+  no_lines [] ss e none = refl
+  no_lines (c ∷ cs) ss e none = absurd (omega (arith, e, none))
 
-    abbrev Has : ℕ → LaneCalls → Type 0
-    Has n x = HasCalls ids handles line_handles moment n calls x
+  -- the lane with this number has no calls
+  pub skipped : (n : ℕ) (lanes : List (LaneText ExporterCall)) (cells : List ℕ) (slots : List Slots) → NamesCalls its_ids handles line_handles n calls cells slots → length slots ≡ 0 → AreBelow n lanes → AreBelow (n + 1) lanes
+  skipped n lanes cells slots names none are = record {
+    each = λ i lane at. higher n (n + 1) lane (omega arith) (are.each i lane at);
+    apart = are.apart;
+    all = λ m below. dite (ℕ_discrete m n)
+        (λ (same : m ≡ n). inr (ap (λ k. calls_of k calls) same ∙ no_lines (calls_of n calls) slots names.0 none))
+        (λ (ne : ¬ (m ≡ n)). are.all m (omega (arith, below, ne)));
+  }
 
-    pub gathered : (ts : List TaskText) (gs : List LaneCalls) → AreTasks moment table calls 0 ts → AllZip IsLaneOf ts gs → All (λ (line : CallLine). line.lane < length ts) calls → AreGathered exporters handles line_handles moment calls gs
-    gathered ts gs tasks zip below =
-        let are = lanes_of_tasks 0 ts gs tasks zip in
+  some_lines : (cs : List CallLine) (ss : List Slots) → length ss ≡ length cs → 0 < length ss → 0 < length (lines_of moment cs ss)
+  some_lines [] ss e some_are = absurd (omega (arith, e, some_are))
+  some_lines (c ∷ cs) [] e some_are = absurd (omega (arith, some_are))
+  some_lines (c ∷ cs) (s ∷ ss) e some_are = omega arith
+
+  -- it goes last
+  pub added : (n : ℕ) (lanes after : List (LaneText ExporterCall)) (lane : LaneText ExporterCall) (cells : List ℕ) (slots : List Slots) → NamesCalls its_ids handles line_handles n calls cells slots → 0 < length slots
+      → lane ≡ lane_of n moment calls cells slots → Distinct lane.cells → after ≡ lanes ++ lane ∷ [] → AreBelow n lanes → AreBelow (n + 1) after
+  added n lanes after lane cells slots names busy is once pushed are = subst (AreBelow (n + 1)) (sym pushed) (record {
+    each = λ i x at. ⊎_elim
+        (λ (before : get_elem? lanes i ≡ some x). higher n (n + 1) x (omega arith) (are.each i x before))
+        (λ (last : (i ≡ length lanes) × (lane ≡ x)). subst (IsLane (n + 1)) last.1 own)
+        (at_snoc_index lanes lane x i at);
+    apart = subst Distinct (sym (map-append lane_number lanes (lane ∷ []))) (distinct_last (map lane_number lanes) lane.number other are.apart);
+    all = λ m below. dite (ℕ_discrete m n)
+        (λ (same : m ≡ n). inl (length lanes, lane, at_end lanes lane, number ∙ sym same))
+        (λ (ne : ¬ (m ≡ n)). ⊎_elim
+        (λ (found : (i : ℕ) × (x : LaneText ExporterCall) × (get_elem? lanes i ≡ some x) × (x.number ≡ m)). inl (found.0, found.1, at_longer lanes (lane ∷ []) found.0 found.1 found.2, found.3))
+        (λ (none : calls_of m calls ≡ []). inr none)
+        (are.all m (omega (arith, below, ne))));
+  })
+    where
+      number : lane.number ≡ n
+      number = ap (λ (x : LaneText ExporterCall). x.number) is
+
+      own : IsLane (n + 1) lane
+      own = record {
+        below = omega (arith, number);
+        once = once;
+        busy = subst (λ (x : LaneText ExporterCall). 0 < length x.lines) (sym is) (some_lines (calls_of n calls) slots names.0 busy);
+        has = subst (λ (x : LaneText ExporterCall). HasCalls its_ids handles line_handles moment x.number calls x.cells x.lines) (sym is) (names.1 moment);
+      }
+
+      other : In lane.number (map lane_number lanes) → ⊥
+      other is_in = far lanes (λ i x at. (are.each i x at).below) (subst (λ m. In m (map lane_number lanes)) number is_in)
+        where
+          far : (xs : List (LaneText ExporterCall)) → ((i : ℕ) (x : LaneText ExporterCall) → get_elem? xs i ≡ some x → x.number < n) → In n (map lane_number xs) → ⊥
+          far [] less is_in = is_in
+          far (x ∷ xs) less is_in = ⊎_elim (λ (e : n ≡ x.number). let b = less 0 x refl in absurd (omega (arith, e, b))) (λ (r : In n (map lane_number xs)). far xs (λ i y at. less (suc i) y at) r) is_in
+
+      at_end : (xs : List (LaneText ExporterCall)) (x : LaneText ExporterCall) → get_elem? (xs ++ x ∷ []) (length xs) ≡ some x
+      at_end [] x = refl
+      at_end (y ∷ ys) x = at_end ys x
+
+  module _ (count : ℕ) (lanes : List (LaneText ExporterCall)) (most : All (λ (line : CallLine). line.lane < count) calls) (are : AreBelow count lanes) where
+    -- what is told of the lane with a number, where it is this of each lane, and this is nothing where the lane has no calls
+    told : {A : Type 0} (tells : LaneText ExporterCall → List A) (all : ℕ → List A) → ((i : ℕ) (lane : LaneText ExporterCall) → get_elem? lanes i ≡ some lane → tells lane ≡ all lane.number)
+        → ((l : ℕ) → calls_of l calls ≡ [] → all l ≡ []) → (l : ℕ) → numbered lane_number tells lanes l ≡ all l
+    told tells all own none l = by (below_or_past l count)
+      where
+        absent : calls_of l calls ≡ [] → numbered lane_number tells lanes l ≡ all l
+        absent no_calls = numbered_none lane_number tells lanes l (λ i lane at e.
+            let is = are.each i lane at in
+            let nothing : flat_map on_both (lane_asks moment lane.number calls) ≡ [] = ap (λ cs. flat_map on_both (map (λ (line : CallLine). asked moment line.act) cs)) (ap (λ n. calls_of n calls) e ∙ no_calls) in
+            let many = ap length (is.has.lines ∙ nothing) in
+            let same = length-map lane.lines call_asked in
+            let some_are = is.busy in
+            absurd (omega (arith, many, same, some_are))) ∙ sym (none l no_calls)
+
+        by : (l < count) ⊎ (count ≤ l) → numbered lane_number tells lanes l ≡ all l
+        by (inl below) = ⊎_elim
+            (λ (found : (i : ℕ) × (lane : LaneText ExporterCall) × (get_elem? lanes i ≡ some lane) × (lane.number ≡ l)).
+            ap (numbered lane_number tells lanes) (sym found.3) ∙ numbered_own lane_number tells lanes are.apart found.0 found.1 found.2 ∙ own found.0 found.1 found.2 ∙ ap all found.3)
+            absent
+            (are.all l below)
+        by (inr past) = absent (none_of (HasLane l) calls (λ k d within. let less = most k d within in ne_eqb _ l (λ e. absurd (omega (arith, e, less, past)))))
+
+    pub are_lanes : AreLanes exporters lanes
+    are_lanes = record {
+      fit = λ l lane at. let is = are.each l lane at in record { cells = λ s j cell. subst (λ n. j < n) (both_many exporters) (is.has.asked.0 s j cell); once = is.once; lines = is.has.fit };
+      asked = λ l lane at. (are.each l lane at).has.asked;
+      numbers = are.apart;
+      busy = λ i lane at. (are.each i lane at).busy;
+    }
+
+    pub have_calls : HaveCalls exporters handles line_handles moment calls lanes
+    have_calls =
         let many = dogstatsd_many exporters.dogstatsd in
-        let count = same_length ts gs zip in
-        let has : (n : ℕ) (x : LaneCalls) → get_elem? gs n ≡ some x → Has n x = λ n x at. (lane_at 0 n n gs x (omega arith) are at).2 ids handles line_handles is fits line_fits in
-        let other : (n : ℕ) → length gs ≤ n → All (λ (line : CallLine). HasLane n line ≡ false) calls = λ n past k d within. let less = below k d within in ne_eqb _ n (λ e. absurd (omega (arith, e, less, past, count))) in
         record {
-          ready = λ l x at. ((lane_at 0 l l gs x (omega arith) are at).1, (has l x at).asked);
-          places = in_place 0 gs are;
-          prometheus = λ j n. told_all (λ x. cell_calls (first_prometheus exporters + j) (lane_cells x) (lane_lines x)) gs n (map exporter.Prometheus (calls_at moment ids.prometheus handles n j calls))
-              (λ x at. ap (λ m. cell_calls (m + j) (lane_cells x) (lane_lines x)) (sym many) ∙ (has n x at).prometheus j)
-              (λ past. ap (λ ls. map exporter.Prometheus (map (λ (line : CallLine). asked moment line.act) ls)) (none_of (λ line. HasLane n line && is_at ids.prometheus handles j line) calls (λ k d within. ap (λ b. b && is_at ids.prometheus handles j (slice_index_or calls k d)) (other n past k d within))));
-          dogstatsd = λ j n less. told_all (λ x. cell_calls j (lane_cells x) (lane_lines x)) gs n (map exporter.DogStatsD (calls_at moment ids.dogstatsd line_handles n j calls))
-              (λ x at. (has n x at).dogstatsd j (subst (λ m. j < m) (sym many) less))
-              (λ past. ap (λ ls. map exporter.DogStatsD (map (λ (line : CallLine). asked moment line.act) ls)) (none_of (λ line. HasLane n line && is_at ids.dogstatsd line_handles j line) calls (λ k d within. ap (λ b. b && is_at ids.dogstatsd line_handles j (slice_index_or calls k d)) (other n past k d within))));
-          lines = λ n. told_all (λ x. map call_asked (lane_lines x)) gs n (flat_map on_both (lane_asks moment n calls))
-              (λ x at. (has n x at).lines)
-              (λ past. ap (λ ls. flat_map on_both (map (λ (line : CallLine). asked moment line.act) ls)) (none_of (HasLane n) calls (other n past)));
+          prometheus = λ j l. told (λ lane. cell_calls (first_prometheus exporters + j) lane.cells lane.lines) (λ n. map exporter.Prometheus (calls_at moment (P.ids_of exporters.prometheus) handles n j calls))
+              (λ i lane at. ap (λ m. cell_calls (m + j) lane.cells lane.lines) (sym many) ∙ (are.each i lane at).has.prometheus j)
+              (λ n none. ap (λ ls. map exporter.Prometheus (map (λ (line : CallLine). asked moment line.act) ls)) (none_of_both (HasLane n) (λ line. is_at (P.ids_of exporters.prometheus) handles j line) calls none)) l;
+          dogstatsd = λ j l below. told (λ lane. cell_calls j lane.cells lane.lines) (λ n. map exporter.DogStatsD (calls_at moment (D.ids_of exporters.dogstatsd) line_handles n j calls))
+              (λ i lane at. (are.each i lane at).has.dogstatsd j (subst (λ m. j < m) (sym many) below))
+              (λ n none. ap (λ ls. map exporter.DogStatsD (map (λ (line : CallLine). asked moment line.act) ls)) (none_of_both (HasLane n) (λ line. is_at (D.ids_of exporters.dogstatsd) line_handles j line) calls none)) l;
+          lines = λ l. told (λ lane. map call_asked lane.lines) (λ n. flat_map on_both (lane_asks moment n calls))
+              (λ i lane at. (are.each i lane at).has.lines)
+              (λ n none. ap (λ ls. flat_map on_both (map (λ (line : CallLine). asked moment line.act) ls)) none) l;
         }

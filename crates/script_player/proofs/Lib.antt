@@ -5,6 +5,7 @@ pub mod RunPages
 pub mod Fits
 pub mod LaneSteps
 pub mod LaneTables
+pub mod RoundLines
 pub mod LaneOrders
 pub mod Numbers
 pub mod TimelyRounds

@@ -20,7 +20,8 @@ use Rattle.exporter_lanes.specs.declared.exporters.ExporterCall.TheVariants as e
 use Rattle.drive_script.specs.declared.script.Act.{Act}
 use Rattle.drive_script.specs.declared.script.Act.TheVariants as acts
 use Rattle.drive_script.specs.declared.script.CallLine.{CallLine}
-use Rattle.script_player.specs.declared.lanes.LaneCalls.{LaneCalls}
+use Rattle.script_player.specs.declared.lanes.LaneSeries.{LaneSeries}
+use Rattle.script_player.specs.declared.lane_lines.Slots.{Slots}
 use Rattle.script_player.specs.declared.lanes.Places.{Places}
 
 -- the call on a series that an act makes in a round at a moment, and the kind of series that it is on
@@ -130,44 +131,9 @@ numbered_at j = numbered lane_number (λ lane. cell_calls j lane.cells lane.line
 abbrev pub numbered_asked : List (LaneText ExporterCall) → ℕ → List ExporterCall
 numbered_asked = numbered lane_number (λ lane. map call_asked lane.lines)
 
--- a lane's number, cells and lines
-abbrev pub Parts : Type 0
-Parts = ℕ × List ℕ × List (Line ExporterCall)
+-- what is told of a lane while its calls are looked through: the cells that it names, and where the series of its calls are among them
+abbrev pub lane_cells : LaneSeries → List ℕ
+lane_cells series = series.cells.keys
 
-abbrev pub parts_of : LaneText ExporterCall → Parts
-parts_of lane = (lane.number, lane.cells, lane.lines)
-
--- a lane while it is gathered
-abbrev pub lane_cells : LaneCalls → List ℕ
-lane_cells gathered = gathered.cells.keys
-
-abbrev pub lane_lines : LaneCalls → List (Line ExporterCall)
-lane_lines gathered = gathered.lines.items
-
-abbrev pub gathered_parts : LaneCalls → Parts
-gathered_parts gathered = (gathered.number, lane_cells gathered, lane_lines gathered)
-
-abbrev pub has_lines : LaneCalls → Bool
-has_lines gathered = not (length (lane_lines gathered) == 0)
-
--- what is told of lane l; nothing of one that is not there
-abbrev pub told_of : {A : Type 0} → (LaneCalls → List A) → List LaneCalls → ℕ → List A
-told_of tells [] l = []
-told_of tells (x ∷ xs) zero = tells x
-told_of tells (x ∷ xs) (suc l) = told_of tells xs l
-
--- what is gathered of lane l: its calls on the series at an index, and all its calls
-abbrev pub gathered_at : ℕ → List LaneCalls → ℕ → List ExporterCall
-gathered_at j = told_of (λ gathered. cell_calls j (lane_cells gathered) (lane_lines gathered))
-
-abbrev pub gathered_asked : List LaneCalls → ℕ → List ExporterCall
-gathered_asked = told_of (λ gathered. map call_asked (lane_lines gathered))
-
--- the lanes that are gathered have the numbers from k on, each its place
-abbrev pub AreInPlace : ℕ → List LaneCalls → Type 0
-AreInPlace k [] = Unit {0}
-AreInPlace k (x ∷ xs) = (x.number ≡ k) × AreInPlace (suc k) xs
-
--- each lane that is gathered has a slot for each line that is on a series, and asks for calls of its series' kinds
-abbrev pub AreReady : SeriesIds → List LaneCalls → Type 0
-AreReady ids gathered = (l : ℕ) (x : LaneCalls) → get_elem? gathered l ≡ some x → LineFit (length (lane_cells x)) (lane_lines x) × AllAsked ids (lane_cells x) (lane_lines x)
+abbrev pub lane_slots : LaneSeries → List Slots
+lane_slots series = series.slots.items

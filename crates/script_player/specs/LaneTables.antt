@@ -1,7 +1,8 @@
--- Lanes that take their calls by a table of where the series of handles stand.
-use Rattle.std.specs.Prelude.{◌≡◌, ℕ, suc, ◌+◌, ◌<◌, Bool, false, List, [], ◌∷◌, Option, None, IfSome, All, flat_map, length, map, option_map, unwrap_or, slice_get}
+-- Lanes whose calls stand among those of a round, and the series that they name.
+use Rattle.std.specs.Prelude.{◌≡◌, ℕ, ◌+◌, ◌<◌, Bool, false, List, [], ◌∷◌, ◌++◌, Option, Some, None, IfSome, All, filter, flat_map, length, map, option_map, unwrap_or, slice_get}
 use mathlib.Core.Option.{some}
 use lib.ListN.{get_elem?}
+use Rattle.cell_lanes.specs.declared.lane.Line.{Line}
 use Rattle.cell_lanes.specs.Lines.{LaneText}
 use Rattle.cell_lanes.specs.Lanes.{AllFit, LineFit, cell_calls}
 use Rattle.legal_history.specs.History.{Distinct}
@@ -14,10 +15,10 @@ use Rattle.prom_exporter.specs.LanePasses as P
 use Rattle.dsd_exporter.specs.LanePasses as D
 use Rattle.drive_script.specs.Texts.{call_line_of}
 use Rattle.drive_script.specs.declared.script.CallLine.{CallLine}
-use Rattle.script_player.specs.declared.lanes.LaneCalls.{LaneCalls}
 use Rattle.script_player.specs.declared.lanes.Places.{Places}
+use Rattle.script_player.specs.declared.lane_lines.Slots.{Slots}
 use Rattle.script_player.specs.Fitting.{FitsHandle}
-use Rattle.script_player.specs.LaneCalls.{AllAsked, AreInPlace, AreReady, IsOfKind, SeriesIds, call_asked, calls_at, gathered_asked, gathered_at, id_at, ids_of, is_place, lane_asks, lane_cells, lane_lines, lane_number, numbered_asked, numbered_at, on_both}
+use Rattle.script_player.specs.LaneCalls.{AllAsked, AreWith, HasLane, IsOfKind, SeriesIds, asked, call_asked, calls_at, id_at, ids_of, is_place, lane_asks, lane_number, numbered_asked, numbered_at, on_both}
 
 -- the id that a handle names, if any, is the one at an index
 abbrev pub names_index : List SeriesId → Option SeriesId → ℕ → Bool
@@ -32,52 +33,50 @@ abbrev pub ArePlacesOf : SeriesIds → Option SeriesId → Option SeriesId → P
 ArePlacesOf ids own other places =
     (found : Option ℕ) × (places.prometheus ≡ option_map (λ k. length ids.dogstatsd + k) found) × IsPlaceOf ids.prometheus own found × IsPlaceOf ids.dogstatsd other places.dogstatsd
 
--- the places of a handle in a table; a handle that it doesn't have is on no series
-abbrev pub nowhere : Places
-nowhere = record { prometheus = None; dogstatsd = None }
-
-abbrev pub places_of : List Places → ℕ → Places
-places_of table handle = unwrap_or (slice_get table handle) nowhere
-
--- a table of the places of all handles
-abbrev pub IsTable : SeriesIds → List SeriesId → List SeriesId → List Places → Type 0
-IsTable ids handles line_handles table = (h : ℕ) → ArePlacesOf ids (slice_get handles h) (slice_get line_handles h) (places_of table h)
-
 abbrev pub AllFitHandles : List SeriesId → List CallLine → Type 0
 AllFitHandles handles calls = All (λ line. FitsHandle handles (call_line_of line)) calls
 
--- a lane has what these calls ask of the lane with a number, on the series that the handles name
-pub record HasCalls (ids : SeriesIds) (handles line_handles : List SeriesId) (moment number : ℕ) (calls : List CallLine) (lane : LaneCalls) : Type 0 where
-  pub asked : AllAsked ids (lane_cells lane) (lane_lines lane)
-  pub prometheus : (j : ℕ) → cell_calls (length ids.dogstatsd + j) (lane_cells lane) (lane_lines lane) ≡ map exporter.Prometheus (calls_at moment ids.prometheus handles number j calls)
-  pub dogstatsd : (j : ℕ) → j < length ids.dogstatsd → cell_calls j (lane_cells lane) (lane_lines lane) ≡ map exporter.DogStatsD (calls_at moment ids.dogstatsd line_handles number j calls)
-  pub lines : map call_asked (lane_lines lane) ≡ flat_map on_both (lane_asks moment number calls)
+-- the calls of lane l, in order
+abbrev pub calls_of : ℕ → List CallLine → List CallLine
+calls_of l calls = filter (HasLane l) calls
 
--- what a lane takes its calls from: its number, the moment of the round, a table, and the calls of all lanes
-pub record TaskText : Type 0 where
-  pub number : ℕ
-  pub moment : ℕ
-  pub table : List Places
-  pub calls : List CallLine
+-- the two lines of a call, each on the series at its slot, or on none
+abbrev pub pair_of : ℕ → CallLine → Slots → List (Line ExporterCall)
+pair_of moment call slots =
+    record { slot = slots.prometheus; call = exporter.Prometheus (asked moment call.act) } ∷ record { slot = slots.dogstatsd; call = exporter.DogStatsD (asked moment call.act) } ∷ []
 
--- a lane has its calls of those, wherever the table is one of places
-abbrev pub IsLaneOf : TaskText → LaneCalls → Type 0
-IsLaneOf task lane = (lane.number ≡ task.number) × LineFit (length (lane_cells lane)) (lane_lines lane)
-    × ((ids : SeriesIds) (handles line_handles : List SeriesId) → IsTable ids handles line_handles task.table → AllFitHandles handles task.calls → AllFitHandles line_handles task.calls
-    → HasCalls ids handles line_handles task.moment task.number task.calls lane)
+-- the lines of these calls, each of which has slots of its own
+abbrev pub lines_of : ℕ → List CallLine → List Slots → List (Line ExporterCall)
+lines_of moment [] slots = []
+lines_of moment (call ∷ calls) [] = []
+lines_of moment (call ∷ calls) (own ∷ slots) = pair_of moment call own ++ lines_of moment calls slots
 
--- these tasks are those of the lanes from a number on
-abbrev pub AreTasks : ℕ → List Places → List CallLine → ℕ → List TaskText → Type 0
-AreTasks moment table calls k [] = Unit {0}
-AreTasks moment table calls k (task ∷ tasks) = (task ≡ record { number = k; moment = moment; table = table; calls = calls }) × AreTasks moment table calls (suc k) tasks
+-- the series at a place, if there is one, is named: it has this slot among the cells, as they are now
+abbrev pub IsNamedAt : Option ℕ → List ℕ → List ℕ → Option ℕ → Type 0
+IsNamedAt None old new slot = (slot ≡ None) × (new ≡ old)
+IsNamedAt (Some index) old new slot = (s : ℕ) × (slot ≡ Some s) × AreWith index old new × (slice_get new s ≡ Some index)
 
--- the lanes are gathered: each has its calls, and stands where its number says
-pub record AreGathered (exporters : Exporters) (handles line_handles : List SeriesId) (moment : ℕ) (calls : List CallLine) (gathered : List LaneCalls) : Type 0 where
-  pub ready : AreReady (ids_of exporters) gathered
-  pub places : AreInPlace 0 gathered
-  pub prometheus : (j n : ℕ) → gathered_at (first_prometheus exporters + j) gathered n ≡ map exporter.Prometheus (calls_at moment (P.ids_of exporters.prometheus) handles n j calls)
-  pub dogstatsd : (j n : ℕ) → j < first_prometheus exporters → gathered_at j gathered n ≡ map exporter.DogStatsD (calls_at moment (D.ids_of exporters.dogstatsd) line_handles n j calls)
-  pub lines : (n : ℕ) → gathered_asked gathered n ≡ flat_map on_both (lane_asks moment n calls)
+-- the series at both places are named, for one more call
+abbrev pub NamesBoth : Places → List ℕ → List Slots → List ℕ → List Slots → Type 0
+NamesBoth places old slots new slots' =
+    (between : List ℕ) × (own : Slots) × IsNamedAt places.prometheus old between own.prometheus × IsNamedAt places.dogstatsd between new own.dogstatsd × (slots' ≡ slots ++ own ∷ [])
+
+-- these lines on these cells are what the calls ask of the lane with a number, on the series that the handles name
+pub record HasCalls (ids : SeriesIds) (handles line_handles : List SeriesId) (moment number : ℕ) (calls : List CallLine) (cells : List ℕ) (its : List (Line ExporterCall)) : Type 0 where
+  pub fit : LineFit (length cells) its
+  pub asked : AllAsked ids cells its
+  pub prometheus : (j : ℕ) → cell_calls (length ids.dogstatsd + j) cells its ≡ map exporter.Prometheus (calls_at moment ids.prometheus handles number j calls)
+  pub dogstatsd : (j : ℕ) → j < length ids.dogstatsd → cell_calls j cells its ≡ map exporter.DogStatsD (calls_at moment ids.dogstatsd line_handles number j calls)
+  pub lines : map call_asked its ≡ flat_map on_both (lane_asks moment number calls)
+
+-- each of the lane's calls has slots, and its lines are what the calls ask for at whatever moment
+abbrev pub NamesCalls : SeriesIds → List SeriesId → List SeriesId → ℕ → List CallLine → List ℕ → List Slots → Type 0
+NamesCalls ids handles line_handles number calls cells slots =
+    (length slots ≡ length (calls_of number calls)) × ((moment : ℕ) → HasCalls ids handles line_handles moment number calls cells (lines_of moment (calls_of number calls) slots))
+
+-- the lane with a number, at a moment
+abbrev pub lane_of : ℕ → ℕ → List CallLine → List ℕ → List Slots → LaneText ExporterCall
+lane_of number moment calls cells slots = record { number = number; cells = cells; lines = lines_of moment (calls_of number calls) slots }
 
 -- the lanes of a round, as they can be run side by side
 pub record AreLanes (exporters : Exporters) (lanes : List (LaneText ExporterCall)) : Type 0 where

@@ -19,4 +19,5 @@ pub mod Recorded
 pub mod Fitting
 pub mod LaneCalls
 pub mod LaneTables
+pub mod RoundLines
 pub mod Copies

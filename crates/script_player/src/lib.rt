@@ -12,7 +12,7 @@ mod both;
 mod flushes;
 mod gates;
 mod guesses;
-mod lane_tasks;
+mod lane_lines;
 mod lanes;
 mod page;
 mod play;

@@ -286,7 +286,7 @@ impl Player {
     }
 
     /// Makes the calls of a round: its lanes run side by side, each with its own passes, and all passes are back at the end.
-    /// A lane that is refused memory makes no further call. The call lines are let go once the lanes have them.
+    /// A lane that is refused memory makes no further call.
     pub(crate) fn make_calls<R: Threads + Wait + Sync, G: Gate + Sync>(
         &mut self,
         rt: &R,
@@ -305,7 +305,6 @@ impl Player {
             → IsFlushCalled self.old.flushes round self.new.flushes) }
     {
         let lanes = lanes_of(
-            rt,
             alloc,
             &self.exporters,
             &self.handles,
@@ -315,7 +314,6 @@ impl Player {
             moment,
             &calls,
         )?;
-        drop(calls);
         run_lanes(rt, alloc, &GateHook { gate }, &mut self.exporters, &lanes)
     }
 

@@ -25,13 +25,13 @@ use Rattle.script_player.proofs.Standing.{sends_nothing}
 use Rattle.script_player.proofs.play.Player.make_calls.Goals as goal
 
 pub lanes_of-requires-clause-fit : goal.lanes_of-requires-clause-fit
-lanes_of-requires-clause-fit g c κs within =
+lanes_of-requires-clause-fit g c =
     let fit : FitsCalls _ c.args.calls.items = subst (λ (p : PlayerText). FitsCalls p c.args.calls.items) (sym c.self.view_is) c.requires.fit in
     subst (λ (hs : List SeriesId). All (λ (line : CallLine). FitsHandle hs (call_line_of line)) c.deref-3.result.now) (sym c.deref.ensures.value)
     (subst (All (λ (line : CallLine). FitsHandle c.self.inside.handles.items (call_line_of line))) (sym c.deref-3.ensures.value) fit.fit)
 
 pub lanes_of-requires-clause-line_fit : goal.lanes_of-requires-clause-line_fit
-lanes_of-requires-clause-line_fit g c κs within =
+lanes_of-requires-clause-line_fit g c =
     let fit : FitsCalls _ c.args.calls.items = subst (λ (p : PlayerText). FitsCalls p c.args.calls.items) (sym c.self.view_is) c.requires.fit in
     subst (λ (hs : List SeriesId). All (λ (line : CallLine). FitsHandle hs (call_line_of line)) c.deref-3.result.now) (sym c.deref-2.ensures.value)
     (subst (All (λ (line : CallLine). FitsHandle c.self.inside.line_handles.items (call_line_of line))) (sym c.deref-3.ensures.value) fit.lines_fit)

@@ -5,8 +5,8 @@ use Rattle.cell_lanes.proofs.Lists.{take_whole}
 use Rattle.drive_script.specs.declared.script.CallLine.{CallLine}
 use Rattle.drive_script.specs.declared.script.Act.TheVariants as acts
 use Rattle.script_player.proofs.LaneTables.{all_below}
-use Rattle.script_player.proofs.lanes.count_calls.Goals.{then-lane-lanes, else-lane-lanes}
-use Rattle.script_player.proofs.lanes.count_calls.Goals as goal
+use Rattle.script_player.proofs.lanes.lanes_in.Goals.{then-lane-lanes, else-lane-lanes}
+use Rattle.script_player.proofs.lanes.lanes_in.Goals as goal
 
 default : CallLine
 default = record { lane = 0; handle = 0; act = acts.Inc 0 }
