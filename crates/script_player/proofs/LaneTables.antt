@@ -107,7 +107,7 @@ both_pushed places call old between new own its first second fit =
       subst (LineFit (length new)) all b.fit,
       (λ ids asks before. subst (AllAsked ids new) all (b.asked ids asks.1 (a.asked ids asks.0 before))),
       (λ j. ap (cell_calls j new) (sym all) ∙ b.calls j ∙ ap (λ l. l ++ keep (is_place j places.dogstatsd) (exporter.DogStatsD call) []) (a.calls j)
-      ∙ append_assoc (cell_calls j old its) (keep (is_place j places.prometheus) (exporter.Prometheus call) []) (keep (is_place j places.dogstatsd) (exporter.DogStatsD call) [])),
+          ∙ append_assoc (cell_calls j old its) (keep (is_place j places.prometheus) (exporter.Prometheus call) []) (keep (is_place j places.dogstatsd) (exporter.DogStatsD call) [])),
       map-append call_asked its (one ∷ other ∷ []),
     )
 
@@ -193,12 +193,12 @@ module _ (ids : SeriesIds) (handles line_handles : List SeriesId) (number : ℕ)
       let calls = own_more number xs x own in (
         ap length is ∙ length-append slots (its_own ∷ []) ∙ ap (λ n. n + 1) before.0 ∙ sym (ap length calls ∙ length-append (calls_of number xs) (x ∷ [])),
         (λ moment.
-        let its = lines_of moment (calls_of number xs) slots in
-        let after : lines_of moment (calls_of number (xs ++ x ∷ [])) slots' ≡ its ++ pair_of moment x its_own
-        = (λ i. lines_of moment (calls i) (is i)) ∙ lines_more moment (calls_of number xs) slots x its_own before.0 in
-        subst (HasCalls ids handles line_handles moment number (xs ++ x ∷ []) new) (sym after)
-        (one_taken ids handles line_handles moment number xs x cells new its (its ++ pair_of moment x its_own) places are fits line_fits own
-        (both_pushed places (asked moment x.act) cells between new its_own its first second (before.1 moment).fit) (before.1 moment))),
+            let its = lines_of moment (calls_of number xs) slots in
+            let after : lines_of moment (calls_of number (xs ++ x ∷ [])) slots' ≡ its ++ pair_of moment x its_own
+            = (λ i. lines_of moment (calls i) (is i)) ∙ lines_more moment (calls_of number xs) slots x its_own before.0 in
+            subst (HasCalls ids handles line_handles moment number (xs ++ x ∷ []) new) (sym after)
+            (one_taken ids handles line_handles moment number xs x cells new its (its ++ pair_of moment x its_own) places are fits line_fits own
+            (both_pushed places (asked moment x.act) cells between new its_own its first second (before.1 moment).fit) (before.1 moment))),
       )
 
   -- a call of another lane
@@ -207,7 +207,7 @@ module _ (ids : SeriesIds) (handles line_handles : List SeriesId) (number : ℕ)
       let calls = own_same number xs x other in (
         before.0 ∙ sym (ap length calls),
         (λ moment. subst (HasCalls ids handles line_handles moment number (xs ++ x ∷ []) cells) (ap (λ cs. lines_of moment cs slots) (sym calls))
-        (passed_over ids handles line_handles moment number xs x cells (lines_of moment (calls_of number xs) slots) other (before.1 moment))),
+            (passed_over ids handles line_handles moment number xs x cells (lines_of moment (calls_of number xs) slots) other (before.1 moment))),
       )
 
 -- ---- lanes below a number

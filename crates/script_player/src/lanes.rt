@@ -108,7 +108,12 @@ fn series_of(
             let prometheus = prometheus_place(&exporters.prometheus, handles, guesses, handle);
             let places = Places {
                 prometheus: behind(first, prometheus)?,
-                dogstatsd: dogstatsd_place(&exporters.dogstatsd, line_handles, line_guesses, handle),
+                dogstatsd: dogstatsd_place(
+                    &exporters.dogstatsd,
+                    line_handles,
+                    line_guesses,
+                    handle,
+                ),
             };
             series.name_both(places)?;
         }
