@@ -73,7 +73,7 @@ module _ {K : Type 0} (P : K → Type 0) (j : ℕ) where
       (cell_calls_hold cs xs (λ i y e. fit (suc i) y e) (λ i y e. holds (suc i) y e))
 
   all_calls_hold : (n : ℕ) (lanes : List (LaneText K)) → AllFit n lanes
-      → ((l : ℕ) (a : Lane K) (i : ℕ) (x : Line K) → get_elem? lanes l ≡ some a → get_elem? a.lines i ≡ some x → HoldsOn a.cells x)
+      → ((l : ℕ) (a : LaneText K) (i : ℕ) (x : Line K) → get_elem? lanes l ≡ some a → get_elem? a.lines i ≡ some x → HoldsOn a.cells x)
       → (l : ℕ) → AllByRecursion P (all_calls_on j lanes l)
   all_calls_hold n [] fit holds l = tt
   all_calls_hold n (a ∷ lanes) fit holds zero = cell_calls_hold a.cells a.lines (fit 0 a refl).lines (λ i x e. holds 0 a i x refl e)
