@@ -44,6 +44,7 @@ use Rattle.series_cells.specs.contracts.shared.PromCounterValueCell.TheImpl as c
 use Rattle.series_cells.specs.contracts.shared.PromCounterSharedCell.TheImpl as counter_cell
 use Rattle.series_cells.specs.contracts.shared.PromGaugeValueCell.TheImpl as gauge_value
 use Rattle.series_cells.specs.contracts.shared.PromGaugeSharedCell.TheImpl as gauge_cell
+use Rattle.name_counts.proofs.name_counts.NameCounts.TheSendSync as counts
 use Rattle.prom_exporter.proofs.cells.KeptCell.TheSendSync as cells
 use Rattle.prom_exporter.proofs.rows.Rows.TheSendSync as rows
 use Rattle.prom_exporter.proofs.sampled.HistogramCell.TheSendSync as sampled
@@ -99,7 +100,7 @@ state-send =
                 (cells.the_send _ _ u64 counter_value.ghosts counter_cell.ghosts counters.the_send passes.the_send (search sendable) counters.the_sync)
                 (cells.the_send _ _ Fixed.the_row gauge_value.ghosts gauge_cell.ghosts gauges.the_send passes.the_send (search sendable) gauges.the_sync)
                 sampled.the_send,
-            (search (sendable, crosses, rows.the_send) depth 30 fits 4000, (search (sendable, crosses, rows.the_send) depth 30 fits 4000, (search (sendable, crosses, rows.the_send) depth 30 fits 4000, (descriptions-send, tt)))),
+            (search (sendable, crosses, rows.the_send) depth 30 fits 4000, (search (sendable, crosses, rows.the_send) depth 30 fits 4000, (search (sendable, crosses, rows.the_send) depth 30 fits 4000, (descriptions-send, (search (sendable, crosses, counts.the_send) depth 30 fits 4000, tt))))),
           ),
         ),
       ),

@@ -72,7 +72,7 @@ any_distinct_step : (n m : List ℕ) (ns ds : List (List ℕ)) (b : Bool) → by
 any_distinct_step n m ns ds true e rest = rw e refl
 any_distinct_step n m ns ds false e rest = rw e (any_others n m ds e ∙ rest)
 
-any_distinct : (n : List ℕ) (ns : List (List ℕ)) → list_any (bytes_eq n) (distinct ns) ≡ list_any (bytes_eq n) ns
+pub any_distinct : (n : List ℕ) (ns : List (List ℕ)) → list_any (bytes_eq n) (distinct ns) ≡ list_any (bytes_eq n) ns
 any_distinct n [] = refl
 any_distinct n (m ∷ ns) = any_distinct_step n m ns (distinct ns) (bytes_eq n m) refl (any_distinct n ns)
 
@@ -118,7 +118,7 @@ module _ {X : Type 0} (name_of : X → List ℕ) where
   named-push : (xs : List X) (x : X) (n : List ℕ) → named name_of (xs ++ x ∷ []) n ≡ named name_of xs n ++ cond (bytes_eq (name_of x) n) (x ∷ []) []
   named-push xs x n = filter-append (λ y. bytes_eq (name_of y) n) xs (x ∷ [])
 
-  named_none : (n : List ℕ) (xs : List X) → list_any (bytes_eq n) (map name_of xs) ≡ false → named name_of xs n ≡ []
+  pub named_none : (n : List ℕ) (xs : List X) → list_any (bytes_eq n) (map name_of xs) ≡ false → named name_of xs n ≡ []
   named_none n [] e = refl
   named_none n (x ∷ xs) e =
       let f : bytes_eq (name_of x) n ≡ false = symm (name_of x) n ∙ (or_parts (bytes_eq n (name_of x)) (list_any (bytes_eq n) (map name_of xs)) e).0 in

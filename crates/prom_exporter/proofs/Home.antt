@@ -7,15 +7,14 @@ use mathlib.Core.List.{IsPrefix}
 use Rattle.legal_history.specs.declared.history.Held.{Held}
 use Rattle.legal_history.specs.History.{calls_by, held, longer, looked, after, Among}
 use Rattle.legal_history.proofs.Prefixes.{prefix_trans}
-use Rattle.metric_descriptions.specs.Descriptions.{DescribedText}
 use Rattle.metrics_core.specs.Keys.{KeyText}
 use Rattle.metrics_core.specs.declared.kinds.SeriesId.{SeriesId}
 use Rattle.metrics_registry.specs.Live.{LiveSeries}
 use Rattle.metrics_core.specs.declared.calls.SeriesCall.{SeriesCall}
 use Rattle.prom_exporter.specs.Shared.{Shared, IsHome, unused, Counts, Looks, TakesBack}
-use Rattle.metrics_core.specs.declared.kinds.MetricKind.TheVariants.{Counter, Gauge, Histogram}
+use Rattle.metrics_core.specs.declared.kinds.MetricKind.TheVariants.{Histogram}
 use Rattle.prom_format.specs.Names.{sanitized_metric_name}
-use Rattle.prom_exporter.specs.Families.{ExporterSettings, distribution_of}
+use Rattle.prom_exporter.specs.Families.{distribution_of}
 use Rattle.prom_exporter.specs.Sampled.{Sampled, IsAtRest, unsampled}
 use Rattle.std.proofs.Common.{◌+◌}
 use Rattle.prom_exporter.specs.Exporter.{Cells, Exporter, AllHome, AddsCounter, AddsGauge, AddsHistogram, SharedCounter, SharedGauge}
@@ -83,41 +82,12 @@ adds_histogram-home key old new adds home =
           (All-cons (λ (s : LiveSeries Sampled). IsAtRest s.cell) _ [] (refl, refl) (All-nil _)),
     )
 
--- a counter that was made went last
-pub counter_added : (exporter : Exporter) (settings : ExporterSettings) (series : Cells) (said : DescribedText) (after : Cells) (key copied : KeyText) (id : SeriesId) (cell : SharedCounter)
-    → record { settings = settings; series = series; said = said } ≡ exporter
-    → after ≡ record series { counters = series.counters ++ record { id = id; key = copied; cell = cell } ∷ []; made = series.made + 1 }
-    → id ≡ record { kind = Counter; number = series.made } → copied ≡ key → cell ≡ unused cell.cell
-    → AddsCounter key exporter (record { settings = settings; series = after; said = said })
-counter_added exporter settings series said after key copied id cell is added numbered same fresh =
-    rw (← is) (
-      cell.cell,
-      ap (λ (cells : Cells). record { settings = settings; series = cells; said = said })
-          (added ∙ (λ j. record series { counters = series.counters ++ record { id = numbered j; key = same j; cell = fresh j } ∷ []; made = series.made + 1 })),
-    )
-
--- a gauge that was made went last
-pub gauge_added : (exporter : Exporter) (settings : ExporterSettings) (series : Cells) (said : DescribedText) (after : Cells) (key copied : KeyText) (id : SeriesId) (cell : SharedGauge)
-    → record { settings = settings; series = series; said = said } ≡ exporter
-    → after ≡ record series { gauges = series.gauges ++ record { id = id; key = copied; cell = cell } ∷ []; made = series.made + 1 }
-    → id ≡ record { kind = Gauge; number = series.made } → copied ≡ key → cell ≡ unused cell.cell
-    → AddsGauge key exporter (record { settings = settings; series = after; said = said })
-gauge_added exporter settings series said after key copied id cell is added numbered same fresh =
-    rw (← is) (
-      cell.cell,
-      ap (λ (cells : Cells). record { settings = settings; series = cells; said = said })
-          (added ∙ (λ j. record series { gauges = series.gauges ++ record { id = numbered j; key = same j; cell = fresh j } ∷ []; made = series.made + 1 })),
-    )
-
 -- a histogram that was made went last
-pub histogram_added : (exporter : Exporter) (settings : ExporterSettings) (series : Cells) (said : DescribedText) (after : Cells) (key copied : KeyText) (id : SeriesId) (cell : Sampled)
-    → record { settings = settings; series = series; said = said } ≡ exporter
-    → after ≡ record series { histograms = series.histograms ++ record { id = id; key = copied; cell = cell } ∷ []; made = series.made + 1 }
-    → id ≡ record { kind = Histogram; number = series.made } → copied ≡ key → cell ≡ unsampled (distribution_of settings (sanitized_metric_name key.name)) cell.series.cell
-    → AddsHistogram key exporter (record { settings = settings; series = after; said = said })
-histogram_added exporter settings series said after key copied id cell is added numbered same fresh =
-    rw (← is) (
-      cell.series.cell,
-      ap (λ (cells : Cells). record { settings = settings; series = cells; said = said })
-          (added ∙ (λ j. record series { histograms = series.histograms ++ record { id = numbered j; key = same j; cell = fresh j } ∷ []; made = series.made + 1 })),
-    )
+pub histogram_added : (old : Exporter) (after : Cells) (key : KeyText) (id : SeriesId) (cell : Sampled)
+    → after ≡ record old.series { histograms = old.series.histograms ++ record { id = id; key = key; cell = cell } ∷ []; made = old.series.made + 1 }
+    → id ≡ record { kind = Histogram; number = old.series.made } → cell ≡ unsampled (distribution_of old.settings (sanitized_metric_name key.name)) cell.series.cell
+    → AddsHistogram key old (record old { series = after })
+histogram_added old after key id cell added numbered fresh = (
+  cell.series.cell,
+  added ∙ (λ j. record old.series { histograms = old.series.histograms ++ record { id = numbered j; key = key; cell = fresh j } ∷ []; made = old.series.made + 1 }),
+)

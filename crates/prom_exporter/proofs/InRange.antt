@@ -1,5 +1,5 @@
 -- The values of the families that a state shows have 128 bits, where those of its calls have 64.
-use Rattle.std.proofs.Common.{◌≡◌, ℕ, ◌*◌, List, [], ◌∷◌, length, arith, sym, subst, Option, Some, None}
+use Rattle.std.proofs.Common.{◌≡◌, ℕ, ◌*◌, ◌<◌, ◌^◌, map, List, [], ◌∷◌, length, arith, sym, subst, Option, Some, None}
 use Rattle.std.specs.Prelude.{ℤ, pos, FitsSigned, All, IfSome, filter_map, flat_map, bytes_eq}
 use Rattle.std.specs.Int.{w128}
 use Rattle.std.specs.List.{AllByRecursion, cons_option}
@@ -14,8 +14,9 @@ use Rattle.prom_format.specs.Pages.{Row, Family, IsPage, page_text, HasValuesInR
 use Rattle.prom_format.proofs.PagesReadOnce.{page_told}
 use Rattle.prom_format.specs.declared.families.FamilyType.{FamilyType}
 use Rattle.prom_format.specs.declared.families.FamilyType.TheVariants as types
+use Rattle.name_counts.specs.Counts.{NameCount}
 use Rattle.prom_exporter.specs.State.{Series, PrometheusState, live}
-use Rattle.prom_exporter.specs.Families.{ExporterSettings, Windows, window_of, kept_window, additions_of, counter_suffix, counter_rows, gauge_rows, histogram_rows, summary_rows, sum_and_count_rows, family_of, distribution_family, distribution_of, names_of_kind, series_named, families_by, families_at, families_written}
+use Rattle.prom_exporter.specs.Families.{ExporterSettings, Windows, window_of, kept_window, additions_of, counter_suffix, counter_rows, gauge_rows, histogram_rows, summary_rows, sum_and_count_rows, family_of, distribution_family, distribution_of, names_of_kind, series_named, overflow_row, overflow_families, families_by, families_at, families_written}
 use Rattle.prom_exporter.specs.Ranges.{HasFixedValue, HaveFixedCalls, IsFixed}
 use Rattle.prom_exporter.proofs.KeptBuckets.{all-filter}
 use Rattle.prom_exporter.proofs.KeptWindows.{added-samples}
@@ -43,6 +44,17 @@ some_fit f one (n ∷ ns) = by (f n) (one n) (some_fit f one ns)
     by : (o : Option Family) → IfSome o HasValuesInRange → AllByRecursion HasValuesInRange (filter_map f ns) → AllByRecursion HasValuesInRange (cons_option o (filter_map f ns))
     by None fits rest = rest
     by (Some family) fits rest = (fits, rest)
+
+abbrev CountFits : NameCount → Type 0
+CountFits redirected = redirected.count < 2 ^ 64
+
+overflow_rows_fit : (all : List NameCount) → AllByRecursion CountFits all → AllByRecursion RowFits (map overflow_row all)
+overflow_rows_fit [] fits = tt
+overflow_rows_fit (c ∷ cs) fits = (whole_fits c.count fits.0, overflow_rows_fit cs fits.1)
+
+overflow_fits : (all : List NameCount) → AllByRecursion CountFits all → AllByRecursion HasValuesInRange (overflow_families all)
+overflow_fits [] fits = tt
+overflow_fits (first ∷ others) fits = (All-from_recursion RowFits (map overflow_row (first ∷ others)) (overflow_rows_fit (first ∷ others) fits), tt)
 
 module _ (settings : ExporterSettings) (windows : Windows) (s : PrometheusState) where
   sum_and_count_fit : (series : Series) (values : List ℤ) → AllByRecursion Fits values → AllByRecursion RowFits (sum_and_count_rows settings s series values)
@@ -74,7 +86,7 @@ module _ (settings : ExporterSettings) (windows : Windows) (s : PrometheusState)
   family_fits kind name suffix type P rows one all =
       All-from_recursion RowFits _ (flat_fit P rows one (series_named kind s name) (all-filter P (λ series. bytes_eq (sanitized_metric_name series.key.name) name) (live kind s) all))
 
-  module _ (counters : AllByRecursion CallsFit s.counters) (gauges : AllByRecursion CallsFit s.gauges) (sampled : AllByRecursion SummaryFits s.histograms) where
+  module _ (counters : AllByRecursion CallsFit s.counters) (gauges : AllByRecursion CallsFit s.gauges) (sampled : AllByRecursion SummaryFits s.histograms) (redirected : AllByRecursion CountFits s.redirected) where
     histograms : (all : List Series) → AllByRecursion SummaryFits all → AllByRecursion CallsFit all
     histograms [] fits = tt
     histograms (x ∷ xs) fits = (fits.0.0, histograms xs fits.1)
@@ -89,9 +101,11 @@ module _ (settings : ExporterSettings) (windows : Windows) (s : PrometheusState)
         All-from_recursion HasValuesInRange _
         (all-append HasValuesInRange _ _
         (all-append HasValuesInRange _ _
+        (all-append HasValuesInRange _ _
         (all-map HasValuesInRange _ (names_of_kind kinds.Counter s) (all-every _ (λ name. family_fits kinds.Counter name (counter_suffix settings) types.Counter CallsFit (counter_rows settings s) counter_fit counters) (names_of_kind kinds.Counter s)))
         (all-map HasValuesInRange _ (names_of_kind kinds.Gauge s) (all-every _ (λ name. family_fits kinds.Gauge name None types.Gauge CallsFit (gauge_rows settings s) gauge_fit gauges) (names_of_kind kinds.Gauge s))))
         (some_fit _ (λ name. distribution_fits name (distribution_of settings name)) (names_of_kind kinds.Histogram s)))
+        (overflow_fits s.redirected redirected))
 
 -- ---- of a state whose calls have such values
 
@@ -104,7 +118,7 @@ calls_fit all fixed = each all (recursion_from_All (λ (series : Series). All Ha
 
 module _ (settings : ExporterSettings) (s : PrometheusState) (fixed : IsFixed s) where
   fit_by : (windows : Windows) → ((series : Series) → CallsFit series → AllByRecursion Fits (windows series)) → AreInRange (families_by settings windows s)
-  fit_by windows inside = families_fit settings windows s (calls_fit s.counters fixed.0) (calls_fit s.gauges fixed.1) (both s.histograms (calls_fit s.histograms fixed.2))
+  fit_by windows inside = families_fit settings windows s (calls_fit s.counters fixed.0) (calls_fit s.gauges fixed.1) (both s.histograms (calls_fit s.histograms fixed.2)) (recursion_from_All CountFits s.redirected fixed.3)
     where
       both : (all : List Series) → AllByRecursion CallsFit all → AllByRecursion (SummaryFits settings windows s) all
       both [] fits = tt

@@ -12,6 +12,10 @@ pub mod PagesAgain
 pub mod LaneThings
 pub mod Crossing
 mod Given
+pub mod Redirected
+mod NamedSeries
+mod RedirectedRows
+pub mod Registering
 mod KeptCells
 mod LaneIndices
 mod LaneRounds

@@ -14,8 +14,9 @@ use Rattle.prom_format.specs.Pages.{Row, IsPrintable, IsPrintableRow, IsPage, pa
 use Rattle.prom_format.specs.declared.families.FamilyType.{FamilyType}
 use Rattle.prom_format.proofs.NameLaws.{sanitized_metric_name-is_name, sanitized_label_name-is_name, full_name-is_name}
 use Rattle.prom_format.proofs.PageText.{page_read}
+use Rattle.name_counts.specs.Counts.{NameCount}
 use Rattle.prom_exporter.specs.State.{Series, PrometheusState, live}
-use Rattle.prom_exporter.specs.Families.{ExporterSettings, Windows, families_by, family_of, row_of, one_label, shown_unit, counter_suffix, counter_rows, gauge_rows, histogram_rows, summary_rows, sum_and_count_rows, distinct, names_of_kind, series_named, distribution_of, distribution_family}
+use Rattle.prom_exporter.specs.Families.{ExporterSettings, Windows, families_by, family_of, row_of, one_label, shown_unit, counter_suffix, counter_rows, gauge_rows, histogram_rows, summary_rows, sum_and_count_rows, distinct, names_of_kind, series_named, distribution_of, distribution_family, overflow_row, overflow_families}
 use Rattle.distributions.specs.Kinds.{DistributionKind, NativeHistogram, Histogram, Summary}
 use Rattle.metrics_registry.specs.Quantiles.{clamped}
 
@@ -173,13 +174,32 @@ all_filter_mapped : {A B : Type 0} (P : A → Type 0) (Q : B → Type 0) (f : A 
 all_filter_mapped P Q f g [] h = tt
 all_filter_mapped P Q f g (x ∷ xs) h = first_too Q (f x) (filter_map f xs) (g x h.0) (all_filter_mapped P Q f g xs h.1)
 
+overflow_row_printable : (redirected : NameCount) → IsPrintableRow (overflow_row redirected)
+overflow_row_printable redirected = record {
+  named = refl;
+  labels = All-from_recursion (λ (l : LabelText). IsLabelName l.key) (overflow_row redirected).labels (refl, (refl, tt));
+}
+
+overflow_printable : (redirected : List NameCount) → AllByRecursion IsPrintable (overflow_families redirected)
+overflow_printable [] = tt
+overflow_printable (first ∷ others) = (
+  record {
+    named = refl;
+    rows = All-from_recursion IsPrintableRow (map overflow_row (first ∷ others)) (all_map IsPrintableRow overflow_row overflow_row_printable (first ∷ others));
+    some_row = omega arith;
+  },
+  tt,
+)
+
 families_printable : (settings : ExporterSettings) (windows : Windows) (s : PrometheusState) → AllByRecursion IsPrintable (families_by settings windows s)
 families_printable settings windows s =
     all_append IsPrintable _ _
     (all_append IsPrintable _ _
+    (all_append IsPrintable _ _
     (all_mapped (IsNameOf kinds.Counter s) IsPrintable _ (λ name is. family_printable settings s kinds.Counter name (counter_suffix settings) _ (counter_rows settings s) (suffix_named settings) (counter_printable settings s) is) _ (names_are kinds.Counter s))
     (all_mapped (IsNameOf kinds.Gauge s) IsPrintable _ (λ name is. family_printable settings s kinds.Gauge name None _ (gauge_rows settings s) tt (gauge_printable settings s) is) _ (names_are kinds.Gauge s)))
-    (all_filter_mapped (IsNameOf kinds.Histogram s) IsPrintable _ (λ name is. distribution_printable settings s windows name (distribution_of settings name) is) _ (names_are kinds.Histogram s))
+    (all_filter_mapped (IsNameOf kinds.Histogram s) IsPrintable _ (λ name is. distribution_printable settings s windows name (distribution_of settings name) is) _ (names_are kinds.Histogram s)))
+    (overflow_printable s.redirected)
 
 -- the text of the families of a state is a page of exactly these families, whatever is answered of windows
 pub page_reads : (settings : ExporterSettings) (windows : Windows) (s : PrometheusState) → IsPage (page_text (families_by settings windows s)) (families_by settings windows s)

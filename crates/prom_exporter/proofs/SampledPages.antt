@@ -15,8 +15,7 @@ use Rattle.prom_format.specs.Pages.{Row, Family, row_text, block_text, body_text
 use Rattle.distributions.specs.Kinds.{DistributionKind, NativeHistogram, Histogram, Summary, DistributionRules}
 use Rattle.prom_exporter.specs.State.{Series, PrometheusState}
 use Rattle.prom_exporter.specs.Families.{ExporterSettings, distinct, names_of_kind, distribution_of, distribution_family, rules_of_settings, histogram_rows, summary_rows, kept_window}
-use Rattle.metric_descriptions.specs.Descriptions.{DescribedText}
-use Rattle.prom_exporter.specs.Exporter.{with_said}
+use Rattle.prom_exporter.specs.Exporter.{Exporter, with_rest}
 use Rattle.prom_exporter.specs.Kept.{FitsSettings}
 use Rattle.prom_exporter.specs.Naming.{NamingText, shown_name, title_text}
 use Rattle.prom_exporter.specs.Rows.{RowsText, label_set_of, name_at, places_of, rows_of, keys_of}
@@ -76,16 +75,16 @@ names-seen : (k : ℕ) (live : List (LiveSeries Sampled)) → map placed_name (e
 names-seen k [] = refl
 names-seen k (e ∷ live) = ap (λ l. sanitized_metric_name e.key.name ∷ l) (names-seen (k + 1) live)
 
-module _ {C G : Type 0} (settings : ExporterSettings) (t : ℕ) (said : DescribedText) (registry : RegistryText (Shared C) (Shared G) Sampled) where
+module _ {C G : Type 0} (settings : ExporterSettings) (t : ℕ) (exporter : Exporter) (registry : RegistryText (Shared C) (Shared G) Sampled) where
   abbrev live : List (LiveSeries Sampled)
   live = registry.histograms
 
   abbrev state : PrometheusState
-  state = with_said said (state_recorded registry)
+  state = with_rest exporter (state_recorded registry)
 
   -- what names follow from
   abbrev naming : NamingText
-  naming = record { units = settings.units; published = said.published }
+  naming = record { units = settings.units; published = exporter.said.published }
 
   -- each series under a name has these rows
   module _ (n : List ℕ) (rows : Series → List Row) (one : (e : LiveSeries Sampled) → sanitized_metric_name e.key.name ≡ n → HasKind settings e → rows (seen e) ≡ sampled_rows t (shown_name naming None n) (labels settings state t e) e.cell) where

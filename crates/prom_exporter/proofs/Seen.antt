@@ -16,7 +16,7 @@ use Rattle.prom_exporter.specs.Values.{SeenCell, seen_cell, seen_series, sampled
 
 -- series with other cells, which keep their ids and keys
 module _ {X Y : Type 0} (g : X → Y) where
-  abbrev changed : LiveSeries X → LiveSeries Y
+  abbrev pub changed : LiveSeries X → LiveSeries Y
   changed series = record { id = series.id; key = series.key; cell = g series.cell }
 
   id_of_key-changed : (key : KeyText) (es : List (LiveSeries X)) → id_of_key key (map changed es) ≡ id_of_key key es
@@ -43,7 +43,7 @@ pub id_of_key-seen : {F : Type 0} (key : KeyText) (es : List (LiveSeries (Shared
 id_of_key-seen key es = id_of_key-changed seen_cell key es
 
 -- a histogram as a state sees it, where these are the calls on it
-abbrev sampled_cell : (Sampled → List Call) → Sampled → SeenCell
+abbrev pub sampled_cell : (Sampled → List Call) → Sampled → SeenCell
 sampled_cell calls s = record { calls = calls s; note = s.note }
 
 pub id_of_key-sampled : (calls : Sampled → List Call) (key : KeyText) (es : List (LiveSeries Sampled)) → id_of_key key (map (sampled_series calls) es) ≡ id_of_key key es

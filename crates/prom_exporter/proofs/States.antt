@@ -11,9 +11,8 @@ use Rattle.metrics_core.specs.Kinds.{kind_eq}
 use Rattle.metrics_core.proofs.KindTests.{kind_eq-refl}
 use Rattle.metrics_core.specs.Keys.{KeyText, key_eq}
 use Rattle.metrics_registry.specs.Live.{LiveSeries, RegistryText, has_id, has_key, id_of_key, cell_of, with_cell, IsBelowAll, Rises, AreOf}
-use Rattle.prom_exporter.specs.State.{Series, PrometheusState, live, with_live, no_series, live_series, number_given, register}
-use Rattle.metric_descriptions.specs.Descriptions.{DescribedText}
-use Rattle.prom_exporter.specs.Exporter.{with_said}
+use Rattle.prom_exporter.specs.State.{Series, PrometheusState, live, with_live, no_series, live_series, number_of, with_series}
+use Rattle.prom_exporter.specs.Exporter.{Exporter, with_rest}
 use Rattle.prom_exporter.specs.Values.{SeenCell, series_of, state_of}
 
 abbrev Cell : Type 0
@@ -81,51 +80,51 @@ module _ (kind : MetricKind) (key : KeyText) (registry : Registry) where
   number_found : option_map (λ (series : Series). series.number) (live_series kind key (state_of registry)) ≡ option_map (λ (id : SeriesId). id.number) (id_of_key key (of_kind kind registry))
   number_found = ap (λ es. option_map (λ (series : Series). series.number) (find (has_equal_key key) es)) (live_is kind registry) ∙ found_number key (of_kind kind registry)
 
-  some_found : is_some (live_series kind key (state_of registry)) ≡ is_some (id_of_key key (of_kind kind registry))
+  pub some_found : is_some (live_series kind key (state_of registry)) ≡ is_some (id_of_key key (of_kind kind registry))
   some_found = ap (λ es. is_some (find (has_equal_key key) es)) (live_is kind registry) ∙ found_some key (of_kind kind registry)
 
   -- a series with an equal key is live
-  pub register-live : (id : SeriesId) → id_of_key key (of_kind kind registry) ≡ Some id → register kind key (state_of registry) ≡ state_of registry
-  register-live id found = ap (λ b. cond b (state_of registry) (registered_else)) (some_found ∙ ap is_some found)
+  pub with_series-live : (id : SeriesId) → id_of_key key (of_kind kind registry) ≡ Some id → with_series kind key (state_of registry) ≡ state_of registry
+  with_series-live id found = ap (λ b. cond b (state_of registry) (registered_else)) (some_found ∙ ap is_some found)
     where
       registered_else : PrometheusState
       registered_else = cond (registry.made == no_series) (state_of registry) (record (with_live kind (live kind (state_of registry) ++ record { number = registry.made; key = key; calls = []; note = None } ∷ []) (state_of registry)) { made = registry.made + 1 })
 
-  pub id-live : (n : ℕ) (id : SeriesId) → AreOf kind n (of_kind kind registry) → id_of_key key (of_kind kind registry) ≡ Some id → id ≡ new_id kind (number_given kind key (state_of registry))
+  pub id-live : (n : ℕ) (id : SeriesId) → AreOf kind n (of_kind kind registry) → id_of_key key (of_kind kind registry) ≡ Some id → id ≡ new_id kind (number_of kind key (state_of registry))
   id-live n id are found =
-      let given : number_given kind key (state_of registry) ≡ id.number = ap (λ o. unwrap_or o registry.made) (number_found ∙ ap (option_map (λ (i : SeriesId). i.number)) found) in
+      let given : number_of kind key (state_of registry) ≡ id.number = ap (λ o. unwrap_or o registry.made) (number_found ∙ ap (option_map (λ (i : SeriesId). i.number)) found) in
       (λ j. new_id (kind_of_id kind n key (of_kind kind registry) id are found j) (sym given j))
 
   -- none is live
   pub live-none : id_of_key key (of_kind kind registry) ≡ None → live_series kind key (state_of registry) ≡ None
   live-none none = none_mapped (λ (series : Series). series.number) (live_series kind key (state_of registry)) (number_found ∙ ap (option_map (λ (i : SeriesId). i.number)) none)
 
-  pub number-new : id_of_key key (of_kind kind registry) ≡ None → number_given kind key (state_of registry) ≡ registry.made
+  pub number-new : id_of_key key (of_kind kind registry) ≡ None → number_of kind key (state_of registry) ≡ registry.made
   number-new none = ap (λ o. unwrap_or o registry.made) (number_found ∙ ap (option_map (λ (i : SeriesId). i.number)) none)
 
-  pub register-full : id_of_key key (of_kind kind registry) ≡ None → registry.made ≡ no_series → register kind key (state_of registry) ≡ state_of registry
-  register-full none full = rw (some_found, none, eq-eqb registry.made no_series full) refl
+  pub with_series-full : id_of_key key (of_kind kind registry) ≡ None → registry.made ≡ no_series → with_series kind key (state_of registry) ≡ state_of registry
+  with_series-full none full = rw (some_found, none, eq-eqb registry.made no_series full) refl
 
-  pub register-new : id_of_key key (of_kind kind registry) ≡ None → registry.made ≢ no_series
-      → register kind key (state_of registry) ≡ record (with_live kind (live kind (state_of registry) ++ series_of (new_series kind registry.made key) ∷ []) (state_of registry)) { made = registry.made + 1 }
-  register-new none room = rw (some_found, none, ne_eqb registry.made no_series room) refl
+  pub with_series-new : id_of_key key (of_kind kind registry) ≡ None → registry.made ≢ no_series
+      → with_series kind key (state_of registry) ≡ record (with_live kind (live kind (state_of registry) ++ series_of (new_series kind registry.made key) ∷ []) (state_of registry)) { made = registry.made + 1 }
+  with_series-new none room = rw (some_found, none, ne_eqb registry.made no_series room) refl
 
--- what is said of metrics has no part in registering
-register_said : (kind : MetricKind) (key : KeyText) (said : DescribedText) (s : PrometheusState) → with_said said (register kind key s) ≡ register kind key (with_said said s)
-register_said kind key said s = of_kind_said kind
+-- what else an exporter has takes no part in it
+with_series-rest : (kind : MetricKind) (key : KeyText) (e : Exporter) (s : PrometheusState) → with_rest e (with_series kind key s) ≡ with_series kind key (with_rest e s)
+with_series-rest kind key e s = of_kind_rest kind
   where
-    by : (b c : Bool) (new : PrometheusState) → with_said said (cond b s (cond c s new)) ≡ cond b (with_said said s) (cond c (with_said said s) (with_said said new))
+    by : (b c : Bool) (new : PrometheusState) → with_rest e (cond b s (cond c s new)) ≡ cond b (with_rest e s) (cond c (with_rest e s) (with_rest e new))
     by true c new = refl
     by false true new = refl
     by false false new = refl
 
-    of_kind_said : (k : MetricKind) → with_said said (register k key s) ≡ register k key (with_said said s)
-    of_kind_said kinds.Counter = by (is_some (live_series kinds.Counter key s)) (s.made == no_series) _
-    of_kind_said kinds.Gauge = by (is_some (live_series kinds.Gauge key s)) (s.made == no_series) _
-    of_kind_said kinds.Histogram = by (is_some (live_series kinds.Histogram key s)) (s.made == no_series) _
+    of_kind_rest : (k : MetricKind) → with_rest e (with_series k key s) ≡ with_series k key (with_rest e s)
+    of_kind_rest kinds.Counter = by (is_some (live_series kinds.Counter key s)) (s.made == no_series) _
+    of_kind_rest kinds.Gauge = by (is_some (live_series kinds.Gauge key s)) (s.made == no_series) _
+    of_kind_rest kinds.Histogram = by (is_some (live_series kinds.Histogram key s)) (s.made == no_series) _
 
-pub registered_said : (kind : MetricKind) (key : KeyText) (said : DescribedText) (old new : PrometheusState) → new ≡ register kind key old → with_said said new ≡ register kind key (with_said said old)
-registered_said kind key said old new is = ap (with_said said) is ∙ register_said kind key said old
+pub put_rest : (kind : MetricKind) (key : KeyText) (e : Exporter) (old new : PrometheusState) → new ≡ with_series kind key old → with_rest e new ≡ with_series kind key (with_rest e old)
+put_rest kind key e old new is = ap (with_rest e) is ∙ with_series-rest kind key e old
 
 -- ---- a cell that is put back
 

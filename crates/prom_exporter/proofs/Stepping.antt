@@ -209,6 +209,7 @@ module _ (moment : ℕ) (old drained counted gauged new : Exporter) (drains : Ke
     histograms = subst (λ (e : Exporter). AreCounted e.settings.idle moment e.series.histograms new.series.histograms) from_gauged histograms;
     made = ap (λ (e : Exporter). e.series.made) from_new;
     said = ap (λ (e : Exporter). e.said) from_new;
+    redirected = ap (λ (e : Exporter). e.redirected) from_new;
   }
 
 module _ (moment : ℕ) (old new : Exporter) (home : AllHome old) (steps : Steps moment old new) where
@@ -246,6 +247,8 @@ module _ (moment : ℕ) (old new : Exporter) (home : AllHome old) (steps : Steps
         made = steps.made j;
         published = (steps.said j).published;
         pending = (steps.said j).pending;
+        limit = (steps.settings j).series_limit;
+        redirected = steps.redirected j;
       })
 
   -- a page shows all of it: each sample is recorded

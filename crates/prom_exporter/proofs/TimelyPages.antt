@@ -22,7 +22,7 @@ use Rattle.histogram_series.specs.Entries.{TimedEntry, records_of, samples_of_en
 use Rattle.histogram_series.specs.Series.{recorded, recorded_samples, all_samples, entries, but_waiting}
 use Rattle.metrics_registry.specs.Recency.{Idle, note_left}
 use Rattle.prom_exporter.specs.State.{Series, PrometheusState, count_of_updates, kept_at, page_step}
-use Rattle.prom_exporter.specs.Families.{ExporterSettings, Windows, window_of, kept_window, IsInTime, HaveSameQuantiles, row_of, one_label, summary_rows, sum_and_count_rows, distribution_family, distribution_of, family_of, names_of_kind, families_by, families_at, families_written, counter_suffix, counter_rows, gauge_rows}
+use Rattle.prom_exporter.specs.Families.{ExporterSettings, Windows, window_of, kept_window, IsInTime, HaveSameQuantiles, row_of, one_label, summary_rows, sum_and_count_rows, distribution_family, distribution_of, family_of, names_of_kind, families_by, families_at, families_written, counter_suffix, counter_rows, gauge_rows, overflow_families}
 use Rattle.prom_format.specs.declared.families.FamilyType.TheVariants as types
 use Rattle.prom_exporter.specs.Sampled.{Sampled, IsTimely, calls_known, calls_recorded}
 use Rattle.prom_exporter.specs.Values.{series_of, sampled_series}
@@ -80,7 +80,8 @@ module _ (settings : ExporterSettings) (one other : Windows) (s : PrometheusStat
         ap (λ families.
         map (λ name. family_of settings s kinds.Counter name (counter_suffix settings) types.Counter (counter_rows settings s)) (names_of_kind kinds.Counter s)
         ++ map (λ name. family_of settings s kinds.Gauge name None types.Gauge (gauge_rows settings s)) (names_of_kind kinds.Gauge s)
-        ++ families) (distributions-same (names_of_kind kinds.Histogram s))
+        ++ families
+        ++ overflow_families s.redirected) (distributions-same (names_of_kind kinds.Histogram s))
 
 pub same_quantiles : (settings : ExporterSettings) (one other : Windows) (s : PrometheusState) → All (λ series. IsSummary settings series → HaveSameQuantiles (one series) (other series)) s.histograms
     → families_by settings one s ≡ families_by settings other s

@@ -1,7 +1,6 @@
 -- An exporter whose histograms change: what it keeps stays right.
 use Rattle.std.proofs.Common.{◌≡◌, ℕ, ◌+◌, ◌≤◌, List, [], ◌∷◌, ◌++◌, length, Option, Some, refl, sym, ap, subst, ◌∙◌}
 use Rattle.std.proofs.lemmas.List.Elements.{All-nil, All-cons, All-append}
-use Rattle.metric_descriptions.specs.Descriptions.{DescribedText}
 use Rattle.metrics_core.specs.Keys.{KeyText}
 use Rattle.metrics_core.specs.declared.kinds.SeriesId.{SeriesId}
 use Rattle.metrics_registry.specs.Live.{LiveSeries, cell_of, with_cell, IsNumbered}
@@ -89,6 +88,6 @@ module _ (settings : ExporterSettings) (distributions : DistributionRules) (old 
   }
 
 -- a new histogram is of the kind that follows from its name, by the settings that an exporter has
-pub made_by : (exporter : Exporter) (settings : ExporterSettings) (series : Cells) (said : DescribedText) (cell : Sampled) (name : List ℕ) → record { settings = settings; series = series; said = said } ≡ exporter
-    → cell ≡ unsampled (distribution_of exporter.settings name) cell.series.cell → cell ≡ unsampled (distribution_of settings name) cell.series.cell
-made_by exporter settings series said cell name is made = made ∙ ap (λ (e : Exporter). unsampled (distribution_of e.settings name) cell.series.cell) (sym is)
+pub made_by : (exporter old : Exporter) (cell : Sampled) (name : List ℕ) → old ≡ exporter
+    → cell ≡ unsampled (distribution_of exporter.settings name) cell.series.cell → cell ≡ unsampled (distribution_of old.settings name) cell.series.cell
+made_by exporter old cell name is made = made ∙ ap (λ (e : Exporter). unsampled (distribution_of e.settings name) cell.series.cell) (sym is)

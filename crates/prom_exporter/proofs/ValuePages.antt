@@ -12,10 +12,9 @@ use Rattle.prom_format.specs.Lines.{shown_label_set}
 use Rattle.prom_format.specs.declared.families.FamilyType.{FamilyType}
 use Rattle.prom_format.specs.declared.families.FamilyType.TheVariants as types
 use Rattle.prom_exporter.specs.State.{Series, PrometheusState}
-use Rattle.metric_descriptions.specs.Descriptions.{DescribedText}
-use Rattle.prom_exporter.specs.Families.{ExporterSettings, distinct, names_of_kind, counter_suffix, counter_rows, gauge_rows, distribution_of, distribution_family, kept_window}
+use Rattle.prom_exporter.specs.Families.{ExporterSettings, distinct, names_of_kind, counter_suffix, counter_rows, gauge_rows, distribution_of, distribution_family, kept_window, overflow_families}
 use Rattle.prom_exporter.specs.Families as pages
-use Rattle.prom_exporter.specs.Exporter.{with_said}
+use Rattle.prom_exporter.specs.Exporter.{Exporter, with_rest}
 use Rattle.prom_exporter.specs.Naming.{NamingText, help_in, shown_name}
 use Rattle.prom_exporter.specs.Sampled.{Sampled}
 use Rattle.prom_exporter.specs.Shared.{Shared}
@@ -70,14 +69,14 @@ row_of_series name e value labels = record { name = name; labels = labels; value
 one_row : {F : Type 0} (name : List ℕ) (globals : List LabelText) (e : LiveSeries (Shared F)) (value : ℤ) → row_of_series name e value (shown_label_set globals e.key.labels ++ []) ≡ row_of_series name e value (shown_label_set globals e.key.labels)
 one_row name globals e value = ap (row_of_series name e value) (append-nil (shown_label_set globals e.key.labels))
 
-module _ {C G : Type 0} (settings : ExporterSettings) (t : ℕ) (said : DescribedText) (registry : RegistryText (Shared C) (Shared G) Sampled) where
+module _ {C G : Type 0} (settings : ExporterSettings) (t : ℕ) (exporter : Exporter) (registry : RegistryText (Shared C) (Shared G) Sampled) where
   -- the state as far as a page shows it
   abbrev pub shown_state : PrometheusState
-  shown_state = with_said said (state_recorded registry)
+  shown_state = with_rest exporter (state_recorded registry)
 
   -- what names follow from
   abbrev pub naming_of : NamingText
-  naming_of = record { units = settings.units; published = said.published }
+  naming_of = record { units = settings.units; published = exporter.said.published }
 
   abbrev pub counter_families : List Family
   counter_families = value_families naming_of (counter_suffix settings) types.Counter counter_shown settings.globals registry.counters
@@ -89,18 +88,22 @@ module _ {C G : Type 0} (settings : ExporterSettings) (t : ℕ) (said : Describe
   abbrev pub sampled_families : List Family
   sampled_families = filter_map (λ n. distribution_family settings shown_state (kept_window settings t) n (distribution_of settings n)) (names_of_kind kinds.Histogram shown_state)
 
-  families_are : pages.families_written settings t shown_state ≡ (counter_families ++ gauge_families) ++ sampled_families
+  families_are : pages.families_written settings t shown_state ≡ ((counter_families ++ gauge_families) ++ sampled_families) ++ overflow_families exporter.redirected
   families_are =
       (λ j.
       families_of_kind naming_of (counter_suffix settings) counter_shown settings.globals (counter_rows settings shown_state)
       (λ e. one_row (shown_name naming_of (counter_suffix settings) (metric_name (member_of e))) settings.globals e (counter_shown e.cell)) types.Counter registry.counters j
       ++ families_of_kind naming_of None gauge_shown settings.globals (gauge_rows settings shown_state)
       (λ e. one_row (shown_name naming_of None (metric_name (member_of e))) settings.globals e (gauge_shown e.cell)) types.Gauge registry.gauges j
-      ++ sampled_families)
+      ++ sampled_families
+      ++ overflow_families exporter.redirected)
 
-  -- the body of the page is the text of the groups, and that of the distributions
-  pub body-values : body_text (pages.families_written settings t shown_state) ≡ (body_text counter_families ++ body_text gauge_families) ++ body_text sampled_families
+  -- the body of the page is the text of the groups, that of the distributions, and that of what was redirected
+  pub body-values : body_text (pages.families_written settings t shown_state)
+      ≡ ((body_text counter_families ++ body_text gauge_families) ++ body_text sampled_families) ++ body_text (overflow_families exporter.redirected)
   body-values =
       ap body_text families_are
-      ∙ flat_map-append block_text (counter_families ++ gauge_families) sampled_families
-      ∙ ap (λ l. l ++ body_text sampled_families) (flat_map-append block_text counter_families gauge_families)
+      ∙ flat_map-append block_text ((counter_families ++ gauge_families) ++ sampled_families) (overflow_families exporter.redirected)
+      ∙ ap (λ l. l ++ body_text (overflow_families exporter.redirected))
+      (flat_map-append block_text (counter_families ++ gauge_families) sampled_families
+      ∙ ap (λ l. l ++ body_text sampled_families) (flat_map-append block_text counter_families gauge_families))

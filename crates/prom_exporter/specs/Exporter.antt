@@ -1,6 +1,7 @@
 -- An exporter as its contracts see it: what it was built with, its live series with their cells, and what is said of metrics.
 use Rattle.std.specs.Prelude.{◌≡◌, ℕ, ◌+◌, List, [], ◌∷◌, ◌++◌, map, pos, Option, None, false, Some, All}
 use Rattle.metrics_core.specs.Keys.{LabelText, KeyText}
+use Rattle.metrics_core.specs.declared.kinds.MetricKind.{MetricKind}
 use Rattle.metrics_core.specs.declared.kinds.MetricKind.TheVariants as kinds
 use Rattle.metrics_core.specs.declared.kinds.SeriesId.{SeriesId}
 use Rattle.metrics_registry.specs.Live.{RegistryText, cell_of, with_cell}
@@ -10,6 +11,7 @@ use Rattle.histogram_series.specs.Entries.{TimedQueue}
 use Rattle.prom_format.specs.Names.{sanitized_metric_name}
 use Rattle.prom_format.specs.Pages.{Family, body_text}
 use Rattle.metric_descriptions.specs.Descriptions.{DescribedText}
+use Rattle.name_counts.specs.Counts.{NameCount}
 use Rattle.prom_exporter.specs.State.{PrometheusState, page_step}
 use Rattle.prom_exporter.specs.Families.{ExporterSettings, families_at, families_written, distribution_of}
 use Rattle.prom_exporter.specs.Shared.{Shared, IsHome, unused}
@@ -31,22 +33,28 @@ pub record Exporter : Type 0 where
   pub settings : ExporterSettings
   pub series : Cells
   pub said : DescribedText
+  pub redirected : List NameCount  -- how often registrations were, by kind and metric name
 
 -- no series
 abbrev pub no_cells : Cells
 no_cells = record { counters = []; gauges = []; histograms = []; made = 0 }
 
--- a state with what is said of metrics
-abbrev pub with_said : DescribedText → PrometheusState → PrometheusState
-with_said said s = record s { published = said.published; pending = said.pending }
+-- the state of an exporter whose series are these
+abbrev pub with_rest : Exporter → PrometheusState → PrometheusState
+with_rest exporter s = record s {
+  published = exporter.said.published;
+  pending = exporter.said.pending;
+  limit = exporter.settings.series_limit;
+  redirected = exporter.redirected;
+}
 
 -- the sequential state that the exporter has seen
 abbrev pub state_of : Exporter → PrometheusState
-state_of exporter = with_said exporter.said (state_seen exporter.series)
+state_of exporter = with_rest exporter (state_seen exporter.series)
 
 -- the same as far as a page shows it, which has the samples that are recorded
 abbrev pub state_shown : Exporter → PrometheusState
-state_shown exporter = with_said exporter.said (state_recorded exporter.series)
+state_shown exporter = with_rest exporter (state_recorded exporter.series)
 
 -- the settings of a new builder: quantiles 0, 0.5, 0.9, 0.95, 0.99, 0.999 and 1, three buckets of 20 seconds
 abbrev pub default_settings : ExporterSettings
@@ -58,6 +66,7 @@ default_settings = record {
   bucket_count = 3;
   bucket_duration = 20000000000;
   idle = None;
+  series_limit = None;
   units = false;
   total_suffix = false;
   globals = [];
@@ -80,32 +89,32 @@ AllHome exporter =
 abbrev pub AreTimely : ℕ → Exporter → Type 0
 AreTimely moment exporter = All (λ series. IsTimely moment series.cell) exporter.series.histograms
 
--- a new counter goes last, a new gauge, and a new histogram, whose kind follows from its name: its cell is one that nobody has called
+-- a new counter with this key goes last among the series, a new gauge, and a new histogram, whose kind follows from its name: its cell is one that nobody has called
 abbrev pub AddsCounter : KeyText → Exporter → Exporter → Type 0
-AddsCounter key old new = (cell : Option PromCounter) × (new ≡ record old {
-  series = record old.series {
-    counters = old.series.counters ++ record { id = record { kind = kinds.Counter; number = old.series.made }; key = key; cell = unused cell } ∷ [];
-    made = old.series.made + 1;
-  };
+AddsCounter key old new = (cell : Option PromCounter) × (new.series ≡ record old.series {
+  counters = old.series.counters ++ record { id = record { kind = kinds.Counter; number = old.series.made }; key = key; cell = unused cell } ∷ [];
+  made = old.series.made + 1;
 })
 
 abbrev pub AddsGauge : KeyText → Exporter → Exporter → Type 0
-AddsGauge key old new = (cell : Option PromGauge) × (new ≡ record old {
-  series = record old.series {
-    gauges = old.series.gauges ++ record { id = record { kind = kinds.Gauge; number = old.series.made }; key = key; cell = unused cell } ∷ [];
-    made = old.series.made + 1;
-  };
+AddsGauge key old new = (cell : Option PromGauge) × (new.series ≡ record old.series {
+  gauges = old.series.gauges ++ record { id = record { kind = kinds.Gauge; number = old.series.made }; key = key; cell = unused cell } ∷ [];
+  made = old.series.made + 1;
 })
 
 abbrev pub AddsHistogram : KeyText → Exporter → Exporter → Type 0
-AddsHistogram key old new = (queue : TimedQueue) × (new ≡ record old {
-  series = record old.series {
-    histograms =
-        old.series.histograms
-        ++ record { id = record { kind = kinds.Histogram; number = old.series.made }; key = key; cell = unsampled (distribution_of old.settings (sanitized_metric_name key.name)) queue } ∷ [];
-    made = old.series.made + 1;
-  };
+AddsHistogram key old new = (queue : TimedQueue) × (new.series ≡ record old.series {
+  histograms =
+      old.series.histograms
+      ++ record { id = record { kind = kinds.Histogram; number = old.series.made }; key = key; cell = unsampled (distribution_of old.settings (sanitized_metric_name key.name)) queue } ∷ [];
+  made = old.series.made + 1;
 })
+
+-- the same of a series of a kind
+abbrev pub AddsSeries : MetricKind → KeyText → Exporter → Exporter → Type 0
+AddsSeries kinds.Counter = AddsCounter
+AddsSeries kinds.Gauge = AddsGauge
+AddsSeries kinds.Histogram = AddsHistogram
 
 -- the counter with the id is live and changes so, a gauge, and a histogram; nothing else does
 abbrev pub ChangesCounter : SeriesId → (SharedCounter → SharedCounter → Type 0) → Exporter → Exporter → Type 0

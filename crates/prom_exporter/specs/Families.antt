@@ -3,11 +3,12 @@ use Rattle.std.specs.Prelude.{◌≡◌, ℕ, Bool, not, List, [], ◌∷◌, �
 use Rattle.metrics_core.specs.declared.kinds.MetricKind.{MetricKind}
 use Rattle.metrics_core.specs.declared.kinds.MetricKind.TheVariants as kinds
 use Rattle.metrics_core.specs.declared.units.Unit.{Unit as UnitOf}
+use Rattle.metrics_core.specs.Kinds.{kind_text}
 use Rattle.metrics_core.specs.Numbers.{page_number, whole}
 use Rattle.metrics_core.specs.Keys.{LabelText}
 use Rattle.metrics_core.specs.Calls.{Call, Record, counter_value, gauge_value, samples}
 use Rattle.prom_format.specs.Names.{sanitized_metric_name, full_name}
-use Rattle.prom_format.specs.Printed.{canonical_description}
+use Rattle.prom_format.specs.Printed.{canonical_description, canonical_label_value}
 use Rattle.prom_format.specs.Lines.{shown_label_set}
 use Rattle.prom_format.specs.Pages.{Row, Family}
 use Rattle.prom_format.specs.Matchers.{MatcherText}
@@ -22,6 +23,7 @@ use Rattle.rolling_summaries.specs.Window.{timed_samples, window}
 use Rattle.rolling_summaries.specs.Summaries.{empty_summary, snapshot_at}
 use Rattle.rolling_summaries.specs.Standing.{Addition, added_all, NeverFall, NoneAfter}
 use Rattle.native_histograms.specs.Native.{NativeText}
+use Rattle.name_counts.specs.Counts.{NameCount}
 use Rattle.distributions.specs.Kinds.{DistributionKind, NativeHistogram, Histogram, Summary, DistributionRules, kind_for}
 
 -- what the exporter was built with
@@ -33,6 +35,7 @@ pub record ExporterSettings : Type 0 where
   pub bucket_count : ℕ
   pub bucket_duration : ℕ
   pub idle : Option Idle
+  pub series_limit : Option ℕ
   pub units : Bool
   pub total_suffix : Bool
   pub globals : List LabelText
@@ -168,12 +171,29 @@ distribution_family settings s windows name (Histogram bounds) =
 distribution_family settings s windows name (Summary summary) =
     Some (family_of settings s kinds.Histogram name None types.Summary (summary_rows settings s windows))
 
--- counters, then gauges, then distributions, each by metric name, where this is answered of windows
+-- how often registrations were redirected: a row for each kind and metric name, which is shown as label values are, without global labels
+abbrev pub overflow_name : List ℕ
+overflow_name = codes "series_overflow"
+
+abbrev pub overflow_row : NameCount → Row
+overflow_row redirected = record {
+  name = overflow_name;
+  labels = record { key = codes "metric"; value = canonical_label_value redirected.name } ∷ record { key = codes "kind"; value = kind_text redirected.kind } ∷ [];
+  value = whole redirected.count;
+}
+
+-- the family of these rows, where there are any
+abbrev pub overflow_families : List NameCount → List Family
+overflow_families [] = []
+overflow_families (first ∷ others) = record { help = None; name = overflow_name; type = types.Counter; rows = map overflow_row (first ∷ others) } ∷ []
+
+-- counters, then gauges, then distributions, each by metric name, where this is answered of windows, and what was redirected
 abbrev pub families_by : ExporterSettings → Windows → PrometheusState → List Family
 families_by settings windows s =
     map (λ name. family_of settings s kinds.Counter name (counter_suffix settings) types.Counter (counter_rows settings s)) (names_of_kind kinds.Counter s)
     ++ map (λ name. family_of settings s kinds.Gauge name None types.Gauge (gauge_rows settings s)) (names_of_kind kinds.Gauge s)
     ++ filter_map (λ name. distribution_family settings s windows name (distribution_of settings name)) (names_of_kind kinds.Histogram s)
+    ++ overflow_families s.redirected
 
 -- the families at a moment
 abbrev pub families_at : ExporterSettings → ℕ → PrometheusState → List Family

@@ -1,4 +1,4 @@
--- Calls whose values have the bits of the program's numbers.
+-- Calls whose values, and counts of redirections that, have the bits of the program's numbers.
 use Rattle.std.specs.Prelude.{List, ◌^◌, ◌<◌, ⊤, FitsSigned, All}
 use Rattle.std.specs.Int.{w64}
 use Rattle.metrics_core.specs.Calls.{Call, Absolute, Add, Subtract, Set, Record}
@@ -13,9 +13,11 @@ HasFixedValue (Set v) = FitsSigned w64 v
 HasFixedValue (Record v moment n) = FitsSigned w64 v
 HasFixedValue _ = ⊤
 
--- so of each call on a live series
+-- so of each call on a live series, and of each count of redirections
 abbrev pub HaveFixedCalls : List Series → Type 0
 HaveFixedCalls all = All (λ series. All HasFixedValue series.calls) all
 
 abbrev pub IsFixed : PrometheusState → Type 0
-IsFixed s = HaveFixedCalls s.counters × HaveFixedCalls s.gauges × HaveFixedCalls s.histograms
+IsFixed s =
+    HaveFixedCalls s.counters × HaveFixedCalls s.gauges × HaveFixedCalls s.histograms
+    × All (λ redirected. redirected.count < 2 ^ 64) s.redirected

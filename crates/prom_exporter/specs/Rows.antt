@@ -1,5 +1,5 @@
 -- What is kept of series for the rows of pages: of each its printed label set, and the places of the series of each family.
-use Rattle.std.specs.Prelude.{◌≡◌, ℕ, List, [], ◌++◌, map, flat_map, slice_get, ℤ, Option, Some, None, true, bytes_eq, codes, string_bytes}
+use Rattle.std.specs.Prelude.{◌≡◌, ℕ, List, [], ◌++◌, map, filter, flat_map, slice_get, ℤ, Option, Some, None, true, bytes_eq, codes, string_bytes}
 use Rattle.std.specs.List.{enumerate_from}
 use Rattle.std.specs.declared.string.String.{String}
 use Rattle.std.specs.declared.vec.Vec.{Vec}
@@ -13,6 +13,7 @@ use Rattle.prom_format.specs.Lines.{shown_label_set}
 use Rattle.prom_format.specs.Pages.{label_set_text, type_text}
 use Rattle.prom_format.specs.declared.families.FamilyType.{FamilyType}
 use Rattle.prom_exporter.specs.Naming.{NamingText, shown_name, title_text}
+use Rattle.prom_exporter.specs.State.{metric_name_of}
 use Rattle.prom_exporter.specs.Values.{grouped}
 
 -- of each series its label set, as it is printed, and of each family its metric name and the places of its series
@@ -38,6 +39,10 @@ rows_of globals keys = record {
   label_sets = map (label_set_of globals) keys;
   families = map places_of (grouped name_at (enumerate_from 0 keys));
 }
+
+-- those of some keys that have a metric name
+abbrev pub keys_named : List ℕ → List KeyText → List KeyText
+keys_named name keys = filter (λ key. bytes_eq (metric_name_of key) name) keys
 
 abbrev pub keys_of : {X : Type 0} → List (LiveSeries X) → List KeyText
 keys_of live = map (λ series. series.key) live

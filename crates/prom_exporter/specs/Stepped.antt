@@ -93,3 +93,4 @@ pub record Steps (moment : ℕ) (old new : Exporter) : Type 0 where
   pub histograms : AreCounted old.settings.idle moment drained new.series.histograms
   pub made : new.series.made ≡ old.series.made
   pub said : new.said ≡ publish old.said
+  pub redirected : new.redirected ≡ old.redirected

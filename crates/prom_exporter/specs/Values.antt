@@ -1,5 +1,5 @@
 -- Series as the exporter keeps them, and the state and the families that they make.
-use Rattle.std.specs.Prelude.{ℕ, List, [], ◌∷◌, ◌++◌, map, filter, ℤ, Option, bytes_eq, if◌then◌else◌}
+use Rattle.std.specs.Prelude.{ℕ, List, [], ◌∷◌, ◌++◌, map, filter, ℤ, Option, None, bytes_eq, if◌then◌else◌}
 use Rattle.metrics_core.specs.Numbers.{whole}
 use Rattle.metrics_core.specs.Keys.{KeyText, LabelText}
 use Rattle.metrics_core.specs.Calls.{Call, counter_value, gauge_value}
@@ -25,7 +25,7 @@ pub record SeenCell : Type 0 where
 abbrev pub series_of : LiveSeries SeenCell → Series
 series_of series = record { number = series.id.number; key = series.key; calls = series.cell.calls; note = series.cell.note }
 
--- the state of a registry, as if nothing were described
+-- the state of a registry, as if nothing were described and nothing limited
 abbrev pub state_of : RegistryText SeenCell SeenCell SeenCell → PrometheusState
 state_of registry = record {
   counters = map series_of registry.counters;
@@ -34,6 +34,8 @@ state_of registry = record {
   made = registry.made;
   published = [];
   pending = [];
+  limit = None;
+  redirected = [];
 }
 
 -- the series of shared cells, each with the calls that the exporter has seen

@@ -1,5 +1,5 @@
 -- Worked examples, computed.
-use Rattle.std.specs.Prelude.{◌≡◌, ℕ, ◌*◌, pos, codes, refl, List, [], ◌∷◌, true, false, Some, None}
+use Rattle.std.specs.Prelude.{◌≡◌, ℕ, ◌*◌, pos, codes, refl, List, [], ◌∷◌, map, true, false, Some, None}
 use Rattle.std.specs.Fmt.{digits}
 use Rattle.std.specs.Str.{chars}
 use Rattle.metrics_core.specs.declared.kinds.MetricKind.TheVariants as kinds
@@ -8,7 +8,7 @@ use Rattle.metrics_core.specs.Numbers.{whole}
 use Rattle.metrics_core.specs.Keys.{LabelText, KeyText}
 use Rattle.metrics_core.specs.Calls.{Increment, Record}
 use Rattle.prom_format.specs.Pages.{page_text}
-use Rattle.prom_exporter.specs.State.{PrometheusState, empty_state, register, describe, call_on, page_step}
+use Rattle.prom_exporter.specs.State.{PrometheusState, state_with, empty_state, overflow_key, number_given, register, describe, call_on, page_step}
 use Rattle.prom_exporter.specs.Families.{ExporterSettings, families_at}
 use Rattle.prom_exporter.specs.Exporter.{default_settings, body_shown}
 
@@ -16,7 +16,7 @@ abbrev seconds : ℕ → ℕ
 seconds n = n * 1000000000
 
 abbrev plain : ExporterSettings
-plain = record { quantiles = pos 500000000 ∷ []; buckets = None; buckets_for = []; native_for = []; bucket_count = 3; bucket_duration = 20000000000; idle = None; units = false; total_suffix = false; globals = [] }
+plain = record { quantiles = pos 500000000 ∷ []; buckets = None; buckets_for = []; native_for = []; bucket_count = 3; bucket_duration = 20000000000; idle = None; series_limit = None; units = false; total_suffix = false; globals = [] }
 
 abbrev label : List ℕ → List ℕ → LabelText
 label k v = record { key = k; value = v }
@@ -100,6 +100,62 @@ idle_removed = refl
 pub idle_stays_removed : page_of idle_change 7 (call_on kinds.Counter 0 (Increment 1) c6) ≡ codes "# EOF\n"
 unfolding digits chars
 idle_stays_removed = refl
+
+-- ---- a limit of one series
+
+abbrev keyed : List ℕ → KeyText
+keyed value = key (codes "c") (label (codes "a") value ∷ [])
+
+abbrev counter : KeyText → PrometheusState → PrometheusState
+counter = register kinds.Counter
+
+-- one, two and three keys of one metric name
+abbrev one_key : PrometheusState
+one_key = counter (keyed (codes "1")) (state_with (Some 1))
+
+abbrev two_keys : PrometheusState
+two_keys = counter (keyed (codes "2")) one_key
+
+abbrev three_keys : PrometheusState
+three_keys = counter (keyed (codes "3")) two_keys
+
+-- the first is made
+pub first_is_made : one_key.redirected ≡ []
+unfolding chars
+first_is_made = refl
+
+-- the second goes to the overflow series, which is made then
+pub second_overflows : map (λ series. series.key) two_keys.counters ≡ keyed (codes "1") ∷ overflow_key (codes "c") ∷ []
+unfolding chars
+second_overflows = refl
+
+pub second_is_counted : two_keys.redirected ≡ record { kind = kinds.Counter; name = codes "c"; count = 1 } ∷ []
+unfolding chars
+second_is_counted = refl
+
+-- the third gets the same number, and makes no series
+pub third_overflows : number_given kinds.Counter (keyed (codes "3")) two_keys ≡ number_given kinds.Counter (keyed (codes "2")) one_key
+unfolding chars
+third_overflows = refl
+
+pub third_is_counted : three_keys ≡ record two_keys { redirected = record { kind = kinds.Counter; name = codes "c"; count = 2 } ∷ [] }
+unfolding chars
+third_is_counted = refl
+
+-- a key that is live is given as ever
+pub first_stays : counter (keyed (codes "1")) three_keys ≡ three_keys
+unfolding chars
+first_stays = refl
+
+-- series of another metric name are made
+pub others_are_made : (counter (key (codes "d") []) three_keys).redirected ≡ three_keys.redirected
+unfolding chars
+others_are_made = refl
+
+pub overflow_page : page_of plain 0 (call_on kinds.Counter 1 (Increment 7) three_keys)
+    ≡ codes "# TYPE c counter\nc{a=\"1\"} 0\nc{overflow=\"true\"} 7\n\n# TYPE series_overflow counter\nseries_overflow{metric=\"c\",kind=\"counter\"} 2\n\n# EOF\n"
+unfolding digits chars
+overflow_page = refl
 
 -- one counter, `basic_counter`, incremented by 42
 abbrev pub basic : PrometheusState

@@ -9,6 +9,7 @@ use crate::BuildError;
 use crate::distribution_pages::write_distributions;
 use crate::naming::Naming;
 use crate::pages::write_families;
+use crate::redirections::push_redirections;
 use crate::state::PrometheusState;
 use metrics_core::{Sink, write_whole};
 use prom_format::FamilyType;
@@ -71,6 +72,7 @@ impl PrometheusState {
         )?;
         let (kinds, rows) = (&self.distributions, &self.histogram_rows);
         write_distributions(&naming, kinds, moment, rows, &histograms, &mut buffer, sink)?;
+        push_redirections(&self.redirections, &mut buffer)?;
         write_whole(sink, buffer.as_bytes())?;
         Ok(())
     }

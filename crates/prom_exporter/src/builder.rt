@@ -273,6 +273,17 @@ impl PrometheusBuilder {
         self
     }
 
+    /// Sets how many series of one kind and metric name are made at most. A registration past that is redirected to one overflow
+    /// series of its kind and metric name, whose key has that name and the one label `overflow="true"`, and which doesn't count; pages
+    /// then show how often.
+    pub fn series_limit(mut self, limit: NonZeroU32) -> PrometheusBuilder
+        ensures { result ≡ record self
+            { settings = record self.settings { series_limit = Some (non_zero_u32_get limit) } } }
+    {
+        self.settings.set_series_limit(limit);
+        self
+    }
+
     /// A label that each series has, unless its key has one with the same label key. Of equal label keys the last value
     /// counts, in the place of the first.
     pub fn add_global_label(
@@ -296,8 +307,12 @@ impl PrometheusBuilder {
     /// are longer than 64 bits of nanoseconds.
     pub fn build_state(self, alloc: Global) -> Result<PrometheusState, BuildError>
         ensures built { IfOk result (λ exporter.
-            exporter ≡ record
-            { settings = self.settings; series = no_cells; said = nothing_described }) }
+            exporter ≡ record {
+              settings = self.settings;
+              series = no_cells;
+              said = nothing_described;
+              redirected = [];
+            }) }
         ensures too_long { SpanIsTooLong self.settings → result ≡ Err BuildError.SpanTooLong }
         ensures refused { (SpanIsTooLong self.settings → ⊥)
             → OnErr result (result ≡ Err BuildError.Memory) }

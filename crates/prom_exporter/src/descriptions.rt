@@ -7,7 +7,7 @@ ghost use Rattle.metrics_core.specs.Texts.{cow_text};
 ghost use Rattle.metric_descriptions.specs.Written.{IsToldOf, Text};
 ghost use Rattle.prom_exporter.specs.State.{describe, publish};
 ghost use Rattle.prom_exporter.specs.Stepped.{DrainsEach, DrainsInPart, KeepsUp};
-ghost use Rattle.prom_exporter.specs.Exporter.{state_of, with_said, AllHome, AreTimely};
+ghost use Rattle.prom_exporter.specs.Exporter.{state_of, AllHome, AreTimely};
 
 use crate::state::PrometheusState;
 use evmap_contents::KeyClone;
@@ -134,6 +134,7 @@ impl PrometheusState {
             gauge_rows: _,
             histogram_rows: _,
             descriptions,
+            redirections: _,
         } = self;
         descriptions.end(rt);
     }
@@ -150,11 +151,13 @@ impl PrometheusState {
             gauge_rows,
             histogram_rows,
             descriptions,
+            redirections,
         } = self;
         mem::forget(series);
         mem::forget(counter_rows);
         mem::forget(gauge_rows);
         mem::forget(histogram_rows);
+        mem::forget(redirections);
         descriptions.end(rt);
     }
 }

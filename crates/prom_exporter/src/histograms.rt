@@ -6,7 +6,7 @@ ghost use Rattle.distributions.specs.Recording.{StandsFor};
 ghost use Rattle.prom_format.specs.Names.{sanitized_metric_name};
 ghost use Rattle.sample_queue.specs.Passes.{view_of};
 ghost use Rattle.histogram_series.specs.Series.{with_one_back};
-ghost use Rattle.prom_exporter.specs.State.{register, live_series, number_given};
+ghost use Rattle.prom_exporter.specs.State.{register, live_series, key_given, number_given, with_series, number_of};
 ghost use Rattle.prom_exporter.specs.Stepped.{AreCounted, DrainsEach, DrainsInPart, DrainsWhole, IsCounted};
 ghost use Rattle.prom_exporter.specs.Families.{distribution_of};
 ghost use Rattle.prom_exporter.specs.Sampled.{unsampled};
@@ -25,13 +25,12 @@ use std::alloc::Global;
 use std::sync::Wait;
 
 impl PrometheusState {
-    /// Registers a histogram. Where one with an equal key is live its id is given, no memory is taken, and nothing changes;
-    /// otherwise a new one of no samples goes last. Past 2^64 - 1 series none is made, and the id names none.
+    /// Registers a histogram, as `register_counter` does a counter: a new one has no samples, and a key that is live takes no memory.
     pub fn register_histogram(&mut self, alloc: Global, key: &Key) -> Result<SeriesId, Memory>
         ensures registered { OnOk result (state_of self.new ≡ register Histogram key.now
             (state_of self.old)) }
-        ensures cells { OnOk result ((self.new ≡ self.old)
-            ⊎ AddsHistogram key.now self.old self.new) }
+        ensures cells { OnOk result ((self.new.series ≡ self.old.series)
+            ⊎ AddsHistogram (key_given Histogram key.now (state_of self.old)) self.old self.new) }
         ensures home { AllHome self.old → AllHome self.new }
         ensures settings { self.new.settings ≡ self.old.settings }
         ensures id { IfOk result (λ id.
@@ -51,12 +50,13 @@ impl PrometheusState {
         self.register_owned_histogram(alloc, key.clone(alloc)?)
     }
 
-    /// Registers a histogram as `register_histogram` does, under a key that the exporter then keeps: it is not copied. A key that
-    /// is live takes no memory.
+    /// Registers a histogram as `register_histogram` does, under a key that the exporter then keeps, where it isn't redirected: it is not
+    /// copied. A key that is live takes no memory.
     pub fn register_owned_histogram(&mut self, alloc: Global, key: Key) -> Result<SeriesId, Memory>
         ensures registered { OnOk result (state_of self.new ≡ register Histogram key
             (state_of self.old)) }
-        ensures cells { OnOk result ((self.new ≡ self.old) ⊎ AddsHistogram key self.old self.new) }
+        ensures cells { OnOk result ((self.new.series ≡ self.old.series)
+            ⊎ AddsHistogram (key_given Histogram key (state_of self.old)) self.old self.new) }
         ensures home { AllHome self.old → AllHome self.new }
         ensures settings { self.new.settings ≡ self.old.settings }
         ensures id { IfOk result (λ id.
@@ -65,6 +65,25 @@ impl PrometheusState {
               number = number_given Histogram key
                   (state_of self.old);
             }) }
+        ensures absent { OnErr result (live_series Histogram key (state_of self.old) ≡ None) }
+        ensures refused { OnErr result (self.new ≡ self.old) }
+    {
+        match self.redirected_to(alloc, MetricKind::Histogram, &key)? {
+            Some(name) => self.redirect(alloc, MetricKind::Histogram, name),
+            None => self.put_histogram(alloc, key),
+        }
+    }
+
+    /// Makes sure that a histogram with a key is live: where none is, a new one goes last, or past 2^64 - 1 series none.
+    pub(crate) fn put_histogram(&mut self, alloc: Global, key: Key) -> Result<SeriesId, Memory>
+        ensures registered { OnOk result (state_of self.new ≡ with_series Histogram key
+            (state_of self.old)) }
+        ensures cells { OnOk result ((self.new.series ≡ self.old.series)
+            ⊎ AddsHistogram key self.old self.new) }
+        ensures home { AllHome self.old → AllHome self.new }
+        ensures settings { self.new.settings ≡ self.old.settings }
+        ensures id { IfOk result (λ id.
+            id ≡ record { kind = Histogram; number = number_of Histogram key (state_of self.old) }) }
         ensures absent { OnErr result (live_series Histogram key (state_of self.old) ≡ None) }
         ensures refused { OnErr result (self.new ≡ self.old) }
     {

@@ -1,12 +1,14 @@
 //! Laws of pages and worked examples of them, each the contract of a function that does nothing.
 
-ghost use Rattle.std.specs.Prelude.{◌≡◌, ℕ, List, All};
+ghost use Rattle.std.specs.Prelude.{◌≡◌, ℕ, List, All, None};
 ghost use mathlib.Core.List.{IsPrefix};
 ghost use Rattle.legal_history.specs.declared.history.View.{View};
 ghost use Rattle.legal_history.specs.History.{calls_by};
 ghost use Rattle.metrics_core.specs.declared.calls.SeriesCall.{SeriesCall};
+ghost use Rattle.metrics_core.specs.declared.kinds.MetricKind.{MetricKind};
+ghost use Rattle.metrics_core.specs.Keys.{KeyText};
 ghost use Rattle.prom_format.specs.Pages.{Family, IsPage, AreInRange, page_text};
-ghost use Rattle.prom_exporter.specs.State.{PrometheusState, Series};
+ghost use Rattle.prom_exporter.specs.State.{PrometheusState, Series, register, number_given, with_series, number_of};
 ghost use Rattle.prom_exporter.specs.Families.{ExporterSettings, Windows, window_of, kept_window, IsInTime, HaveSameQuantiles, families_by, families_at, families_written};
 ghost use Rattle.prom_exporter.specs.Ranges.{IsFixed};
 ghost use Rattle.prom_exporter.specs.Summaries.{IsSummary, AreSummariesTimely};
@@ -21,7 +23,8 @@ pub fn pages_are_read()
         → IsPage (page_text (families_by settings windows s)) (families_by settings windows s) }
 {}
 
-/// The values of the families of a state have 128 bits, where those of its calls have 64. So its page has one reading.
+/// The values of the families of a state have 128 bits, where those of its calls and its counts of redirections have 64. So its page
+/// has one reading.
 pub fn pages_have_one_reading()
     ensures in_range { (settings : ExporterSettings) (t : ℕ) (s : PrometheusState) → IsFixed s
         → AreInRange (families_at settings t s) }
@@ -58,6 +61,14 @@ pub fn timely_pages_show_their_samples()
 /// The body of the page of one counter, `basic_counter` at 42, is its type line, its row and an empty line.
 pub fn basic_page()
     ensures { BasicPage }
+{}
+
+/// Where no limit is set, registering a key only makes sure that its series is there.
+pub fn no_limit_redirects_nothing()
+    ensures registers { (kind : MetricKind) (key : KeyText) (s : PrometheusState) → s.limit ≡ None
+        → register kind key s ≡ with_series kind key s }
+    ensures numbers { (kind : MetricKind) (key : KeyText) (s : PrometheusState) → s.limit ≡ None
+        → number_given kind key s ≡ number_of kind key s }
 {}
 
 /// Looking on forgets nothing: what the exporter had seen of a cell is a beginning of what it sees then.

@@ -24,8 +24,10 @@ mod laws;
 mod lent;
 mod naming;
 mod natives;
+mod overflow;
 mod pages;
 mod printed;
+mod redirections;
 mod rows;
 mod sampled;
 mod settings;
@@ -39,6 +41,9 @@ pub use lane_laws::{
     an_id_has_one_index, an_index_is_of_one_kind, series_have_their_indices,
 };
 pub use lanes::{LanePass, SeriesCell, SeriesEntry};
-pub use laws::{basic_page, given_back_is_seen, looking_forgets_nothing, pages_are_read};
+pub use laws::{
+    basic_page, given_back_is_seen, looking_forgets_nothing, no_limit_redirects_nothing,
+    pages_are_read,
+};
 pub use lent::Lent;
 pub use state::PrometheusState;

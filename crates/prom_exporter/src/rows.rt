@@ -5,7 +5,7 @@ ghost use Rattle.std.specs.Prelude.{◌≡◌, ◌<◌, ◌++◌, [], ◌∷◌,
 ghost use Rattle.metrics_core.specs.Keys.{KeyText};
 ghost use Rattle.prom_format.specs.LabelSets.{labels_of};
 ghost use Rattle.prom_exporter.specs.Kept.{KeepsFirst};
-ghost use Rattle.prom_exporter.specs.Rows.{HasNameAt, family_kept, keys_of, rows_of};
+ghost use Rattle.prom_exporter.specs.Rows.{HasNameAt, family_kept, keys_named, keys_of, rows_of};
 ghost use Rattle.prom_format.specs.Names.{sanitized_metric_name};
 ghost use Rattle.prom_exporter.specs.Values.{with_member};
 
@@ -74,6 +74,29 @@ impl Rows {
             }
         }
         Ok(())
+    }
+
+    /// How many of so many series have a metric name, where what the first of them want is kept. It keeps first what all of them
+    /// want.
+    pub(crate) fn count_named<C>(
+        &mut self,
+        alloc: Global,
+        series: &SeriesIter<'_, C>,
+        count: usize,
+        globals: &IndexMap<String, String, HashStart>,
+        name: &str,
+    ) -> Result<usize, Memory>
+        requires count { count ≡ length series.now }
+        requires first { KeepsFirst (labels_of globals.now.entries) series.now self.old }
+        ensures named { IfOk result (λ named.
+            named ≡ length (keys_named name.now (keys_of series.now))) }
+        ensures first { KeepsFirst (labels_of globals.now.entries) series.now self.new }
+    {
+        self.catch_up(alloc, series, count, globals)?;
+        let Some(places) = self.families.get(name) else {
+            return Ok(0);
+        };
+        Ok(places.len())
     }
 
     /// Lets all go.

@@ -1,6 +1,6 @@
 //! What an exporter is built with, but for its global labels, and the rules for its distributions that follow.
 
-ghost use Rattle.std.specs.Prelude.{◌≡◌, ◌<◌, ◌↔◌, ◌++◌, ◌∷◌, [], ℕ, List, Option, length, map, option_copied, IfOk, IsOk, OnOk, OnErr, IsTrue, Err, unwrap_or};
+ghost use Rattle.std.specs.Prelude.{◌≡◌, ◌<◌, ◌↔◌, ◌++◌, ◌∷◌, [], ℕ, List, Option, length, map, option_copied, option_map, IfOk, IsOk, OnOk, OnErr, IsTrue, Err, unwrap_or};
 ghost use Rattle.std.specs.Int.NonZero.{non_zero_u32_get};
 ghost use Rattle.metrics_registry.specs.Masks.{idle_of};
 ghost use Rattle.metrics_registry.specs.Quantiles.{clamped};
@@ -47,6 +47,7 @@ pub(crate) struct Settings {
     bucket_duration: u64,
     mask: MetricKindMask,
     idle_timeout: Option<u64>,
+    series_limit: Option<NonZeroU32>,
     units: bool,
     total_suffix: bool,
 }
@@ -70,6 +71,7 @@ impl Model for Settings {
       bucket_count = non_zero_u32_get s.bucket_count;
       bucket_duration = s.bucket_duration;
       idle = idle_of s.mask s.idle_timeout;
+      series_limit = option_map non_zero_u32_get s.series_limit;
       units = s.units;
       total_suffix = s.total_suffix;
       globals = [];
@@ -94,6 +96,7 @@ impl Settings {
             bucket_duration: DEFAULT_BUCKET_DURATION,
             mask: MetricKindMask::NONE,
             idle_timeout: None,
+            series_limit: None,
             units: false,
             total_suffix: false,
         })
@@ -194,6 +197,20 @@ impl Settings {
     {
         self.mask = mask;
         self.idle_timeout = timeout;
+    }
+
+    /// Sets how many series of one kind and metric name are made at most.
+    pub(crate) fn set_series_limit(&mut self, limit: NonZeroU32)
+        ensures { self.new ≡ record self.old { series_limit = Some (non_zero_u32_get limit) } }
+    {
+        self.series_limit = Some(limit);
+    }
+
+    /// How many series of one kind and metric name are made at most, if there is a limit.
+    pub(crate) fn series_limit(&self) -> Option<NonZeroU32>
+        ensures { option_map non_zero_u32_get result ≡ self.now.series_limit }
+    {
+        self.series_limit
     }
 
     /// Sets whether names end with units, and whether those of counters end with `total`.

@@ -1,12 +1,12 @@
 //! The state of the exporter: its live series of each kind, in order of registration.
 
-ghost use Rattle.std.specs.Prelude.{◌≡◌, ℕ, ◌-◌, ◌^◌, ◌<◌, ◌≤◌, ◌⊎◌, set, IfOk, IfErr, OnErr, OnOk, None, unwrap_or};
+ghost use Rattle.std.specs.Prelude.{◌≡◌, ℕ, ◌-◌, ◌^◌, ◌<◌, ◌≤◌, ◌⊎◌, [], set, IfOk, IfErr, OnErr, OnOk, None, unwrap_or};
 ghost use Rattle.metrics_core.specs.declared.kinds.MetricKind.TheVariants.{Counter, Gauge};
 ghost use Rattle.metrics_core.specs.Outside.{Rose, GrewBy, GrewByPrefix};
 ghost use Rattle.prom_format.specs.LabelSets.{labels_of};
 ghost use Rattle.series_cells.specs.Pass.{view_of};
 ghost use Rattle.metric_descriptions.specs.Descriptions.{nothing_described};
-ghost use Rattle.prom_exporter.specs.State.{register, live_series, number_given, page_step};
+ghost use Rattle.prom_exporter.specs.State.{register, live_series, key_given, number_given, with_series, number_of, page_step};
 ghost use Rattle.prom_exporter.specs.Shared.{TakesBack};
 ghost use Rattle.prom_exporter.specs.Builder.{with_globals, SpanIsTooLong};
 ghost use Rattle.prom_exporter.specs.Stepped.{IsNoted, AreNoted, Steps, DrainsEach, DrainsInPart};
@@ -26,12 +26,13 @@ use metric_descriptions::Descriptions;
 use metrics_core::{Key, Memory, MetricKind, SeriesId, Sink};
 use metrics_facade as facade;
 use metrics_registry::Registry;
+use name_counts::NameCounts;
 use series_cells::{CellPass, PromCounter, PromGauge};
 use std::alloc::Global;
 use std::marker::Model;
 use std::sync::Wait;
 
-/// The exporter: what it was built with, its series, and what is said of metrics. Each counter and each gauge is a cell that threads
+/// The exporter: what it was built with, its series, what is said of metrics, and how often registrations were redirected. Each counter and each gauge is a cell that threads
 /// share, which is made when the series is lent for the first time, and each histogram a queue; the exporter has the root pass of each,
 /// lends passes of it and takes them back. It can't be let go: end it by `end`.
 pub struct PrometheusState {
@@ -43,6 +44,7 @@ pub struct PrometheusState {
     pub(crate) gauge_rows: Rows,
     pub(crate) histogram_rows: Rows,
     pub(crate) descriptions: Descriptions,
+    pub(crate) redirections: NameCounts,
 }
 
 impl Model for PrometheusState {
@@ -52,7 +54,12 @@ impl Model for PrometheusState {
 
     ghost Value = { Exporter };
 
-    ghost view = { λ s. record { settings = with_globals s.settings (labels_of s.globals.entries); series = s.series; said = s.descriptions } };
+    ghost view = { λ s. record {
+      settings = with_globals s.settings (labels_of s.globals.entries);
+      series = s.series;
+      said = s.descriptions;
+      redirected = s.redirections.entries;
+    } };
 
     ghost use Rattle.prom_exporter.specs.Kept.{IsKept};
 
@@ -74,6 +81,7 @@ impl PrometheusState {
                   (labels_of globals.entries);
               series = no_cells;
               said = nothing_described;
+              redirected = [];
             }) }
     {
         let distributions = settings.distributions(alloc)?;
@@ -88,6 +96,7 @@ impl PrometheusState {
             gauge_rows: Rows::new(alloc, start),
             histogram_rows: Rows::new(alloc, start),
             descriptions: Descriptions::new(start),
+            redirections: NameCounts::new(alloc, start),
         })
     }
 
@@ -102,11 +111,13 @@ impl PrometheusState {
 
     /// Registers a counter. Where one with an equal key is live its id is given, no memory is taken, and nothing changes;
     /// otherwise a new one at 0 goes last, whose cell is made when it is first lent. Past 2^64 - 1 series none is made, and the id
-    /// names none.
+    /// names none. Where a limit is set and as many counters of the same metric name are live, it is redirected: all this is done with
+    /// the key of the metric name's overflow series, and counted.
     pub fn register_counter(&mut self, alloc: Global, key: &Key) -> Result<SeriesId, Memory>
         ensures registered { OnOk result (state_of self.new ≡ register Counter key.now
             (state_of self.old)) }
-        ensures cells { OnOk result ((self.new ≡ self.old) ⊎ AddsCounter key.now self.old self.new) }
+        ensures cells { OnOk result ((self.new.series ≡ self.old.series)
+            ⊎ AddsCounter (key_given Counter key.now (state_of self.old)) self.old self.new) }
         ensures home { AllHome self.old → AllHome self.new }
         ensures settings { self.new.settings ≡ self.old.settings }
         ensures id { IfOk result (λ id.
@@ -126,16 +137,40 @@ impl PrometheusState {
         self.register_owned_counter(alloc, key.clone(alloc)?)
     }
 
-    /// Registers a counter as `register_counter` does, under a key that the exporter then keeps: it is not copied. A key that is
-    /// live takes no memory.
+    /// Registers a counter as `register_counter` does, under a key that the exporter then keeps, where it isn't redirected: it is not
+    /// copied. A key that is live takes no memory.
     pub fn register_owned_counter(&mut self, alloc: Global, key: Key) -> Result<SeriesId, Memory>
         ensures registered { OnOk result (state_of self.new ≡ register Counter key
             (state_of self.old)) }
-        ensures cells { OnOk result ((self.new ≡ self.old) ⊎ AddsCounter key self.old self.new) }
+        ensures cells { OnOk result ((self.new.series ≡ self.old.series)
+            ⊎ AddsCounter (key_given Counter key (state_of self.old)) self.old self.new) }
         ensures home { AllHome self.old → AllHome self.new }
         ensures settings { self.new.settings ≡ self.old.settings }
         ensures id { IfOk result (λ id.
-            id ≡ record { kind = Counter; number = number_given Counter key (state_of self.old) }) }
+            id ≡ record {
+              kind = Counter;
+              number = number_given Counter key
+                  (state_of self.old);
+            }) }
+        ensures absent { OnErr result (live_series Counter key (state_of self.old) ≡ None) }
+        ensures refused { OnErr result (self.new ≡ self.old) }
+    {
+        match self.redirected_to(alloc, MetricKind::Counter, &key)? {
+            Some(name) => self.redirect(alloc, MetricKind::Counter, name),
+            None => self.put_counter(alloc, key),
+        }
+    }
+
+    /// Makes sure that a counter with a key is live: where none is, a new one goes last, or past 2^64 - 1 series none.
+    pub(crate) fn put_counter(&mut self, alloc: Global, key: Key) -> Result<SeriesId, Memory>
+        ensures registered { OnOk result (state_of self.new ≡ with_series Counter key
+            (state_of self.old)) }
+        ensures cells { OnOk result ((self.new.series ≡ self.old.series)
+            ⊎ AddsCounter key self.old self.new) }
+        ensures home { AllHome self.old → AllHome self.new }
+        ensures settings { self.new.settings ≡ self.old.settings }
+        ensures id { IfOk result (λ id.
+            id ≡ record { kind = Counter; number = number_of Counter key (state_of self.old) }) }
         ensures absent { OnErr result (live_series Counter key (state_of self.old) ≡ None) }
         ensures refused { OnErr result (self.new ≡ self.old) }
     {
@@ -156,11 +191,16 @@ impl PrometheusState {
     pub fn register_gauge(&mut self, alloc: Global, key: &Key) -> Result<SeriesId, Memory>
         ensures registered { OnOk result (state_of self.new ≡ register Gauge key.now
             (state_of self.old)) }
-        ensures cells { OnOk result ((self.new ≡ self.old) ⊎ AddsGauge key.now self.old self.new) }
+        ensures cells { OnOk result ((self.new.series ≡ self.old.series)
+            ⊎ AddsGauge (key_given Gauge key.now (state_of self.old)) self.old self.new) }
         ensures home { AllHome self.old → AllHome self.new }
         ensures settings { self.new.settings ≡ self.old.settings }
         ensures id { IfOk result (λ id.
-            id ≡ record { kind = Gauge; number = number_given Gauge key.now (state_of self.old) }) }
+            id ≡ record {
+              kind = Gauge;
+              number = number_given Gauge key.now
+                  (state_of self.old);
+            }) }
         ensures absent { OnErr result (live_series Gauge key.now (state_of self.old) ≡ None) }
         ensures refused { OnErr result (self.new ≡ self.old) }
     {
@@ -172,16 +212,40 @@ impl PrometheusState {
         self.register_owned_gauge(alloc, key.clone(alloc)?)
     }
 
-    /// Registers a gauge as `register_gauge` does, under a key that the exporter then keeps: it is not copied. A key that is
-    /// live takes no memory.
+    /// Registers a gauge as `register_gauge` does, under a key that the exporter then keeps, where it isn't redirected: it is not
+    /// copied. A key that is live takes no memory.
     pub fn register_owned_gauge(&mut self, alloc: Global, key: Key) -> Result<SeriesId, Memory>
         ensures registered { OnOk result (state_of self.new ≡ register Gauge key
             (state_of self.old)) }
-        ensures cells { OnOk result ((self.new ≡ self.old) ⊎ AddsGauge key self.old self.new) }
+        ensures cells { OnOk result ((self.new.series ≡ self.old.series)
+            ⊎ AddsGauge (key_given Gauge key (state_of self.old)) self.old self.new) }
         ensures home { AllHome self.old → AllHome self.new }
         ensures settings { self.new.settings ≡ self.old.settings }
         ensures id { IfOk result (λ id.
-            id ≡ record { kind = Gauge; number = number_given Gauge key (state_of self.old) }) }
+            id ≡ record {
+              kind = Gauge;
+              number = number_given Gauge key
+                  (state_of self.old);
+            }) }
+        ensures absent { OnErr result (live_series Gauge key (state_of self.old) ≡ None) }
+        ensures refused { OnErr result (self.new ≡ self.old) }
+    {
+        match self.redirected_to(alloc, MetricKind::Gauge, &key)? {
+            Some(name) => self.redirect(alloc, MetricKind::Gauge, name),
+            None => self.put_gauge(alloc, key),
+        }
+    }
+
+    /// Makes sure that a gauge with a key is live: where none is, a new one goes last, or past 2^64 - 1 series none.
+    pub(crate) fn put_gauge(&mut self, alloc: Global, key: Key) -> Result<SeriesId, Memory>
+        ensures registered { OnOk result (state_of self.new ≡ with_series Gauge key
+            (state_of self.old)) }
+        ensures cells { OnOk result ((self.new.series ≡ self.old.series)
+            ⊎ AddsGauge key self.old self.new) }
+        ensures home { AllHome self.old → AllHome self.new }
+        ensures settings { self.new.settings ≡ self.old.settings }
+        ensures id { IfOk result (λ id.
+            id ≡ record { kind = Gauge; number = number_of Gauge key (state_of self.old) }) }
         ensures absent { OnErr result (live_series Gauge key (state_of self.old) ≡ None) }
         ensures refused { OnErr result (self.new ≡ self.old) }
     {

@@ -1,9 +1,8 @@
 use Rattle.std.proofs.Common.{refl, sym, ap, ◌∙◌}
 use Rattle.std.proofs.lemmas.Result.{err_from_is_err_and}
 use Rattle.std.specs.Arc.{arc_value}
-use Rattle.prom_format.specs.LabelSets.{labels_of}
 use Rattle.metrics_registry.specs.Live.{with_cell}
-use Rattle.prom_exporter.specs.Builder.{with_globals}
+use Rattle.prom_exporter.specs.contracts.state.PrometheusState.{the_view}
 use Rattle.prom_exporter.proofs.States.{kept}
 use Rattle.prom_exporter.proofs.Seen.{of_gauges}
 use Rattle.prom_exporter.proofs.KeptRows.{keys-with_cell, kept_same}
@@ -15,7 +14,7 @@ returns-in_err-cell-clause-refused c =
     let series = c.self.inside.series in
     let numbered = c.in-Some.ensures.numbered in
     rw refusal.1 (
-    ap (λ es. record { settings = with_globals c.self.inside.settings (labels_of c.self.inside.globals.entries); series = record series { gauges = es }; said = c.self.inside.descriptions })
+    ap (λ es. record (the_view c.self.inside) { series = record series { gauges = es } })
     (ap (λ cell. with_cell c.args.id series.gauges cell) c.in_err-cell.ensures.refused
     ∙ kept c.args.id series.gauges series.made c.in-Some.gauge.now numbered.gauges.0 (of_gauges c.args.id c.in-Some.gauge.now series.gauges series.made numbered.gauges.1 (sym c.in-Some.ensures.value)) (sym c.in-Some.ensures.value))
     ∙ c.self.view_is)

@@ -1,8 +1,7 @@
 use Rattle.std.proofs.Common.{Some, refl, sym, ap, ◌∙◌}
 use Rattle.std.proofs.lemmas.Result.{err_from_is_err_and}
-use Rattle.prom_format.specs.LabelSets.{labels_of}
 use Rattle.metrics_registry.specs.Live.{with_cell}
-use Rattle.prom_exporter.specs.Builder.{with_globals}
+use Rattle.prom_exporter.specs.contracts.state.PrometheusState.{the_view}
 use Rattle.prom_exporter.proofs.States.{kept}
 use Rattle.prom_exporter.proofs.Seen.{of_histograms}
 use Rattle.prom_exporter.specs.Sampled.{Sampled}
@@ -15,7 +14,7 @@ returns-in_err-queue-clause-refused c =
     let series = c.self.inside.series in
     let numbered = c.in-Some.ensures.numbered in
     rw refusal.1 (
-    ap (λ es. record { settings = with_globals c.self.inside.settings (labels_of c.self.inside.globals.entries); series = record series { histograms = es }; said = c.self.inside.descriptions })
+    ap (λ es. record (the_view c.self.inside) { series = record series { histograms = es } })
     (ap (λ cell. with_cell c.args.id series.histograms cell) c.in_err-queue.ensures.refused
     ∙ kept c.args.id series.histograms series.made c.in-Some.histogram.now numbered.histograms.0 (of_histograms c.args.id c.in-Some.histogram.now series.histograms series.made numbered.histograms.1 (sym c.in-Some.ensures.value)) (sym c.in-Some.ensures.value))
     ∙ c.self.view_is)

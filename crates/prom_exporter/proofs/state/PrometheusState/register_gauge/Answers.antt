@@ -1,35 +1,34 @@
-use Rattle.std.proofs.Common.{◌≡◌, ◌⊎◌, ◌∙◌, sym, subst}
-use Rattle.std.specs.Prelude.{OnOk}
+use Rattle.std.proofs.Common.{◌≡◌, ◌⊎◌, sym, subst}
+use Rattle.std.specs.Prelude.{OnOk, IfOk}
 use Rattle.std.proofs.lemmas.Result.{err_from_is_err_and}
 use Rattle.metrics_core.specs.Keys.{KeyText}
 use Rattle.metrics_core.specs.declared.kinds.MetricKind.TheVariants.{Gauge}
-use Rattle.prom_exporter.specs.Exporter.{AddsGauge}
-use Rattle.prom_exporter.specs.Values.{seen_registry, state_seen}
-use Rattle.prom_exporter.specs.Sampled.{calls_known}
-use Rattle.prom_exporter.proofs.Given.{gauge_absent}
-use Rattle.prom_exporter.proofs.Seen.{id_of_key-seen, is_numbered-seen}
-use Rattle.prom_exporter.proofs.States.{register-live, id-live, registered_said}
+use Rattle.prom_exporter.specs.State.{key_given, number_given}
+use Rattle.prom_exporter.specs.Exporter.{AddsGauge, state_of}
+use Rattle.prom_exporter.specs.contracts.state.PrometheusState.{the_view}
+use Rattle.prom_exporter.proofs.Given.{gauge_absent, gauge_found}
 use Rattle.prom_exporter.proofs.state.PrometheusState.register_gauge.Goals as goal
 
 pub returns-in-Some-clause-registered : goal.returns-in-Some-clause-registered
 returns-in-Some-clause-registered c =
-    let series = c.self.inside.series in
-    let found = id_of_key-seen c.args.key.now series.gauges ∙ sym c.in-Some.ensures in
-    rw (← c.self.view_is) (registered_said Gauge c.args.key.now c.self.inside.descriptions (state_seen series) (state_seen series) (sym (register-live Gauge c.args.key.now (seen_registry calls_known series) c.in-Some.id found)))
+    rw (← c.self.view_is) (gauge_found (the_view c.self.inside) c.args.key.now c.in-Some.id c.made-made.ensures.numbered (sym c.in-Some.ensures)).registered
 
 pub returns-in-Some-clause-id : goal.returns-in-Some-clause-id
 returns-in-Some-clause-id c =
-    let series = c.self.inside.series in
-    let found = id_of_key-seen c.args.key.now series.gauges ∙ sym c.in-Some.ensures in
-    rw (← c.self.view_is) (id-live Gauge c.args.key.now (seen_registry calls_known series) series.made c.in-Some.id (is_numbered-seen calls_known series c.made-made.ensures.numbered).gauges.1 found)
+    rw (← c.self.view_is) (gauge_found (the_view c.self.inside) c.args.key.now c.in-Some.id c.made-made.ensures.numbered (sym c.in-Some.ensures)).id_is
 
 pub returns-clause-cells : goal.returns-clause-cells
 returns-clause-cells c =
     let old = c.args.self.now in
     let new = c.register_owned_gauge.new.self in
-    subst (λ (key : KeyText). OnOk c.register_owned_gauge.result ((new ≡ old) ⊎ AddsGauge key old new)) c.in_ok-clone.ensures.same c.register_owned_gauge.ensures.cells
+    subst (λ (key : KeyText). OnOk c.register_owned_gauge.result ((new.series ≡ old.series) ⊎ AddsGauge (key_given Gauge key (state_of old)) old new)) c.in_ok-clone.ensures.same c.register_owned_gauge.ensures.cells
 
 pub returns-in_err-clone-clause-absent : goal.returns-in_err-clone-clause-absent
 returns-in_err-clone-clause-absent c =
     let refusal = err_from_is_err_and c.from_residual.result c.from_residual.ensures.1 in
     rw (refusal.1, ← c.self.view_is) (gauge_absent c.args.key.now c.self.inside.series (sym c.in_default.ensures))
+
+pub returns-clause-id : goal.returns-clause-id
+returns-clause-id c =
+    let old = c.args.self.now in
+    subst (λ (key : KeyText). IfOk c.register_owned_gauge.result (λ id. id ≡ record { kind = Gauge; number = number_given Gauge key (state_of old) })) c.in_ok-clone.ensures.same c.register_owned_gauge.ensures.id

@@ -1,35 +1,34 @@
-use Rattle.std.proofs.Common.{◌≡◌, ◌⊎◌, ◌∙◌, sym, subst}
-use Rattle.std.specs.Prelude.{OnOk}
+use Rattle.std.proofs.Common.{◌≡◌, ◌⊎◌, sym, subst}
+use Rattle.std.specs.Prelude.{OnOk, IfOk}
 use Rattle.std.proofs.lemmas.Result.{err_from_is_err_and}
 use Rattle.metrics_core.specs.Keys.{KeyText}
 use Rattle.metrics_core.specs.declared.kinds.MetricKind.TheVariants.{Histogram}
-use Rattle.prom_exporter.specs.Exporter.{AddsHistogram}
-use Rattle.prom_exporter.specs.Values.{seen_registry, state_seen}
-use Rattle.prom_exporter.specs.Sampled.{calls_known}
-use Rattle.prom_exporter.proofs.Given.{histogram_absent}
-use Rattle.prom_exporter.proofs.Seen.{id_of_key-sampled, is_numbered-seen}
-use Rattle.prom_exporter.proofs.States.{register-live, id-live, registered_said}
+use Rattle.prom_exporter.specs.State.{key_given, number_given}
+use Rattle.prom_exporter.specs.Exporter.{AddsHistogram, state_of}
+use Rattle.prom_exporter.specs.contracts.state.PrometheusState.{the_view}
+use Rattle.prom_exporter.proofs.Given.{histogram_absent, histogram_found}
 use Rattle.prom_exporter.proofs.state.PrometheusState.register_histogram.Goals as goal
 
 pub returns-in-Some-clause-registered : goal.returns-in-Some-clause-registered
 returns-in-Some-clause-registered c =
-    let series = c.self.inside.series in
-    let found = id_of_key-sampled calls_known c.args.key.now series.histograms ∙ sym c.in-Some.ensures in
-    rw (← c.self.view_is) (registered_said Histogram c.args.key.now c.self.inside.descriptions (state_seen series) (state_seen series) (sym (register-live Histogram c.args.key.now (seen_registry calls_known series) c.in-Some.id found)))
+    rw (← c.self.view_is) (histogram_found (the_view c.self.inside) c.args.key.now c.in-Some.id c.made-made.ensures.numbered (sym c.in-Some.ensures)).registered
 
 pub returns-in-Some-clause-id : goal.returns-in-Some-clause-id
 returns-in-Some-clause-id c =
-    let series = c.self.inside.series in
-    let found = id_of_key-sampled calls_known c.args.key.now series.histograms ∙ sym c.in-Some.ensures in
-    rw (← c.self.view_is) (id-live Histogram c.args.key.now (seen_registry calls_known series) series.made c.in-Some.id (is_numbered-seen calls_known series c.made-made.ensures.numbered).histograms.1 found)
+    rw (← c.self.view_is) (histogram_found (the_view c.self.inside) c.args.key.now c.in-Some.id c.made-made.ensures.numbered (sym c.in-Some.ensures)).id_is
 
 pub returns-clause-cells : goal.returns-clause-cells
 returns-clause-cells c =
     let old = c.args.self.now in
     let new = c.register_owned_histogram.new.self in
-    subst (λ (key : KeyText). OnOk c.register_owned_histogram.result ((new ≡ old) ⊎ AddsHistogram key old new)) c.in_ok-clone.ensures.same c.register_owned_histogram.ensures.cells
+    subst (λ (key : KeyText). OnOk c.register_owned_histogram.result ((new.series ≡ old.series) ⊎ AddsHistogram (key_given Histogram key (state_of old)) old new)) c.in_ok-clone.ensures.same c.register_owned_histogram.ensures.cells
 
 pub returns-in_err-clone-clause-absent : goal.returns-in_err-clone-clause-absent
 returns-in_err-clone-clause-absent c =
     let refusal = err_from_is_err_and c.from_residual.result c.from_residual.ensures.1 in
     rw (refusal.1, ← c.self.view_is) (histogram_absent c.args.key.now c.self.inside.series (sym c.in_default.ensures))
+
+pub returns-clause-id : goal.returns-clause-id
+returns-clause-id c =
+    let old = c.args.self.now in
+    subst (λ (key : KeyText). IfOk c.register_owned_histogram.result (λ id. id ≡ record { kind = Histogram; number = number_given Histogram key (state_of old) })) c.in_ok-clone.ensures.same c.register_owned_histogram.ensures.id
