@@ -158,6 +158,7 @@ script_is_valid zero few = record {
   registrations = lit≤ tt;
   samples = lit≤ tt;
   heads = none_apart;
+  overflow = λ k d within. tt;
 }
 script_is_valid (suc count) few = record {
   moments = moments_never_fall 0 (suc count);
@@ -165,6 +166,7 @@ script_is_valid (suc count) few = record {
   registrations = subst (λ (rs : List Registration). length rs ≤ 1000000) (sym (first_registers count)) (lit≤ tt);
   samples = omega (arith, samples_bounded (suc count));
   heads = subst (λ (rs : List Registration). AllPairs (PrintApart []) rs) (sym (first_registers count)) heads_apart;
+  overflow = λ k d within. tt;
 }
 
 -- ---- settings

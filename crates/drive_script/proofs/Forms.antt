@@ -15,8 +15,8 @@ use Rattle.metrics_core.specs.declared.units.Unit.TheVariants as units
 use Rattle.metrics_core.specs.declared.kinds.MetricKind.{MetricKind}
 use Rattle.metrics_core.specs.declared.kinds.MetricKind.TheVariants as kinds
 use Rattle.drive_script.specs.Words.{spaced, quoted, label_word, unit_word}
-use Rattle.drive_script.specs.Script.{SetupLine, Register, Describe, Act, Inc, Abs, Add, Sub, Set, Rec, RecN, CallLine, HeaderLine, Quantiles, Buckets, BucketsFor, NativeFor, Summary, Idle, Naming, Units, Global, Limit, Mode, NamePrefix, GlobalTag, HistogramKind, ScriptLine, Header, Round, Setup, CallOf, IsLine, AreActWords}
-use Rattle.drive_script.specs.Reading.{◌>>=◌, ◌or◌, both, seen, after, behind, standing, number_at, positive_at, fixed_at, text_at, labels_at, word_length, unit_named, unit_at, verb_at, kind_word_at, registered_kind_at, argument_at, quantiles_at, buckets_at, buckets_for_at, native_for_at, summary_at, idle_at, label_line_at, limit_at, prefix_at, switch_at, round_at, description_of_parts, description_at, describe_at, Registered, register_at, CallParts, call_parts_at, call_of_parts, call_at}
+use Rattle.drive_script.specs.Script.{SetupLine, Register, Describe, Act, Inc, Abs, Add, Sub, Set, Rec, RecN, CallLine, HeaderLine, Quantiles, Buckets, BucketsFor, NativeFor, Summary, Idle, Naming, Units, Global, SeriesLimit, Limit, Mode, NamePrefix, GlobalTag, HistogramKind, ScriptLine, Header, Round, Setup, CallOf, IsLine, AreActWords}
+use Rattle.drive_script.specs.Reading.{◌>>=◌, ◌or◌, both, seen, after, behind, standing, number_at, positive_at, fixed_at, text_at, labels_at, word_length, unit_named, unit_at, verb_at, kind_word_at, registered_kind_at, argument_at, quantiles_at, buckets_at, buckets_for_at, native_for_at, summary_at, idle_at, label_line_at, series_limit_at, limit_at, prefix_at, switch_at, round_at, description_of_parts, description_at, describe_at, Registered, register_at, CallParts, call_parts_at, call_of_parts, call_at}
 use Rattle.drive_script.specs.declared.lines.Verb.{Verb}
 use Rattle.drive_script.specs.declared.lines.Verb.TheVariants as verbs
 use Rattle.drive_script.proofs.Fields.{bind_some}
@@ -24,7 +24,7 @@ use Rattle.drive_script.proofs.Readers.{IsReader, Ends, Anywhere, stops_less, Sp
 use Rattle.drive_script.proofs.Spaced.{WordEnds, ends_word}
 use Rattle.drive_script.proofs.Decimals.{NoDigit, SpellsNumber, number_reads, SpellsPositive, positive_reads, SpellsDec, fixed_reads}
 use Rattle.drive_script.proofs.TextFields.{SpellsText, text_reads, spaced_labels, SpellsLabels, labels_read}
-use Rattle.drive_script.proofs.HeaderForms.{behind_spaces, words_spaced, number_to_end, fixed_to_end, quantiles_again, buckets_again, buckets_for_again, native_for_again, summary_again, idle_again, naming_again, units_again, mode_again, kind_again, global_again, tag_again, limit_again, prefix_again}
+use Rattle.drive_script.proofs.HeaderForms.{behind_spaces, words_spaced, number_to_end, fixed_to_end, quantiles_again, buckets_again, buckets_for_again, native_for_again, summary_again, idle_again, naming_again, units_again, mode_again, kind_again, global_again, tag_again, series_limit_again, limit_again, prefix_again}
 
 -- ---- round lines
 
@@ -474,6 +474,7 @@ data Form : Type 0 where
   idle : Form
   switch : Form
   global : Form
+  series_limit : Form
   limit : Form
   prefix : Form
   tag : Form
@@ -492,6 +493,7 @@ form_of (Header (Idle mask timeout)) = idle
 form_of (Header Naming) = switch
 form_of (Header Units) = switch
 form_of (Header (Global label)) = global
+form_of (Header (SeriesLimit n)) = series_limit
 form_of (Header (Limit n)) = limit
 form_of (Header (Mode aggressive)) = switch
 form_of (Header (NamePrefix text)) = prefix
@@ -515,7 +517,7 @@ form_at (c ∷ d ∷ line) =
     if c == 103 then global
     else if c == 114 then (if d == 111 then round else register)
     else if c == 113 then quantiles
-    else if c == 115 then summary
+    else if c == 115 then (if d == 101 then series_limit else summary)
     else if c == 105 then idle
     else if c == 98 then (if get_or line 5 0 == 45 then buckets_for else buckets)
     else if c == 110 then (if get_or line 0 0 == 116 then native_for else switch)
@@ -534,6 +536,7 @@ read_as summary line = option_map (λ s. Header (Summary s.0 s.1)) (summary_at l
 read_as idle line = option_map (λ i. Header (Idle i.0 i.1)) (idle_at line)
 read_as switch line = option_map Header (switch_at line)
 read_as global line = option_map (λ label. Header (Global label)) (label_line_at (codes "global ") line)
+read_as series_limit line = option_map (λ n. Header (SeriesLimit n)) (series_limit_at line)
 read_as limit line = option_map (λ n. Header (Limit n)) (limit_at line)
 read_as prefix line = option_map (λ text. Header (NamePrefix text)) (prefix_at line)
 read_as tag line = option_map (λ label. Header (GlobalTag label)) (label_line_at (codes "dsd-global ") line)
@@ -552,6 +555,7 @@ read_so line (Header (Idle mask timeout)) h = ap (option_map (λ i. Header (Idle
 read_so line (Header Naming) h = ap (option_map Header) (naming_again line h)
 read_so line (Header Units) h = ap (option_map Header) (units_again line h)
 read_so line (Header (Global label)) h = ap (option_map (λ label. Header (Global label))) (global_again line label h)
+read_so line (Header (SeriesLimit n)) h = ap (option_map (λ n. Header (SeriesLimit n))) (series_limit_again line n h)
 read_so line (Header (Limit n)) h = ap (option_map (λ n. Header (Limit n))) (limit_again line n h)
 read_so line (Header (Mode aggressive)) h = ap (option_map Header) (mode_again line aggressive h)
 read_so line (Header (NamePrefix text)) h = ap (option_map (λ text. Header (NamePrefix text))) (prefix_again line text h)
@@ -581,6 +585,7 @@ formed line (Header (NativeFor native)) h = ap form_at (h.spelled ∙ ap spaced 
 formed line (Header Naming) h = ap form_at (h.spelled ∙ ap spaced h.formed)
 formed line (Header Units) h = ap form_at (h.spelled ∙ ap spaced h.formed)
 formed line (Header (Global label)) h = ap form_at (h.spelled ∙ ap spaced h.formed.1)
+formed line (Header (SeriesLimit n)) h = ap form_at (h.spelled ∙ ap spaced h.formed.2)
 formed line (Header (Limit n)) h = ap form_at (h.spelled ∙ ap spaced h.formed.1)
 formed line (Header (Mode aggressive)) h = ap form_at (h.spelled ∙ ap spaced h.formed)
 formed line (Header (NamePrefix text)) h = ap form_at (h.spelled ∙ ap spaced h.formed.1)
@@ -599,6 +604,13 @@ formed line (CallOf line_call) h =
 -- a line is read in its form
 read_in_form : (line : List ℕ) (says : ScriptLine) → IsLine line says → read_as (form_at line) line ≡ Some says
 read_in_form line says h = ap (λ f. read_as f line) (formed line says h) ∙ read_so line says h
+
+-- a line that could only be a series-limit line, and isn't, says nothing
+pub no_series_limit : (rest : List ℕ) → series_limit_at (codes "se" ++ rest) ≡ None → (says : ScriptLine) → ¬ IsLine (codes "se" ++ rest) says
+no_series_limit rest none says h =
+    let read : option_map (λ n. Header (SeriesLimit n)) (series_limit_at (codes "se" ++ rest)) ≡ Some says = read_in_form (codes "se" ++ rest) says h in
+    let none_read : None ≡ Some says = ap (option_map (λ n. Header (SeriesLimit n))) (sym none) ∙ read in
+    cc
 
 pub one_reading : (line : List ℕ) (s t : ScriptLine) → IsLine line s → IsLine line t → s ≡ t
 one_reading line s t a b = same_Some s t (sym (read_in_form line s a) ∙ read_in_form line t b)

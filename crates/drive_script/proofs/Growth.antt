@@ -13,7 +13,7 @@ use Rattle.metrics_core.specs.Keys.{KeyText}
 use Rattle.metrics_core.proofs.Lists.{AllZip-push}
 use Rattle.metrics_core.specs.declared.kinds.MetricKind.{MetricKind}
 use Rattle.drive_script.specs.Script.{ScriptText, RoundText, SetupLine, Register, Describe, CallLine, HeaderLine, ScriptLine, Header, Round, Setup, CallOf, IsLine, IsScript, Said, IsMeant, header_lines, round_lines, only_globals, global_labels, SettingsText}
-use Rattle.drive_script.specs.Valid.{Registration, registration_of, registered_in, registered, HasHandle, HaveHandles, sample_count, sample_total, PrintApart, IsValid, AreValidLines}
+use Rattle.drive_script.specs.Valid.{Registration, registration_of, registered_in, registered, HasHandle, HaveHandles, sample_count, sample_total, PrintApart, SparesOverflow, IsValid, AreValidLines}
 use Rattle.drive_script.specs.Growth.{AddsHeader, BeginsRound, SetsUp, AddsCall, IsNext, with_header}
 use Rattle.drive_script.proofs.Forms.{one_reading}
 use Rattle.drive_script.proofs.HeaderGrowth.{last_of, header_behind, still_meant, HeaderLast, no_header, last_one, header_last, nothing_said, no_header_said}
@@ -308,6 +308,25 @@ next_heads said later old new (Setup (Register kind key)) (same, h) apart =
     (subst (Apart old) (sym (setup_registered old new (Register kind key) h)) (pairs_push (PrintApart (global_labels old.settings)) (registered old) (record { kind = kind; key = key }) apart h.apart))
 next_heads said later old new (CallOf call) (same, h) apart = same_apart old new (ap (λ (s : ScriptText). s.settings) h.grown) (none_registered old new call h) apart
 
+abbrev Spares : ScriptText → List Registration → Type 0
+Spares s rs = All (SparesOverflow s.settings) rs
+
+none_spared : (s : ScriptText) (rs : List Registration) → rs ≡ [] → Spares s rs
+none_spared s rs none = subst (Spares s) (sym none) (All-nil (SparesOverflow s.settings))
+
+same_spared : (old new : ScriptText) → new.settings ≡ old.settings → registered new ≡ registered old → Spares old (registered old) → Spares new (registered new)
+same_spared old new settings same spares = subst (λ (s : SettingsText). All (SparesOverflow s) (registered new)) (sym settings) (subst (Spares old) (sym same) spares)
+
+next_spares : (said later : Said) (old new : ScriptText) (says : ScriptLine) → IsNext said old says later new → Spares old (registered old) → Spares new (registered new)
+next_spares said later old new (Header line) h spares = none_spared new (registered new) (ap (flat_map registered_in) (new_no_rounds said later old new line h))
+next_spares said later old new (Round moment) (same, h) spares = same_spared old new (ap (λ (s : ScriptText). s.settings) h.grown) (round_registered old new moment h) spares
+next_spares said later old new (Setup (Describe kind name unit text)) (same, h) spares =
+    same_spared old new (ap (λ (s : ScriptText). s.settings) h.grown) (setup_registered old new (Describe kind name unit text) h ∙ append-nil (registered old)) spares
+next_spares said later old new (Setup (Register kind key)) (same, h) spares =
+    subst (λ (s : SettingsText). All (SparesOverflow s) (registered new)) (sym (ap (λ (s : ScriptText). s.settings) h.grown))
+    (subst (Spares old) (sym (setup_registered old new (Register kind key) h)) (All-push (SparesOverflow old.settings) (registered old) (record { kind = kind; key = key }) spares h.spares))
+next_spares said later old new (CallOf call) (same, h) spares = same_spared old new (ap (λ (s : ScriptText). s.settings) h.grown) (none_registered old new call h) spares
+
 next_handles : (said later : Said) (old new : ScriptText) (says : ScriptLine) → IsNext said old says later new → HaveHandles [] old.rounds → HaveHandles [] new.rounds
 next_handles said later old new (Header line) h handles = subst (HaveHandles []) (sym (new_no_rounds said later old new line h)) tt
 next_handles said later old new (Round moment) (same, h) handles =
@@ -344,6 +363,7 @@ next_valid said later lines line old new says h is_line next =
         registrations = next_registrations said later old new says next h.1.registrations;
         samples = next_samples said later old new says next h.1.samples;
         heads = next_heads said later old new says next h.1.heads;
+        overflow = next_spares said later old new says next h.1.overflow;
       },
     )
 
@@ -366,11 +386,12 @@ record Fine (said : Said) (s : ScriptText) : Type 0 where
   registrations : length (registered s) ≤ 1000000
   samples : sample_total s ≤ 16777216
   heads : Apart s (registered s)
+  overflow : Spares s (registered s)
 
 make_last : (said later : Said) (lines : List (List ℕ)) (line : List ℕ) (new old : ScriptText) (says : ScriptLine) → Valid later (lines ++ line ∷ []) new → IsNext said old says later new → Fine said old → Last later lines line new
 make_last said later lines line new old says h next fine =
     let each = zip_last IsLine lines (script_lines said old) line says (subst (AllZip IsLine (lines ++ line ∷ [])) (next_said said later old new says next) h.0.1) in
-    let valid : IsValid old = record { moments = fine.moments; handles = fine.handles; registrations = fine.registrations; samples = fine.samples; heads = fine.heads } in
+    let valid : IsValid old = record { moments = fine.moments; handles = fine.handles; registrations = fine.registrations; samples = fine.samples; heads = fine.heads; overflow = fine.overflow } in
     record { said = said; old = old; says = says; valid = ((fine.meant, each.0), valid); is_line = each.1; next = next }
 
 module _ (said : Said) (lines : List (List ℕ)) (line : List ℕ) (new : ScriptText) (h : Valid said (lines ++ line ∷ []) new) (before : List RoundText) (round : RoundText) (e : new.rounds ≡ before ++ round ∷ []) where
@@ -385,6 +406,9 @@ module _ (said : Said) (lines : List (List ℕ)) (line : List ℕ) (new : Script
 
   apart : Apart new (flat_map registered_in (before ++ round ∷ []))
   apart = subst (λ rs. Apart new (flat_map registered_in rs)) e h.1.heads
+
+  spares : Spares new (flat_map registered_in (before ++ round ∷ []))
+  spares = subst (λ rs. Spares new (flat_map registered_in rs)) e h.1.overflow
 
   last_call : (calls : List CallLine) (call : CallLine) → round.calls ≡ calls ++ call ∷ [] → Last said lines line new
   last_call calls call f =
@@ -404,6 +428,7 @@ module _ (said : Said) (lines : List (List ℕ)) (line : List ℕ) (new : Script
         registrations = omega (arith, few_registered, ap length same);
         samples = omega (arith, h.1.samples, call_samples old new call before earlier refl grown);
         heads = subst (Apart new) same apart;
+        overflow = subst (Spares new) same spares;
       })
 
   last_setup : (setup : List SetupLine) (last : SetupLine) → round.calls ≡ [] → round.setup ≡ setup ++ last ∷ [] → Last said lines line new
@@ -419,7 +444,8 @@ module _ (said : Said) (lines : List (List ℕ)) (line : List ℕ) (new : Script
       ∙ sym (append_assoc (flat_map registered_in before) (filter_map registration_of setup) (filter_map registration_of (last ∷ [])))
       ∙ ap (λ rs. rs ++ filter_map registration_of (last ∷ [])) (sym (registered_push before earlier)) in
       let both = heads_split last (registered old) (subst (Apart new) all_registered apart) in
-      let next : SetsUp old last new = record { before = before; round = earlier; last = refl; no_call = refl; grown = grown; room = h.1.registrations; apart = both.1 } in
+      let spared = spares_split last (registered old) (subst (Spares new) all_registered spares) in
+      let next : SetsUp old last new = record { before = before; round = earlier; last = refl; no_call = refl; grown = grown; room = h.1.registrations; apart = both.1; spares = spared.1 } in
       make_last said said lines line new old (Setup last) h (refl, next)
       (record {
         meant = h.0.0;
@@ -428,11 +454,16 @@ module _ (said : Said) (lines : List (List ℕ)) (line : List ℕ) (new : Script
         registrations = omega (arith, few_registered, ap length all_registered, length-append (registered old) (filter_map registration_of (last ∷ [])));
         samples = omega (arith, few_samples, same_samples before round earlier g);
         heads = both.0;
+        overflow = spared.0;
       })
     where
       heads_split : (last : SetupLine) (rs : List Registration) → Apart new (rs ++ filter_map registration_of (last ∷ [])) → Apart new rs × IfSome (registration_of last) (λ n. All (λ r. PrintApart (global_labels new.settings) r n) rs)
       heads_split (Register kind key) rs pairs = (pairs_front (PrintApart (global_labels new.settings)) rs (record { kind = kind; key = key }) pairs, pairs_last (PrintApart (global_labels new.settings)) rs (record { kind = kind; key = key }) pairs)
       heads_split (Describe kind name unit text) rs pairs = (subst (Apart new) (append-nil rs) pairs, tt)
+
+      spares_split : (last : SetupLine) (rs : List Registration) → Spares new (rs ++ filter_map registration_of (last ∷ [])) → Spares new rs × IfSome (registration_of last) (SparesOverflow new.settings)
+      spares_split (Register kind key) rs all = (front_all (SparesOverflow new.settings) rs (record { kind = kind; key = key }) all, last_all (SparesOverflow new.settings) rs (record { kind = kind; key = key }) all)
+      spares_split (Describe kind name unit text) rs all = (subst (Spares new) (append-nil rs) all, tt)
 
   last_round : round.calls ≡ [] → round.setup ≡ [] → Last said lines line new
   last_round g f =
@@ -451,6 +482,7 @@ module _ (said : Said) (lines : List (List ℕ)) (line : List ℕ) (new : Script
         registrations = omega (arith, few_registered, ap length same);
         samples = omega (arith, few_samples, samples_push before round);
         heads = subst (Apart new) same apart;
+        overflow = subst (Spares new) same spares;
       })
 
   last_of_round : Last said lines line new
@@ -470,7 +502,7 @@ last_header said lines line new h none = by (header_last new.settings said h.0.0
         let old : ScriptText = record { settings = before; rounds = [] } in
         let next : AddsHeader earlier old says said new = record { no_round = refl; order = order; told = told; grown = λ j. record { settings = grown j; rounds = none j } } in
         make_last earlier said lines line new old (Header says) h next
-        (record { meant = meant; moments = no_moments [] refl; handles = tt; registrations = lit≤ tt; samples = lit≤ tt; heads = no_pairs (PrintApart (global_labels before)) [] refl })
+        (record { meant = meant; moments = no_moments [] refl; handles = tt; registrations = lit≤ tt; samples = lit≤ tt; heads = no_pairs (PrintApart (global_labels before)) [] refl; overflow = All-nil (SparesOverflow before) })
 
 pub last_line : (said : Said) (lines : List (List ℕ)) (line : List ℕ) (new : ScriptText) → Valid said (lines ++ line ∷ []) new → Last said lines line new
 last_line said lines line new h =

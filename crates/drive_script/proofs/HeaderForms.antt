@@ -8,8 +8,8 @@ use Rattle.metrics_core.specs.Keys.{LabelText}
 use Rattle.metrics_core.specs.Kinds.{KindMask}
 use Rattle.prom_format.specs.Matchers.{MatcherText, Full, Prefix, Suffix, matcher_bytes}
 use Rattle.drive_script.specs.Words.{spaced, quoted, AreDecs, form_word, IsLabelUtf8}
-use Rattle.drive_script.specs.Script.{NativeLine, HeaderLine, Quantiles, Buckets, BucketsFor, NativeFor, Summary, Idle, Naming, Units, Global, Limit, Mode, NamePrefix, GlobalTag, HistogramKind, Header, IsLine, AreHeaderWords}
-use Rattle.drive_script.specs.Reading.{◌or◌, both, seen, after, behind, standing, whole, number_at, positive_at, fixed_at, values_at, text_at, matcher_form_at, matcher_of, matcher_at, mask_at, quantiles_at, buckets_at, buckets_for_at, native_numbers_at, native_of_parts, native_for_at, summary_at, idle_at, label_line_at, limit_at, prefix_at, switch_at, payload_line_at}
+use Rattle.drive_script.specs.Script.{NativeLine, HeaderLine, Quantiles, Buckets, BucketsFor, NativeFor, Summary, Idle, Naming, Units, Global, SeriesLimit, Limit, Mode, NamePrefix, GlobalTag, HistogramKind, Header, IsLine, AreHeaderWords}
+use Rattle.drive_script.specs.Reading.{◌or◌, both, seen, after, behind, standing, whole, number_at, positive_at, fixed_at, values_at, text_at, matcher_form_at, matcher_of, matcher_at, mask_at, quantiles_at, buckets_at, buckets_for_at, native_numbers_at, native_of_parts, native_for_at, summary_at, idle_at, label_line_at, series_limit_at, limit_at, prefix_at, switch_at, payload_line_at}
 use Rattle.drive_script.specs.Texts.{header_of}
 use Rattle.drive_script.specs.declared.headers.HeaderLine.{HeaderLine as HeaderOf}
 use Rattle.drive_script.specs.declared.headers.MatcherForm.{MatcherForm}
@@ -357,6 +357,24 @@ tag_takes line label e =
 pub tag_again : (line : List ℕ) (label : LabelText) → IsLine line (Header (GlobalTag label)) → label_line_at (codes "dsd-global ") line ≡ Some label
 tag_again line label h = label_line_again (codes "dsd-global ") line label h.formed.0 (h.spelled ∙ ap spaced h.formed.1)
 
+-- ---- series-limit lines
+
+series_limit_reads : IsReader (after (codes "series-limit ") (positive_at (2 ^ 32 - 1))) (SpellsAfter (codes "series-limit ") (SpellsPositive (2 ^ 32 - 1))) Ends
+series_limit_reads = after_reads (codes "series-limit ") (positive_at (2 ^ 32 - 1)) (SpellsPositive (2 ^ 32 - 1)) Ends
+    (stops_less (positive_at (2 ^ 32 - 1)) (SpellsPositive (2 ^ 32 - 1)) WordEnds Ends (positive_reads (2 ^ 32 - 1) (lit< tt)) ends_word)
+
+pub series_limit_takes : (line : List ℕ) (limit : ℕ) → series_limit_at line ≡ Some limit → IsLine line (Header (SeriesLimit limit))
+unfolding series_limit_at
+series_limit_takes line limit e =
+    let (front, (some, number), split) = whole_takes _ _ Ends series_limit_reads line limit e in
+    record { words = codes "series-limit" ∷ decimal limit ∷ []; formed = (some, omega (arith, number.1), refl); spelled = split ∙ ap (λ l. codes "series-limit " ++ l) number.0 }
+
+pub series_limit_again : (line : List ℕ) (limit : ℕ) → IsLine line (Header (SeriesLimit limit)) → series_limit_at line ≡ Some limit
+unfolding series_limit_at
+series_limit_again line limit h =
+    let (some, fits, words_are) = h.formed in
+    whole_again _ _ Ends series_limit_reads refl line limit (decimal limit, (some, (refl, omega (arith, fits))), h.spelled ∙ ap spaced words_are)
+
 -- ---- dsd-limit lines and dsd-prefix lines
 
 limit_reads : IsReader (after (codes "dsd-limit ") (number_at (2 ^ 64 - 1))) (SpellsAfter (codes "dsd-limit ") (SpellsNumber (2 ^ 64 - 1))) Ends
@@ -457,9 +475,9 @@ kind_again line false h = ap switch_at (h.spelled ∙ ap spaced h.formed)
 -- ---- no reading
 
 -- a line that is read in none of the forms is no header line
-pub no_header : (line : List ℕ) → label_line_at (codes "global ") line ≡ None → buckets_for_at line ≡ None → buckets_at line ≡ None → quantiles_at line ≡ None → summary_at line ≡ None → idle_at line ≡ None → native_for_at line ≡ None → switch_at line ≡ None → payload_line_at line ≡ None
+pub no_header : (line : List ℕ) → label_line_at (codes "global ") line ≡ None → buckets_for_at line ≡ None → buckets_at line ≡ None → quantiles_at line ≡ None → summary_at line ≡ None → idle_at line ≡ None → series_limit_at line ≡ None → native_for_at line ≡ None → switch_at line ≡ None → payload_line_at line ≡ None
     → (says : HeaderLine) → ¬ IsLine line (Header says)
-no_header line g bf b q s i n sw p = by
+no_header line g bf b q s i l n sw p = by
   where
     others : (label_line_at (codes "dsd-global ") line ≡ None) × (limit_at line ≡ None) × (prefix_at line ≡ None)
     others =
@@ -480,6 +498,7 @@ no_header line g bf b q s i n sw p = by
     by Naming h = differ (switch_at line) Naming sw (naming_again line h)
     by Units h = differ (switch_at line) Units sw (units_again line h)
     by (Global label) h = differ (label_line_at (codes "global ") line) label g (global_again line label h)
+    by (SeriesLimit limit) h = differ (series_limit_at line) limit l (series_limit_again line limit h)
     by (Limit limit) h = differ (limit_at line) limit others.1 (limit_again line limit h)
     by (Mode aggressive) h = differ (switch_at line) (Mode aggressive) sw (mode_again line aggressive h)
     by (NamePrefix text) h = differ (prefix_at line) text others.2 (prefix_again line text h)

@@ -5,7 +5,7 @@ use Rattle.std.proofs.lemmas.List.{append-nil, map_push}
 use Rattle.std.proofs.lemmas.List.Elements.{All-nil, All-cons, All-head, All-tail, All-append}
 use Rattle.metrics_core.specs.Kinds.{KindMask}
 use Rattle.prom_format.specs.Matchers.{MatcherText}
-use Rattle.drive_script.specs.Script.{SettingsText, HeaderLine, Quantiles, Buckets, BucketsFor, NativeFor, Summary, Idle, Naming, Units, Global, Limit, Mode, NamePrefix, GlobalTag, HistogramKind, Header, Said, IsMeant, where_on, header_lines, only_globals}
+use Rattle.drive_script.specs.Script.{SettingsText, HeaderLine, Quantiles, Buckets, BucketsFor, NativeFor, Summary, Idle, Naming, Units, Global, SeriesLimit, Limit, Mode, NamePrefix, GlobalTag, HistogramKind, Header, Said, IsMeant, where_on, header_lines, only_globals}
 use Rattle.drive_script.specs.Growth.{place, may_repeat, least_behind, MayFollow, with_header, said_with}
 
 -- a list is empty, or has a last element
@@ -143,7 +143,7 @@ once f o = option_to_list (option_map f o)
 abbrev groups_of : SettingsText → Said → List (List HeaderLine)
 groups_of s said =
     once Quantiles s.quantiles ∷ once Buckets s.buckets ∷ map rule_line s.buckets_for ∷ map NativeFor s.native_for ∷ once summary_line s.summary
-    ∷ once idle_line s.idle ∷ where_on s.naming Naming ∷ where_on s.units Units ∷ map Global s.globals ∷ once Limit s.dsd_limit ∷ once Mode said.mode
+    ∷ once idle_line s.idle ∷ where_on s.naming Naming ∷ where_on s.units Units ∷ map Global s.globals ∷ once SeriesLimit s.series_limit ∷ once Limit s.dsd_limit ∷ once Mode said.mode
     ∷ once NamePrefix s.dsd_prefix ∷ map GlobalTag s.dsd_globals ∷ once HistogramKind said.kind ∷ []
 
 module _ {A : Type 0} (f : A → HeaderLine) (p : ℕ) where
@@ -201,11 +201,12 @@ module _ (s : SettingsText) (said : Said) where
       and on_placed Naming s.naming
       and on_placed Units s.units
       and each_placed Global 8 (λ _. refl) s.globals
-      and once_placed Limit 9 (λ _. refl) s.dsd_limit
-      and once_placed Mode 10 (λ _. refl) said.mode
-      and once_placed NamePrefix 11 (λ _. refl) s.dsd_prefix
-      and each_placed GlobalTag 12 (λ _. refl) s.dsd_globals
-      and once_placed HistogramKind 13 (λ _. refl) said.kind
+      and once_placed SeriesLimit 9 (λ _. refl) s.series_limit
+      and once_placed Limit 10 (λ _. refl) s.dsd_limit
+      and once_placed Mode 11 (λ _. refl) said.mode
+      and once_placed NamePrefix 12 (λ _. refl) s.dsd_prefix
+      and each_placed GlobalTag 13 (λ _. refl) s.dsd_globals
+      and once_placed HistogramKind 14 (λ _. refl) said.kind
       and tt
 
   module _ (p : ℕ) (may : MayFollow (header_lines s said) p) where
@@ -216,7 +217,7 @@ module _ (s : SettingsText) (said : Said) where
     own : MayFollow (get_or (groups_of s said) p []) p
     own = group_before p p (groups_of s said) all_before
 
-    behind : (line : HeaderLine) → p < 14 → joined [] (set (groups_of s said) p (get_or (groups_of s said) p [] ++ line ∷ [])) ≡ header_lines s said ++ line ∷ []
+    behind : (line : HeaderLine) → p < 15 → joined [] (set (groups_of s said) p (get_or (groups_of s said) p [] ++ line ∷ [])) ≡ header_lines s said ++ line ∷ []
     behind line within = joined_push [] (groups_of s said) p line within (nil_behind p p 0 (groups_of s said) (omega arith) placed all_before)
 
   -- the lines with another group at a place, and one more line in that
@@ -243,16 +244,18 @@ header_behind s said Units may =
     ap (λ b. grown s said 7 (where_on b Units) Units) (sym (not_on Units s.units (lit< tt) (own s said 7 may))) ∙ behind s said 7 may Units (lit< tt)
 header_behind s said (Global label) may =
     ap (λ g. joined [] (set (groups_of s said) 8 g)) (map_push Global s.globals label) ∙ behind s said 8 may (Global label) (lit< tt)
+header_behind s said (SeriesLimit limit) may =
+    ap (λ o. grown s said 9 (once SeriesLimit o) (SeriesLimit limit)) (sym (not_said SeriesLimit 9 (λ _. lit< tt) s.series_limit (own s said 9 may))) ∙ behind s said 9 may (SeriesLimit limit) (lit< tt)
 header_behind s said (Limit limit) may =
-    ap (λ o. grown s said 9 (once Limit o) (Limit limit)) (sym (not_said Limit 9 (λ _. lit< tt) s.dsd_limit (own s said 9 may))) ∙ behind s said 9 may (Limit limit) (lit< tt)
+    ap (λ o. grown s said 10 (once Limit o) (Limit limit)) (sym (not_said Limit 10 (λ _. lit< tt) s.dsd_limit (own s said 10 may))) ∙ behind s said 10 may (Limit limit) (lit< tt)
 header_behind s said (Mode aggressive) may =
-    ap (λ o. grown s said 10 (once Mode o) (Mode aggressive)) (sym (not_said Mode 10 (λ _. lit< tt) said.mode (own s said 10 may))) ∙ behind s said 10 may (Mode aggressive) (lit< tt)
+    ap (λ o. grown s said 11 (once Mode o) (Mode aggressive)) (sym (not_said Mode 11 (λ _. lit< tt) said.mode (own s said 11 may))) ∙ behind s said 11 may (Mode aggressive) (lit< tt)
 header_behind s said (NamePrefix text) may =
-    ap (λ o. grown s said 11 (once NamePrefix o) (NamePrefix text)) (sym (not_said NamePrefix 11 (λ _. lit< tt) s.dsd_prefix (own s said 11 may))) ∙ behind s said 11 may (NamePrefix text) (lit< tt)
+    ap (λ o. grown s said 12 (once NamePrefix o) (NamePrefix text)) (sym (not_said NamePrefix 12 (λ _. lit< tt) s.dsd_prefix (own s said 12 may))) ∙ behind s said 12 may (NamePrefix text) (lit< tt)
 header_behind s said (GlobalTag label) may =
-    ap (λ g. joined [] (set (groups_of s said) 12 g)) (map_push GlobalTag s.dsd_globals label) ∙ behind s said 12 may (GlobalTag label) (lit< tt)
+    ap (λ g. joined [] (set (groups_of s said) 13 g)) (map_push GlobalTag s.dsd_globals label) ∙ behind s said 13 may (GlobalTag label) (lit< tt)
 header_behind s said (HistogramKind histograms) may =
-    ap (λ o. grown s said 13 (once HistogramKind o) (HistogramKind histograms)) (sym (not_said HistogramKind 13 (λ _. lit< tt) said.kind (own s said 13 may))) ∙ behind s said 13 may (HistogramKind histograms) (lit< tt)
+    ap (λ o. grown s said 14 (once HistogramKind o) (HistogramKind histograms)) (sym (not_said HistogramKind 14 (λ _. lit< tt) said.kind (own s said 14 may))) ∙ behind s said 14 may (HistogramKind histograms) (lit< tt)
 
 -- ---- the mode and the kind
 
@@ -266,6 +269,7 @@ still_meant s said (Idle mask timeout) h = h
 still_meant s said Naming h = h
 still_meant s said Units h = h
 still_meant s said (Global label) h = h
+still_meant s said (SeriesLimit limit) h = h
 still_meant s said (Limit limit) h = h
 still_meant s said (Mode aggressive) h = (refl, h.1)
 still_meant s said (NamePrefix text) h = h
@@ -338,34 +342,39 @@ module _ (s : SettingsText) (said : Said) (meant : IsMeant said s) where
         | inl e ↦ from_units s.units refl (ap (map Global) e, none)
       ]
 
-  from_limit : (o : Option ℕ) → s.dsd_limit ≡ o → NoneFrom 10 → HeaderLast s said
-  from_limit (Some limit) e none =
-      last_one (record s { dsd_limit = None }) said (Limit limit) meant (may_follow (record s { dsd_limit = None }) said 9 (All-nil (Before 9)) none) (ap (λ o. record s { dsd_limit = o }) e) refl
-  from_limit None e none = from_globals (ap (once Limit) e, none)
+  from_series_limit : (o : Option ℕ) → s.series_limit ≡ o → NoneFrom 10 → HeaderLast s said
+  from_series_limit (Some limit) e none =
+      last_one (record s { series_limit = None }) said (SeriesLimit limit) meant (may_follow (record s { series_limit = None }) said 9 (All-nil (Before 9)) none) (ap (λ o. record s { series_limit = o }) e) refl
+  from_series_limit None e none = from_globals (ap (once SeriesLimit) e, none)
 
-  from_mode : (o : Option Bool) → said.mode ≡ o → NoneFrom 11 → HeaderLast s said
+  from_limit : (o : Option ℕ) → s.dsd_limit ≡ o → NoneFrom 11 → HeaderLast s said
+  from_limit (Some limit) e none =
+      last_one (record s { dsd_limit = None }) said (Limit limit) meant (may_follow (record s { dsd_limit = None }) said 10 (All-nil (Before 10)) none) (ap (λ o. record s { dsd_limit = o }) e) refl
+  from_limit None e none = from_series_limit s.series_limit refl (ap (once Limit) e, none)
+
+  from_mode : (o : Option Bool) → said.mode ≡ o → NoneFrom 12 → HeaderLast s said
   from_mode (Some aggressive) e none =
       last_one (record s { dsd_aggressive = false }) (record said { mode = None }) (Mode aggressive) (refl, meant.1)
-      (may_follow (record s { dsd_aggressive = false }) (record said { mode = None }) 10 (All-nil (Before 10)) none)
+      (may_follow (record s { dsd_aggressive = false }) (record said { mode = None }) 11 (All-nil (Before 11)) none)
       (ap (λ b. record s { dsd_aggressive = b }) (meant.0 ∙ ap (λ o. unwrap_or o false) e)) (ap (λ o. record said { mode = o }) e)
   from_mode None e none = from_limit s.dsd_limit refl (ap (once Mode) e, none)
 
-  from_prefix : (o : Option (List ℕ)) → s.dsd_prefix ≡ o → NoneFrom 12 → HeaderLast s said
+  from_prefix : (o : Option (List ℕ)) → s.dsd_prefix ≡ o → NoneFrom 13 → HeaderLast s said
   from_prefix (Some text) e none =
-      last_one (record s { dsd_prefix = None }) said (NamePrefix text) meant (may_follow (record s { dsd_prefix = None }) said 11 (All-nil (Before 11)) none) (ap (λ o. record s { dsd_prefix = o }) e) refl
+      last_one (record s { dsd_prefix = None }) said (NamePrefix text) meant (may_follow (record s { dsd_prefix = None }) said 12 (All-nil (Before 12)) none) (ap (λ o. record s { dsd_prefix = o }) e) refl
   from_prefix None e none = from_mode said.mode refl (ap (once NamePrefix) e, none)
 
-  from_tags : NoneFrom 13 → HeaderLast s said
+  from_tags : NoneFrom 14 → HeaderLast s said
   from_tags none =
       elim (last_of s.dsd_globals) [
-        | inr (tags, tag, e) ↦ last_one (record s { dsd_globals = tags }) said (GlobalTag tag) meant (may_follow (record s { dsd_globals = tags }) said 12 (may_repeat_all GlobalTag 12 (λ _. lit≤ tt) tags) none) (ap (λ l. record s { dsd_globals = l }) e) refl
+        | inr (tags, tag, e) ↦ last_one (record s { dsd_globals = tags }) said (GlobalTag tag) meant (may_follow (record s { dsd_globals = tags }) said 13 (may_repeat_all GlobalTag 13 (λ _. lit≤ tt) tags) none) (ap (λ l. record s { dsd_globals = l }) e) refl
         | inl e ↦ from_prefix s.dsd_prefix refl (ap (map GlobalTag) e, none)
       ]
 
   from_kind : (o : Option Bool) → said.kind ≡ o → HeaderLast s said
   from_kind (Some histograms) e =
       last_one (record s { dsd_histograms = false }) (record said { kind = None }) (HistogramKind histograms) (meant.0, refl)
-      (may_follow (record s { dsd_histograms = false }) (record said { kind = None }) 13 (All-nil (Before 13)) tt)
+      (may_follow (record s { dsd_histograms = false }) (record said { kind = None }) 14 (All-nil (Before 14)) tt)
       (ap (λ b. record s { dsd_histograms = b }) (meant.1 ∙ ap (λ o. unwrap_or o false) e)) (ap (λ o. record said { kind = o }) e)
   from_kind None e = from_tags (ap (once HistogramKind) e, tt)
 
@@ -384,7 +393,7 @@ none_mapped (line ∷ lines) e = absurd cc
 -- settings with no header line are those of a script without any
 pub no_header_said : (s : SettingsText) (said : Said) → IsMeant said s → map Header (header_lines s said) ≡ [] → (s ≡ only_globals []) × (said ≡ nothing_said)
 no_header_said s said meant e =
-    let (quantiles, (buckets, (rules, (natives, (summary, (idle, (naming, (units, (globals, (limit, (mode, (prefix, (tags, (kind, _)))))))))))))) = (all_nil [] (groups_of s said) (none_mapped (header_lines s said) e)).1 in
+    let (quantiles, (buckets, (rules, (natives, (summary, (idle, (naming, (units, (globals, (series_limit, (limit, (mode, (prefix, (tags, (kind, _))))))))))))))) = (all_nil [] (groups_of s said) (none_mapped (header_lines s said) e)).1 in
     let no_mode : said.mode ≡ None = none_once Mode said.mode mode in
     let no_kind : said.kind ≡ None = none_once HistogramKind said.kind kind in (
       λ j. record {
@@ -402,6 +411,7 @@ no_header_said s said meant e =
         dsd_prefix = none_once NamePrefix s.dsd_prefix prefix j;
         dsd_globals = none_each GlobalTag s.dsd_globals tags j;
         dsd_histograms = (meant.1 ∙ ap (λ o. unwrap_or o false) no_kind) j;
+        series_limit = none_once SeriesLimit s.series_limit series_limit j;
       },
       λ j. record { mode = no_mode j; kind = no_kind j },
     )

@@ -10,6 +10,7 @@ pub mod Forms
 pub mod Loops
 pub mod Parts
 pub mod HeadSteps
+pub mod Overflow
 pub mod HeaderGrowth
 pub mod Growth
 pub mod Laws

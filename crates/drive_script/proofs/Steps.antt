@@ -11,7 +11,7 @@ use Rattle.metrics_core.specs.Keys.{KeyText, label_set}
 use Rattle.metrics_core.specs.declared.kinds.MetricKind.{MetricKind}
 use Rattle.drive_script.specs.Script as text
 use Rattle.drive_script.specs.Script.{ScriptText, SettingsText, Said, header_lines, IsLine, global_labels}
-use Rattle.drive_script.specs.Valid.{Registration, registration_of, registered, HasHandle, sample_count, sample_total, PrintApart, AreValidLines}
+use Rattle.drive_script.specs.Valid.{Registration, registration_of, registered, HasHandle, sample_count, sample_total, PrintApart, SparesOverflow, AreValidLines}
 use Rattle.drive_script.specs.Growth.{AddsHeader, BeginsRound, SetsUp, AddsCall, place, least_behind, MayFollow, IsLeastPlace, with_header, said_with, globals_with}
 use Rattle.drive_script.specs.Taking.{Takes}
 use Rattle.drive_script.specs.Texts.{call_line_of, setup_of, round_of, script_so_far, StandsBehind}
@@ -76,8 +76,8 @@ module _ (settings : SettingsText) (rounds : List Round) (n : ℕ) (len : n ≡ 
             let with_setup = λ (ss : List text.SetupLine). with_rounds settings (map round_of (take (n - 1) rounds) ++ round_with round.moment ss (map call_line_of round.calls.items) ∷ []) in
             ap (with_rounds settings) (texts_set (record { moment = round.moment; setup = setup; calls = round.calls })) ∙ ap with_setup (ap (map setup_of) e ∙ map_push setup_of round.setup.items line ∙ ap (λ s. map setup_of round.setup.items ++ s ∷ []) is)
 
-        added : length (registered set_up) ≤ 1000000 → IfSome (registration_of says) (λ new. All (λ r. PrintApart (global_labels settings) r new) (registered (script_with settings rounds))) → SetsUp (script_with settings rounds) says set_up
-        added room apart = record {
+        added : length (registered set_up) ≤ 1000000 → IfSome (registration_of says) (λ new. All (λ r. PrintApart (global_labels settings) r new) (registered (script_with settings rounds))) → IfSome (registration_of says) (SparesOverflow settings) → SetsUp (script_with settings rounds) says set_up
+        added room apart spares = record {
           before = map round_of (take (n - 1) rounds);
           round = round_of round;
           last = texts_split;
@@ -85,6 +85,7 @@ module _ (settings : SettingsText) (rounds : List Round) (n : ℕ) (len : n ≡ 
           grown = grown;
           apart = apart;
           room = room;
+          spares = spares;
         }
 
         -- what describes registers nothing
@@ -95,13 +96,14 @@ module _ (settings : SettingsText) (rounds : List Round) (n : ℕ) (len : n ≡ 
         description_added none few =
             added (omega (arith, few, ap length (still_registered none)))
             (subst (λ o. IfSome o (λ new. All (λ r. PrintApart (global_labels settings) r new) (registered (script_with settings rounds)))) (sym none) tt)
+            (subst (λ o. IfSome o (SparesOverflow settings)) (sym none) tt)
 
       module _ (kind : MetricKind) (key : KeyText) (is : setup_of line ≡ text.Register kind key) where
         pub key_registered : registered set_up ≡ registered (script_with settings rounds) ++ record { kind = kind; key = key } ∷ []
         key_registered = one_registered (script_with settings rounds) set_up (map round_of (take (n - 1) rounds)) (round_of round) kind key texts_split (grown (text.Register kind key) is)
 
-        pub register_added : length (registered (script_with settings rounds)) < 1000000 → All (λ r. PrintApart (global_labels settings) r (record { kind = kind; key = key })) (registered (script_with settings rounds)) → SetsUp (script_with settings rounds) (text.Register kind key) set_up
-        register_added room apart = added (text.Register kind key) is (omega (arith, ap length key_registered, length_push (registered (script_with settings rounds)) (record { kind = kind; key = key }))) apart
+        pub register_added : length (registered (script_with settings rounds)) < 1000000 → All (λ r. PrintApart (global_labels settings) r (record { kind = kind; key = key })) (registered (script_with settings rounds)) → SparesOverflow settings (record { kind = kind; key = key }) → SetsUp (script_with settings rounds) (text.Register kind key) set_up
+        register_added room apart spares = added (text.Register kind key) is (omega (arith, ap length key_registered, length_push (registered (script_with settings rounds)) (record { kind = kind; key = key }))) apart spares
 
     -- behind a call line nothing is set up
     pub calls_stand : (setup : text.SetupLine) (new : ScriptText) → 0 < length round.calls.items → SetsUp (script_with settings rounds) setup new → ⊥
@@ -191,6 +193,7 @@ globals_grown settings (text.Idle mask timeout) = refl
 globals_grown settings text.Naming = refl
 globals_grown settings text.Units = refl
 globals_grown settings (text.Global label) = sym (label_set-push settings.globals label)
+globals_grown settings (text.SeriesLimit limit) = refl
 globals_grown settings (text.Limit limit) = refl
 globals_grown settings (text.Mode aggressive) = refl
 globals_grown settings (text.NamePrefix prefix) = refl

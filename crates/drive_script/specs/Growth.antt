@@ -1,8 +1,8 @@
 -- How a script grows by one line at its end.
 use Rattle.std.specs.Prelude.{◌≡◌, ◌↔◌, ℕ, suc, ◌≤◌, Bool, true, false, List, [], ◌∷◌, ◌++◌, length, All, IfSome, Some, if◌then◌else◌}
 use Rattle.metrics_core.specs.Keys.{LabelText, put_label}
-use Rattle.drive_script.specs.Script.{SettingsText, ScriptText, RoundText, SetupLine, CallLine, HeaderLine, Quantiles, Buckets, BucketsFor, NativeFor, Summary, Idle, Naming, Units, Global, Limit, Mode, NamePrefix, GlobalTag, HistogramKind, Said, header_lines, ScriptLine, Header, Round, Setup, CallOf, global_labels}
-use Rattle.drive_script.specs.Valid.{registered, registration_of, HasHandle, sample_total, PrintApart}
+use Rattle.drive_script.specs.Script.{SettingsText, ScriptText, RoundText, SetupLine, CallLine, HeaderLine, Quantiles, Buckets, BucketsFor, NativeFor, Summary, Idle, Naming, Units, Global, SeriesLimit, Limit, Mode, NamePrefix, GlobalTag, HistogramKind, Said, header_lines, ScriptLine, Header, Round, Setup, CallOf, global_labels}
+use Rattle.drive_script.specs.Valid.{registered, registration_of, HasHandle, sample_total, PrintApart, SparesOverflow}
 
 -- ---- header lines
 
@@ -17,11 +17,12 @@ place (Idle _ _) = 5
 place Naming = 6
 place Units = 7
 place (Global _) = 8
-place (Limit _) = 9
-place (Mode _) = 10
-place (NamePrefix _) = 11
-place (GlobalTag _) = 12
-place (HistogramKind _) = 13
+place (SeriesLimit _) = 9
+place (Limit _) = 10
+place (Mode _) = 11
+place (NamePrefix _) = 12
+place (GlobalTag _) = 13
+place (HistogramKind _) = 14
 
 -- whether lines of its form may come again
 abbrev pub may_repeat : HeaderLine → Bool
@@ -54,6 +55,7 @@ with_header settings (Idle mask timeout) = record settings { idle = Some (mask, 
 with_header settings Naming = record settings { naming = true }
 with_header settings Units = record settings { units = true }
 with_header settings (Global label) = record settings { globals = settings.globals ++ label ∷ [] }
+with_header settings (SeriesLimit limit) = record settings { series_limit = Some limit }
 with_header settings (Limit limit) = record settings { dsd_limit = Some limit }
 with_header settings (Mode aggressive) = record settings { dsd_aggressive = aggressive }
 with_header settings (NamePrefix text) = record settings { dsd_prefix = Some text }
@@ -86,7 +88,7 @@ pub record BeginsRound (old : ScriptText) (moment : ℕ) (new : ScriptText) : Ty
   pub grown : new ≡ record old { rounds = old.rounds ++ record { moment = moment; setup = []; calls = [] } ∷ [] }
 
 -- A setup line goes to the last round, which has no call line yet. There are at most 1,000,000 register lines, and what a
--- line registers prints apart from all others.
+-- line registers prints apart from all others, and from overflow series where there is a limit.
 pub record SetsUp (old : ScriptText) (setup : SetupLine) (new : ScriptText) : Type 0 where
   pub before : List RoundText
   pub round : RoundText
@@ -95,6 +97,7 @@ pub record SetsUp (old : ScriptText) (setup : SetupLine) (new : ScriptText) : Ty
   pub grown : new ≡ record old { rounds = before ++ record round { setup = round.setup ++ setup ∷ [] } ∷ [] }
   pub room : length (registered new) ≤ 1000000
   pub apart : IfSome (registration_of setup) (λ registration. All (λ r. PrintApart (global_labels old.settings) r registration) (registered old))
+  pub spares : IfSome (registration_of setup) (SparesOverflow old.settings)
 
 -- a call line goes to the last round, and has the handle of a register line; all call lines record at most 16,777,216 samples
 pub record AddsCall (old : ScriptText) (call : CallLine) (new : ScriptText) : Type 0 where

@@ -1,10 +1,11 @@
 -- A table from heads of keys to keys, by the text of a head: two register lines of one kind with the same head have equal keys.
-use Rattle.std.specs.Prelude.{string_bytes, ◌≡◌, ℕ, List, ◌++◌, map, Option, Some, None, bytes_eq, codes, slice_get, All}
+use Rattle.std.specs.Prelude.{string_bytes, ◌≡◌, ℕ, List, ◌++◌, map, Option, Some, None, Bool, bytes_eq, codes, slice_get, All}
 use Rattle.std.specs.Map.{lookup}
 use Rattle.std.specs.declared.string.String.{String}
 use Rattle.std.specs.declared.alloc.Global.{Global}
 use Rattle.metrics_core.specs.Kinds.{kind_text}
 use Rattle.metrics_core.specs.Keys.{LabelText, KeyText, SameKey}
+use Rattle.prom_format.specs.Names.{sanitized_label_name}
 use Rattle.prom_format.specs.Lines.{head_text}
 use Rattle.prom_format.specs.PlainKeys.{PrintsPlainly}
 use Rattle.drive_script.specs.declared.heads.HeadTable.{HeadTable}
@@ -35,3 +36,7 @@ AllPrintPlainly globals registered = All (λ r. PrintsPlainly globals r.key) reg
 abbrev pub AreNoted : List LabelText → Option HeadTable → List Registration → Type 0
 AreNoted globals None registered = AllPrintPlainly globals registered
 AreNoted globals (Some table) registered = AreHeadsOf globals (keys_by_head table.keys.entries) registered
+
+-- whether a label is shown with the key of the label of overflow series
+abbrev pub shows_overflow : LabelText → Bool
+shows_overflow label = bytes_eq (sanitized_label_name label.key) (codes "overflow")

@@ -330,6 +330,10 @@ idle_at line = whole (after (codes "idle ") (both mask_at (λ _. after (codes " 
 unfoldable pub label_line_at : List ℕ → List ℕ → Option LabelText
 label_line_at word line = whole (after word (seen (λ texts. record { key = texts.0; value = texts.1 }) (both text_at (λ _. after (codes " ") text_at)))) line
 
+-- the limit of a series-limit line
+unfoldable pub series_limit_at : List ℕ → Option ℕ
+series_limit_at line = whole (after (codes "series-limit ") (positive_at (2 ^ 32 - 1))) line
+
 -- the limit of a dsd-limit line
 unfoldable pub limit_at : List ℕ → Option ℕ
 limit_at line = whole (after (codes "dsd-limit ") (number_at (2 ^ 64 - 1))) line

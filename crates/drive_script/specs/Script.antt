@@ -37,6 +37,7 @@ pub record SettingsText : Type 0 where
   pub dsd_prefix : Option (List ℕ)
   pub dsd_globals : List LabelText
   pub dsd_histograms : Bool
+  pub series_limit : Option ℕ
 
 -- the settings of a script without header lines but for these global labels
 abbrev pub only_globals : List LabelText → SettingsText
@@ -55,6 +56,7 @@ only_globals globals = record {
   dsd_prefix = None;
   dsd_globals = [];
   dsd_histograms = false;
+  series_limit = None;
 }
 
 -- the global labels: of those with equal keys the last one's value counts, in the place of the first
@@ -106,6 +108,7 @@ pub data HeaderLine : Type 0 where
   Naming : HeaderLine
   Units : HeaderLine
   Global : LabelText → HeaderLine
+  SeriesLimit : ℕ → HeaderLine
   Limit : ℕ → HeaderLine
   Mode : Bool → HeaderLine
   NamePrefix : List ℕ → HeaderLine
@@ -137,6 +140,7 @@ AreHeaderWords words Naming = words ≡ codes "naming" ∷ codes "on" ∷ []
 AreHeaderWords words Units = words ≡ codes "units" ∷ codes "on" ∷ []
 AreHeaderWords words (Global label) =
     IsLabelUtf8 label × (words ≡ codes "global" ∷ quoted label.key ∷ quoted label.value ∷ [])
+AreHeaderWords words (SeriesLimit limit) = (1 ≤ limit) × (limit < 2 ^ 32) × (words ≡ codes "series-limit" ∷ decimal limit ∷ [])
 AreHeaderWords words (Limit limit) = (limit < 2 ^ 64) × (words ≡ codes "dsd-limit" ∷ decimal limit ∷ [])
 AreHeaderWords words (Mode aggressive) = words ≡ codes "dsd-mode" ∷ mode_word aggressive ∷ []
 AreHeaderWords words (NamePrefix text) = IsUtf8 text × (words ≡ codes "dsd-prefix" ∷ quoted text ∷ [])
@@ -204,6 +208,7 @@ header_lines settings said =
     ++ where_on settings.naming Naming
     ++ where_on settings.units Units
     ++ map Global settings.globals
+    ++ option_to_list (option_map SeriesLimit settings.series_limit)
     ++ option_to_list (option_map Limit settings.dsd_limit)
     ++ option_to_list (option_map Mode said.mode)
     ++ option_to_list (option_map NamePrefix settings.dsd_prefix)

@@ -69,6 +69,7 @@ settings_of settings = record {
   dsd_prefix = option_map (λ prefix. string_bytes prefix) settings.dsd_prefix;
   dsd_globals = labels_of settings.dsd_globals.items;
   dsd_histograms = settings.dsd_histograms;
+  series_limit = option_map non_zero_u32_get settings.series_limit;
 }
 
 abbrev pub script_of : Script → text.ScriptText
@@ -99,6 +100,7 @@ header_of (headers.Idle mask timeout) = text.Idle mask timeout
 header_of headers.Naming = text.Naming
 header_of headers.Units = text.Units
 header_of (headers.Global key value) = text.Global (label_of (key, value))
+header_of (headers.SeriesLimit limit) = text.SeriesLimit (non_zero_u32_get limit)
 header_of (headers.Limit limit) = text.Limit limit
 header_of (headers.Mode aggressive) = text.Mode aggressive
 header_of (headers.NamePrefix prefix) = text.NamePrefix (string_bytes prefix)

@@ -1,11 +1,11 @@
 -- When a script is valid, and which line is the first bad one (this project's rules).
-use Rattle.std.specs.Prelude.{◌≡◌, ℕ, ◌<◌, ◌≤◌, List, [], ◌∷◌, ◌++◌, map, length, take, Option, Some, None, All, AllPairs, flat_map, filter_map, sum_by, slice_get}
+use Rattle.std.specs.Prelude.{◌≡◌, ◌≢◌, ℕ, ◌<◌, ◌≤◌, List, [], ◌∷◌, ◌++◌, map, length, take, Option, Some, None, IfSome, All, AllPairs, flat_map, filter_map, sum_by, slice_get, codes}
 use Rattle.std.specs.List.Sorted.{IsNonDecreasingBy}
 use Rattle.metrics_core.specs.declared.kinds.MetricKind.{MetricKind}
 use Rattle.metrics_core.specs.Keys.{LabelText, KeyText, SameKey, label_set}
 use Rattle.prom_format.specs.Names.{sanitized_metric_name, sanitized_label_name}
 use Rattle.prom_format.specs.Printed.{canonical_label_value}
-use Rattle.drive_script.specs.Script.{ScriptText, RoundText, SetupLine, Register, Describe, CallLine, Act, RecN, Rec, IsScript, global_labels, lines_of, kind_of}
+use Rattle.drive_script.specs.Script.{SettingsText, ScriptText, RoundText, SetupLine, Register, Describe, CallLine, Act, RecN, Rec, IsScript, global_labels, lines_of, kind_of}
 
 -- what a register line registers
 pub record Registration : Type 0 where
@@ -57,12 +57,27 @@ head_of globals key = record {
 abbrev pub PrintApart : List LabelText → Registration → Registration → Type 0
 PrintApart globals a b = a.kind ≡ b.kind → head_of globals a.key ≡ head_of globals b.key → SameKey a.key b.key
 
+-- the head of the overflow series of a metric name: its key is that name, with the one label `overflow` of value `true`
+abbrev pub overflow_head : List LabelText → List ℕ → Head
+overflow_head globals name = head_of globals (record { name = name; labels = record { key = codes "overflow"; value = codes "true" } ∷ [] })
+
+-- a key stands apart from what is made where series are past their limit: its metric name is not that of the family that counts
+-- them, and its head is not that of the overflow series of its metric name
+pub record IsNoOverflow (globals : List LabelText) (key : KeyText) : Type 0 where
+  pub name : sanitized_metric_name key.name ≢ codes "series_overflow"
+  pub head : head_of globals key ≢ overflow_head globals (sanitized_metric_name key.name)
+
+-- where series are limited, what is registered stands apart from that
+abbrev pub SparesOverflow : SettingsText → Registration → Type 0
+SparesOverflow settings r = IfSome settings.series_limit (λ _. IsNoOverflow (global_labels settings) r.key)
+
 pub record IsValid (script : ScriptText) : Type 0 where
   pub moments : IsNonDecreasingBy (λ round. round.moment) script.rounds
   pub handles : HaveHandles [] script.rounds
   pub registrations : length (registered script) ≤ 1000000
   pub samples : sample_total script ≤ 16777216
   pub heads : AllPairs (PrintApart (global_labels script.settings)) (registered script)
+  pub overflow : All (SparesOverflow script.settings) (registered script)
 
 -- the lines are a valid script
 abbrev pub AreValidLines : List (List ℕ) → Type 0

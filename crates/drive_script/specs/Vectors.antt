@@ -17,7 +17,7 @@ basic = record { settings = only_globals []; rounds = basic_round ∷ [] }
 
 -- header lines of many forms, and a line that describes
 abbrev pub settings_bytes : List ℕ
-settings_bytes = codes "native-for full \"n\" 2 160 0\nnaming on\nunits on\ndsd-limit 512\ndsd-mode aggressive\ndsd-prefix \"p\"\ndsd-global \"e\" \"\"\ndsd-kind h\nround 0\ndescribe counter \"a\" seconds \"b\"\n"
+settings_bytes = codes "native-for full \"n\" 2 160 0\nnaming on\nunits on\nseries-limit 100\ndsd-limit 512\ndsd-mode aggressive\ndsd-prefix \"p\"\ndsd-global \"e\" \"\"\ndsd-kind h\nround 0\ndescribe counter \"a\" seconds \"b\"\n"
 
 abbrev pub described_round : RoundText
 described_round = record { moment = 0; setup = Describe Counter (codes "a") (Some Seconds) (codes "b") ∷ []; calls = [] }
@@ -36,6 +36,7 @@ with_settings = record {
     dsd_prefix = Some (codes "p");
     dsd_globals = record { key = codes "e"; value = [] } ∷ [];
     dsd_histograms = true;
+    series_limit = Some 100;
   };
   rounds = described_round ∷ [];
 }
@@ -57,6 +58,33 @@ sampled = record { settings = only_globals []; rounds = sampled_round ∷ [] }
 
 abbrev pub sampled_bytes : List ℕ
 sampled_bytes = codes "round 0\nregister histogram \"sizes\"\n0 recn 0 1.5 3\n"
+
+-- the key of the overflow series of a name, the name of the family that counts what goes to them, and a name that is printed so
+abbrev pub overflow_key : KeyText
+overflow_key = record { name = codes "c"; labels = record { key = codes "overflow"; value = codes "true" } ∷ [] }
+
+abbrev pub counts_key : KeyText
+counts_key = record { name = codes "series_overflow"; labels = [] }
+
+abbrev pub hyphen_key : KeyText
+hyphen_key = record { name = codes "series-overflow"; labels = [] }
+
+-- the first two may be registered where series aren't limited
+abbrev pub unlimited_round : RoundText
+unlimited_round = record { moment = 0; setup = Register Counter overflow_key ∷ Register Counter counts_key ∷ []; calls = [] }
+
+abbrev pub unlimited : ScriptText
+unlimited = record { settings = only_globals []; rounds = unlimited_round ∷ [] }
+
+abbrev pub unlimited_bytes : List ℕ
+unlimited_bytes = codes "round 0\nregister counter \"c\" \"overflow\"=\"true\"\nregister counter \"series_overflow\"\n"
+
+-- and none where they are
+abbrev pub overflow_bytes : List ℕ
+overflow_bytes = codes "series-limit 1\nround 0\nregister counter \"c\" \"overflow\"=\"true\"\n"
+
+abbrev pub counts_bytes : List ℕ
+counts_bytes = codes "series-limit 1\nround 0\nregister counter \"series-overflow\"\n"
 
 pub last_newline : lines_of (codes "a\nb\n") ≡ codes "a" ∷ codes "b" ∷ []
 last_newline = refl

@@ -14,6 +14,7 @@ ghost use Rattle.drive_script.specs.Reading.{
   summary_at,
   idle_at,
   label_line_at,
+  series_limit_at,
   limit_at,
   prefix_at,
   switch_at,
@@ -50,6 +51,8 @@ pub(crate) enum HeaderLine {
     Units,
     /// The key and the value of a global label.
     Global(String, String),
+    /// How many series of one kind and metric name there may be.
+    SeriesLimit(NonZeroU32),
     /// How many bytes a payload may have.
     Limit(u64),
     /// Whether values are aggregated as far as they can be.
@@ -93,6 +96,9 @@ pub(crate) fn header_line(alloc: Global, line: &[u8]) -> Result<Option<HeaderLin
     }
     if let Some((mask, timeout)) = idle_line(line) {
         return Ok(Some(HeaderLine::Idle(mask, timeout)));
+    }
+    if let Some(limit) = series_limit_line(line) {
+        return Ok(Some(HeaderLine::SeriesLimit(limit)));
     }
     if let Some((matcher, factor, max_buckets, threshold)) = native_for_line(alloc, line)? {
         return Ok(Some(HeaderLine::NativeFor(matcher, factor, max_buckets, threshold)));
@@ -258,6 +264,18 @@ fn label_line(alloc: Global, line: &[u8], word: &[u8]) -> Result<Option<(String,
     }
 }
 
+/// The limit of a series-limit line.
+#[tactic(auto, unfolding(crate::specs::Reading::series_limit_at))]
+fn series_limit_line(line: &[u8]) -> Option<NonZeroU32>
+    ensures { option_map non_zero_u32_get result ≡ series_limit_at line.now }
+{
+    let mut cursor = Cursor::new(line);
+    cursor.literal(b"series-limit ")?;
+    let limit = cursor.positive(u32::MAX)?;
+    cursor.end()?;
+    Some(limit)
+}
+
 /// The limit of a dsd-limit line.
 #[tactic(auto, unfolding(crate::specs::Reading::limit_at))]
 fn limit_line(line: &[u8]) -> Option<u64>
@@ -304,11 +322,12 @@ impl HeaderLine {
             HeaderLine::Naming => 6,
             HeaderLine::Units => 7,
             HeaderLine::Global(..) => 8,
-            HeaderLine::Limit(_) => 9,
-            HeaderLine::Mode(_) => 10,
-            HeaderLine::NamePrefix(_) => 11,
-            HeaderLine::GlobalTag(..) => 12,
-            HeaderLine::HistogramKind(_) => 13,
+            HeaderLine::SeriesLimit(_) => 9,
+            HeaderLine::Limit(_) => 10,
+            HeaderLine::Mode(_) => 11,
+            HeaderLine::NamePrefix(_) => 12,
+            HeaderLine::GlobalTag(..) => 13,
+            HeaderLine::HistogramKind(_) => 14,
         }
     }
 
@@ -356,6 +375,7 @@ impl Settings {
             HeaderLine::Naming => self.naming = true,
             HeaderLine::Units => self.units = true,
             HeaderLine::Global(key, value) => self.globals.push((key, value))?,
+            HeaderLine::SeriesLimit(limit) => self.series_limit = Some(limit),
             HeaderLine::Limit(limit) => self.dsd_limit = Some(limit),
             HeaderLine::Mode(aggressive) => self.dsd_aggressive = aggressive,
             HeaderLine::NamePrefix(prefix) => self.dsd_prefix = Some(prefix),

@@ -1,20 +1,31 @@
 //! Which register lines print alike: what the rows of each begin with, and whose that is.
 
-ghost use Rattle.std.specs.Prelude.{◌≡◌, List, [], ◌∷◌, ◌++◌, All, IfOk, MatchBool, OnOk, string_bytes};
+ghost use Rattle.std.specs.Prelude.{◌≡◌, ◌↔◌, List, [], ◌∷◌, ◌++◌, All, IfOk, IsTrue, MatchBool, OnOk, string_bytes};
+ghost use Rattle.std.specs.List.{list_any};
 ghost use Rattle.metrics_core.specs.Kinds.{kind_text};
 ghost use Rattle.prom_format.specs.LabelSets.{labels_of};
-ghost use Rattle.drive_script.specs.Heads.{text_of_head, keys_by_head, AreHeadsOf, AllPrintPlainly, AreNoted};
+ghost use Rattle.prom_format.specs.Names.{sanitized_metric_name};
+ghost use Rattle.drive_script.specs.Heads.{text_of_head, keys_by_head, AreHeadsOf, AllPrintPlainly, AreNoted, shows_overflow};
 ghost use Rattle.drive_script.specs.Growth.{globals_with};
 ghost use Rattle.drive_script.specs.Texts.{header_of, registrations_in, registrations_of};
-ghost use Rattle.drive_script.specs.Valid.{Registration, PrintApart};
+ghost use Rattle.drive_script.specs.Valid.{Registration, PrintApart, IsNoOverflow, head_of, overflow_head};
 
 use crate::headers::HeaderLine;
 use crate::{Round, Setup};
 use hash_starts::HashStart;
 use indexmap::IndexMap;
-use metrics_core::{Key, Memory, MetricKind};
-use prom_format::{prints_plainly, put_label, row_head};
+use metrics_core::{Key, KeyName, Label, Memory, MetricKind};
+use prom_format::{prints_plainly, put_label, row_head, sanitize_metric_name};
 use std::alloc::Global;
+
+/// The metric name of the counts of what is past a limit on series.
+const OVERFLOW_NAME: &str = "series_overflow";
+
+/// The key of the one label of an overflow series.
+const OVERFLOW_LABEL: &str = "overflow";
+
+/// The value of that label.
+const OVERFLOW_VALUE: &str = "true";
 
 /// The global labels, and the table of heads. As long as each key so far prints plainly there is no table, since no two
 /// such keys print alike.
@@ -77,6 +88,50 @@ impl Heads {
         self.table = Some(table);
         Ok(apart)
     }
+
+    /// Whether a key stands apart from what is made where series are past their limit: the counts of that, and the overflow
+    /// series of its metric name.
+    pub(crate) fn is_no_overflow(&self, alloc: Global, key: &Key) -> Result<bool, Memory>
+        ensures { IfOk result (λ apart. MatchBool apart
+            (IsNoOverflow (labels_of self.now.globals.entries) key.now)
+            (¬ IsNoOverflow (labels_of self.now.globals.entries) key.now)) }
+    {
+        let name = sanitize_metric_name(alloc, key.name())?;
+        if name.as_str() == OVERFLOW_NAME {
+            return Ok(false);
+        }
+        Ok(!self.prints_as_overflow(alloc, key, name)?)
+    }
+
+    /// Whether the rows of a key begin as those of the overflow series of its metric name do. Where neither it nor a global
+    /// label has the key `overflow`, they don't.
+    fn prints_as_overflow(&self, alloc: Global, key: &Key, name: String) -> Result<bool, Memory>
+        requires { string_bytes name ≡ sanitized_metric_name key.now.name }
+        ensures { let globals = labels_of self.now.globals.entries in
+            IfOk result (λ alike. IsTrue alike ↔ (head_of globals key.now ≡ overflow_head globals (sanitized_metric_name key.now.name))) }
+    {
+        if !self.globals.contains_key(OVERFLOW_LABEL) && !shows_overflow(key) {
+            return Ok(false);
+        }
+        let label = Label::from_static_parts(OVERFLOW_LABEL, OVERFLOW_VALUE);
+        let overflow = Key::from_parts(KeyName::from(name), vec![in alloc; label]?);
+        let head = row_head(alloc, key, &self.globals)?;
+        Ok(head == row_head(alloc, &overflow, &self.globals)?)
+    }
+}
+
+/// Whether one of the labels of a key is shown with the key of the label of overflow series.
+fn shows_overflow(key: &Key) -> bool
+    ensures { result ≡ list_any shows_overflow key.now.labels }
+{
+    key.labels().any(|label| is_overflow_label(label))
+}
+
+/// Whether a label is shown with the key of the label of overflow series, as only that key itself is.
+fn is_overflow_label(label: &Label) -> bool
+    ensures { result ≡ shows_overflow label.now }
+{
+    label.key() == OVERFLOW_LABEL
 }
 
 /// Under what the rows of each register line begin with, its key.

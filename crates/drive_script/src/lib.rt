@@ -20,7 +20,10 @@ mod script;
 mod settings;
 
 pub use cursor::Cursor;
-pub use examples::{basic_example, empty_example, sampled_example, settings_example};
+pub use examples::{
+    basic_example, empty_example, overflow_example, sampled_example, series_limit_example,
+    settings_example, unlimited_example,
+};
 pub use facts::{beginnings, lines_say_one_thing, one_first_bad_line, one_reading};
 pub use faults::{DriveFault, SettingFault};
 pub use reader::{read_script, read_script_beside, read_script_from};

@@ -7,8 +7,8 @@ ghost use Rattle.metrics_core.specs.declared.kinds.MetricKind.{MetricKind};
 ghost use Rattle.drive_script.specs.Growth.{SetsUp};
 ghost use Rattle.drive_script.specs.Runs.{calls_said};
 ghost use Rattle.drive_script.specs.Taking.{Takes, MaySetUp, MayRegister};
-ghost use Rattle.drive_script.specs.Texts.{call_line_of, header_of, line_of, setup_of, script_of, script_so_far, IsKnown, StandsBehind};
-ghost use Rattle.drive_script.specs.Valid.{registered, HasHandle, AreValidLines};
+ghost use Rattle.drive_script.specs.Texts.{call_line_of, header_of, line_of, setup_of, script_of, script_so_far, settings_of, IsKnown, StandsBehind};
+ghost use Rattle.drive_script.specs.Valid.{Registration, registered, HasHandle, AreValidLines, SparesOverflow};
 ghost use Rattle.std.specs.List.{AllZip};
 ghost use Rattle.std.specs.List.Sorted.{IsNonDecreasingBy};
 
@@ -199,6 +199,9 @@ impl ScriptSoFar {
         if !self.may_register() {
             return Ok(false);
         }
+        if !self.spares_overflow(alloc, &key)? {
+            return Ok(false);
+        }
         if !self.heads.note(alloc, kind, &key, &self.rounds)? {
             return Ok(false);
         }
@@ -229,6 +232,19 @@ impl ScriptSoFar {
             → ¬ SetsUp (script_so_far self.now) (text.Register kind key) script) }
     {
         self.may_set_up() && self.kinds.len() < MAX_REGISTRATIONS
+    }
+
+    /// Whether a key stands apart from what is made where series are past their limit, if there is one.
+    fn spares_overflow(&self, alloc: Global, key: &Key) -> Result<bool, Memory>
+        ensures { (said : text.Said) (kind : MetricKind) → IsKnown said self.now
+            → IfOk result (λ spares. let registration : Registration = record { kind = kind; key = key.now } in
+            MatchBool spares (SparesOverflow (settings_of self.now.settings) registration)
+            (¬ SparesOverflow (settings_of self.now.settings) registration)) }
+    {
+        match self.settings.series_limit {
+            Some(_limit) => self.heads.is_no_overflow(alloc, key),
+            None => Ok(true),
+        }
     }
 
     /// The last round calls, if it may.

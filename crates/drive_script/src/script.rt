@@ -49,6 +49,9 @@ pub struct Settings {
     pub dsd_globals: Vec<(String, String)>,
     /// Whether the lines of histograms are of the kind `h`, and not `d`.
     pub dsd_histograms: bool,
+    /// How many series of one kind and metric name the Prometheus exporter makes at most. Past it registrations go to an
+    /// overflow series.
+    pub series_limit: Option<NonZeroU32>,
 }
 
 impl Settings {
@@ -71,6 +74,7 @@ impl Settings {
             dsd_prefix: None,
             dsd_globals: Vec::new(alloc),
             dsd_histograms: false,
+            series_limit: None,
         }
     }
 }

@@ -2,9 +2,9 @@ use Rattle.std.proofs.Common.{◌≡◌, Some, None, sym, rules}
 use Rattle.std.specs.Prelude.{codes}
 use Rattle.std.specs.Int.NonZero.{non_zero_u32_get}
 use Rattle.prom_format.specs.MatcherTexts.{matcher_text}
-use Rattle.drive_script.specs.Reading.{quantiles_at, buckets_at, buckets_for_at, summary_at, idle_at, label_line_at, native_for_at, switch_at}
+use Rattle.drive_script.specs.Reading.{quantiles_at, buckets_at, buckets_for_at, summary_at, idle_at, label_line_at, series_limit_at, native_for_at, switch_at}
 use Rattle.drive_script.specs.Texts.{header_of, label_of, native_of, values_of}
-use Rattle.drive_script.proofs.HeaderForms.{quantiles_takes, buckets_takes, buckets_for_takes, summary_takes, idle_takes, global_takes, native_for_takes, switch_takes, payload_read, no_header}
+use Rattle.drive_script.proofs.HeaderForms.{quantiles_takes, buckets_takes, buckets_for_takes, summary_takes, idle_takes, series_limit_takes, global_takes, native_for_takes, switch_takes, payload_read, no_header}
 use Rattle.drive_script.proofs.headers.header_line.Goals as goal
 
 pub returns-in-Some : goal.returns-in-Some
@@ -35,6 +35,9 @@ returns-in-Some-summary_line c =
 pub returns-in-Some-idle_line : goal.returns-in-Some-idle_line
 returns-in-Some-idle_line c = idle_takes c.args.line.now _ _ (sym c.in-Some-idle_line.ensures)
 
+pub returns-in-Some-series_limit_line : goal.returns-in-Some-series_limit_line
+returns-in-Some-series_limit_line c = series_limit_takes c.args.line.now _ (sym c.in-Some-series_limit_line.ensures)
+
 pub returns-in-Some-5 : goal.returns-in-Some-5
 returns-in-Some-5 c =
     let native = native_of (c.in-Some-5.matcher, c.in-Some-5.factor, c.in-Some-5.max_buckets, c.in-Some-5.threshold) in
@@ -55,6 +58,7 @@ returns-in-None c =
     let no_quantiles : quantiles_at c.args.line.now ≡ None = search rules in
     let no_summary : summary_at c.args.line.now ≡ None = search rules in
     let no_idle : idle_at c.args.line.now ≡ None = search rules in
+    let no_series_limit : series_limit_at c.args.line.now ≡ None = search rules in
     let no_native : native_for_at c.args.line.now ≡ None = search rules in
     let no_switch : switch_at c.args.line.now ≡ None = search rules in
-    payload_read c.args.line.now c.payload_line.result c.payload_line.ensures (no_header c.args.line.now no_global no_rule no_buckets no_quantiles no_summary no_idle no_native no_switch)
+    payload_read c.args.line.now c.payload_line.result c.payload_line.ensures (no_header c.args.line.now no_global no_rule no_buckets no_quantiles no_summary no_idle no_series_limit no_native no_switch)

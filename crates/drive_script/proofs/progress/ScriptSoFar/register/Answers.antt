@@ -6,7 +6,7 @@ use Rattle.drive_script.specs.Heads.{AreNoted}
 use Rattle.drive_script.specs.Texts.{settings_of, script_so_far}
 use Rattle.drive_script.specs.Taking.{MayRegister}
 use Rattle.drive_script.specs.declared.script.Round.{Round}
-use Rattle.drive_script.specs.Valid.{Registration, registered, PrintApart}
+use Rattle.drive_script.specs.Valid.{Registration, registered, PrintApart, SparesOverflow}
 use Rattle.drive_script.specs.Script.{Register}
 use Rattle.drive_script.proofs.Growth.{setup_samples}
 use Rattle.drive_script.proofs.Steps.{script_with, register_added, key_registered, kinds_of}
@@ -18,9 +18,16 @@ returns-then-not-may_register c = record { next = λ said known later new h. (rw
 pub returns-then-not-branch : goal.returns-then-not-branch
 returns-then-not-branch c = record {
   next = λ said known later new h.
+      let refused = rw c.if-not-branch.true at (c.in_ok-spares_overflow.ensures said c.args.kind known) in
+      refused h.1.spares;
+}
+
+pub returns-then-not-branch-2 : goal.returns-then-not-branch-2
+returns-then-not-branch-2 c = record {
+  next = λ said known later new h.
       let old = c.args.self.now in
       let tested = rw c.deref.ensures.value at (c.in_ok-note.ensures.apart (rw c.deref.ensures.value known.heads)) in
-      let refused : ¬ All (λ r. PrintApart (labels_of old.heads.globals.entries) r (record { kind = c.args.kind; key = c.args.key })) (registered (script_so_far old)) = rw c.if-not-branch.true at tested in
+      let refused : ¬ All (λ r. PrintApart (labels_of old.heads.globals.entries) r (record { kind = c.args.kind; key = c.args.key })) (registered (script_so_far old)) = rw c.if-not-branch-2.true at tested in
       refused (subst (λ globals. All (λ r. PrintApart globals r (record { kind = c.args.kind; key = c.args.key })) (registered (script_so_far old))) (sym known.globals) h.1.apart);
 }
 
@@ -34,8 +41,9 @@ returns c = record {
       let earlier = registered (script_so_far old) in
       let may : MayRegister old = rw c.if-not-may_register.false at (c.may_register.ensures said known) in
       let tested = rw c.deref.ensures.value at (c.in_ok-note.ensures.apart (rw c.deref.ensures.value known.heads)) in
-      let noted : AreNoted (labels_of old.heads.globals.entries) c.note.new.self.table (earlier ++ new ∷ []) × All (λ r. PrintApart (labels_of old.heads.globals.entries) r new) earlier = rw c.if-not-branch.false at tested in
+      let noted : AreNoted (labels_of old.heads.globals.entries) c.note.new.self.table (earlier ++ new ∷ []) × All (λ r. PrintApart (labels_of old.heads.globals.entries) r new) earlier = rw c.if-not-branch-2.false at tested in
       let apart = subst (λ globals. All (λ r. PrintApart globals r new) earlier) known.globals noted.1 in
+      let spares : SparesOverflow settings new = rw c.if-not-branch.false at (c.in_ok-spares_overflow.ensures said c.args.kind known) in
       let last = c.in-Some.ensures.value in
       let some = c.in-Some.ensures.variant.0 refl in
       let pushed = c.in_ok-push-2.ensures.items in
@@ -43,7 +51,7 @@ returns c = record {
       let no_call : c.in-Some.round.now.calls.items ≡ [] = ap (λ (r : Round). r.calls.items) (sym same) ∙ may.set_up.no_call in
       let grown = script_with settings (set rounds.items (vec_len rounds - 1) (record { moment = c.in-Some.round.now.moment; setup = c.push-2.new.self; calls = c.in-Some.round.now.calls })) in
       let all = key_registered settings rounds.items (vec_len rounds) rounds.ok.0 some c.in-Some.round.now last c.push-2.new.self _ pushed no_call c.args.kind c.args.key refl in
-      let added = register_added settings rounds.items (vec_len rounds) rounds.ok.0 some c.in-Some.round.now last c.push-2.new.self _ pushed no_call c.args.kind c.args.key refl may.room apart in (
+      let added = register_added settings rounds.items (vec_len rounds) rounds.ok.0 some c.in-Some.round.now last c.push-2.new.self _ pushed no_call c.args.kind c.args.key refl may.room apart spares in (
         said,
         (refl, added),
         record {
