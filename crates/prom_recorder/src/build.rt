@@ -60,13 +60,14 @@ pub trait BuildRecorder {
 }
 
 impl BuildRecorder for PrometheusBuilder {
+    ghost use Rattle.std.specs.Prelude.{[]};
     ghost use Rattle.metric_descriptions.specs.Descriptions.{nothing_described};
     ghost use Rattle.prom_exporter.specs.Builder.{SpanIsTooLong};
     ghost use Rattle.prom_exporter.specs.Exporter.{no_cells};
 
     ghost is_refused = { λ builder. SpanIsTooLong builder.settings };
 
-    ghost builds = { λ builder. record { settings = builder.settings; series = no_cells; said = nothing_described } };
+    ghost builds = { λ builder. record { settings = builder.settings; series = no_cells; said = nothing_described; redirected = [] } };
 
     fn build_recorder(self, alloc: Global) -> Result<PrometheusRecorder, BuildError> {
         let (recorder, _root) = self.build_recorder_seen(alloc)?;

@@ -12,7 +12,7 @@ use Rattle.prom_format.specs.declared.families.FamilyType.{FamilyType}
 use Rattle.prom_format.specs.declared.families.FamilyType.TheVariants as types
 use Rattle.distributions.specs.Kinds.{DistributionKind, NativeHistogram, Histogram, Summary}
 use Rattle.prom_exporter.specs.State.{Series, PrometheusState, live}
-use Rattle.prom_exporter.specs.Families.{ExporterSettings, shown_unit, shown_help, counter_suffix, counter_rows, gauge_rows, histogram_rows, summary_rows, row_of, sum_and_count_rows, distinct, names_of_kind, series_named, family_of, distribution_of, distribution_family, Windows, families_by}
+use Rattle.prom_exporter.specs.Families.{ExporterSettings, shown_unit, shown_help, counter_suffix, counter_rows, gauge_rows, histogram_rows, summary_rows, row_of, sum_and_count_rows, distinct, names_of_kind, overflow_families, series_named, family_of, distribution_of, distribution_family, Windows, families_by}
 use Rattle.prom_exporter.specs.Sampled.{Sampled, calls_known, calls_recorded}
 use Rattle.prom_exporter.specs.Values.{series_of, sampled_series}
 use Rattle.prom_exporter.specs.Exporter.{Exporter, state_of, state_shown}
@@ -108,9 +108,12 @@ three_heads ps bs cs xs ys zs p q r =
     ∙ ((λ i. (p i ++ q i) ++ r i)
     ∙ sym (map-append family_head (xs ++ ys) zs ∙ ap (λ l. l ++ heads zs) (map-append family_head xs ys))))
 
+last_heads : (xs ys last : List Family) → heads xs ≡ heads ys → heads (xs ++ last) ≡ heads (ys ++ last)
+last_heads xs ys last same = map-append family_head xs last ∙ ap (λ l. l ++ heads last) same ∙ sym (map-append family_head ys last)
+
 -- the families of a state, but for values, are those of its registrations and descriptions, whatever is answered of windows
 pub heads_setup : (t : ExporterSettings) (one other : Windows) (s : PrometheusState) → heads (families_by t one (setup s)) ≡ heads (families_by t other s)
-heads_setup t one other s = three_heads _ _ _ _ _ _ counters gauges distributions
+heads_setup t one other s = last_heads _ _ (overflow_families s.redirected) (three_heads _ _ _ _ _ _ counters gauges distributions)
   where
     counter : PrometheusState → List ℕ → Family
     counter x name = family_of t x kinds.Counter name (counter_suffix t) types.Counter (counter_rows t x)

@@ -1,6 +1,6 @@
 -- Registering, describing and lending are the same whatever calls are known.
 use Rattle.std.proofs.Common.{◌≡◌, ℕ, ◌+◌, ◌==◌, Bool, true, false, List, [], ◌∷◌, ◌++◌, map, cond, refl, sym, ap, ◌∙◌, Option, Some, None}
-use Rattle.std.specs.Prelude.{find, is_some, option_map, unwrap_or, if◌then◌else◌}
+use Rattle.std.specs.Prelude.{suc, ◌-◌, length, filter, bytes_eq, not, ◌&&◌, find, is_some, option_map, unwrap_or, if◌then◌else◌}
 use Rattle.metrics_core.specs.Keys.{KeyText, key_eq}
 use Rattle.metrics_core.specs.declared.units.Unit.{Unit as UnitOf}
 use Rattle.metrics_core.specs.declared.kinds.MetricKind.{MetricKind}
@@ -16,7 +16,8 @@ use Rattle.prom_exporter.specs.declared.lent.Lent.{Lent}
 use Rattle.prom_exporter.specs.Shared.{Shared}
 use Rattle.prom_exporter.specs.Sampled.{Sampled, calls_known}
 use Rattle.prom_exporter.specs.Values.{series_of, seen_series, sampled_series}
-use Rattle.prom_exporter.specs.State.{Series, PrometheusState, register, number_given, live, live_series, with_live, no_series, describe}
+use Rattle.name_counts.specs.Counts.{raised}
+use Rattle.prom_exporter.specs.State.{Series, PrometheusState, count_named, counted, describe, is_below, is_redirected, key_given, live, live_series, metric_name_of, no_series, number_given, number_of, overflow_key, register, with_live, with_redirection, with_series}
 use Rattle.prom_exporter.specs.Exporter.{Exporter, state_of}
 use Rattle.histogram_series.specs.Entries.{TimedQueue}
 use Rattle.prom_exporter.specs.Lending.{LendsCounter, LendsGauge, LendsHistogram, TimedPass}
@@ -49,9 +50,9 @@ live_setup kinds.Counter s = refl
 live_setup kinds.Gauge s = refl
 live_setup kinds.Histogram s = refl
 
--- the number that a registration gives
-pub number_setup : (kind : MetricKind) (key : KeyText) (s : PrometheusState) → number_given kind key (setup s) ≡ number_given kind key s
-number_setup kind key s =
+-- the number of the series of a key
+number_of_setup : (kind : MetricKind) (key : KeyText) (s : PrometheusState) → number_of kind key (setup s) ≡ number_of kind key s
+number_of_setup kind key s =
     ap (λ l. unwrap_or (option_map (λ (x : Series). x.number) (find (λ (x : Series). key_eq x.key key) l)) s.made) (live_setup kind s)
     ∙ (ap (λ o. unwrap_or (option_map (λ (x : Series). x.number) o) s.made) (find_bare key (live kind s)) ∙ number_bare (find (λ (x : Series). key_eq x.key key) (live kind s)) s.made)
 
@@ -65,9 +66,9 @@ abbrev pub choose : Bool → Bool → MetricKind → KeyText → PrometheusState
 choose a b kind key x = if a then x else if b then x else added kind key x
 
 added_setup : (kind : MetricKind) (key : KeyText) (s : PrometheusState) → setup (added kind key s) ≡ added kind key (setup s)
-added_setup kinds.Counter key s = ap (λ l. record { counters = l; gauges = map bare s.gauges; histograms = map bare s.histograms; made = s.made + 1; published = s.published; pending = s.pending }) (map_snoc s.counters (new_series s.made key))
-added_setup kinds.Gauge key s = ap (λ l. record { counters = map bare s.counters; gauges = l; histograms = map bare s.histograms; made = s.made + 1; published = s.published; pending = s.pending }) (map_snoc s.gauges (new_series s.made key))
-added_setup kinds.Histogram key s = ap (λ l. record { counters = map bare s.counters; gauges = map bare s.gauges; histograms = l; made = s.made + 1; published = s.published; pending = s.pending }) (map_snoc s.histograms (new_series s.made key))
+added_setup kinds.Counter key s = ap (λ l. record (setup s) { counters = l; made = s.made + 1 }) (map_snoc s.counters (new_series s.made key))
+added_setup kinds.Gauge key s = ap (λ l. record (setup s) { gauges = l; made = s.made + 1 }) (map_snoc s.gauges (new_series s.made key))
+added_setup kinds.Histogram key s = ap (λ l. record (setup s) { histograms = l; made = s.made + 1 }) (map_snoc s.histograms (new_series s.made key))
 
 choose_setup : (a b : Bool) (kind : MetricKind) (key : KeyText) (s : PrometheusState) → setup (choose a b kind key s) ≡ choose a b kind key (setup s)
 choose_setup true b kind key s = refl
@@ -79,11 +80,55 @@ found_setup kind key s =
     ap (λ l. is_some (find (λ (x : Series). key_eq x.key key) l)) (live_setup kind s)
     ∙ (ap is_some (find_bare key (live kind s)) ∙ some_bare (find (λ (x : Series). key_eq x.key key) (live kind s)))
 
+-- the series of a key
+series_setup : (kind : MetricKind) (key : KeyText) (s : PrometheusState) → setup (with_series kind key s) ≡ with_series kind key (setup s)
+series_setup kind key s =
+    choose_setup (is_some (live_series kind key s)) (s.made == no_series) kind key s
+    ∙ ap (λ b. choose b (s.made == no_series) kind key (setup s)) (sym (found_setup kind key s))
+
+-- which registrations are redirected
+abbrev pub is_named : List ℕ → Series → Bool
+is_named name x = bytes_eq (metric_name_of x.key) name
+
+named_bare : (name : List ℕ) (xs : List Series) → length (filter (is_named name) (map bare xs)) ≡ length (filter (is_named name) xs)
+named_bare name [] = refl
+named_bare name (x ∷ xs) = by (is_named name x) (named_bare name xs)
+  where
+    by : (b : Bool) → length (filter (is_named name) (map bare xs)) ≡ length (filter (is_named name) xs)
+        → length (cond b (bare x ∷ filter (is_named name) (map bare xs)) (filter (is_named name) (map bare xs))) ≡ length (cond b (x ∷ filter (is_named name) xs) (filter (is_named name) xs))
+    by true same = ap suc same
+    by false same = same
+
+counted_setup : (kind : MetricKind) (name : List ℕ) (s : PrometheusState) → counted kind name (setup s) ≡ counted kind name s
+counted_setup kind name s =
+    let many : count_named kind name (setup s) ≡ count_named kind name s
+    = ap (λ l. length (filter (is_named name) l)) (live_setup kind s) ∙ named_bare name (live kind s) in
+    λ i. if found_setup kind (overflow_key name) s i then many i - 1 else many i
+
+redirected_setup : (kind : MetricKind) (key : KeyText) (s : PrometheusState) → is_redirected kind key (setup s) ≡ is_redirected kind key s
+redirected_setup kind key s = λ i. not (found_setup kind key s i) && not (is_below (counted_setup kind (metric_name_of key) s i) s.limit)
+
+key_setup : (kind : MetricKind) (key : KeyText) (s : PrometheusState) → key_given kind key (setup s) ≡ key_given kind key s
+key_setup kind key s = ap (λ b. if b then overflow_key (metric_name_of key) else key) (redirected_setup kind key s)
+
+redirection_setup : (kind : MetricKind) (key : KeyText) (s : PrometheusState) → setup (with_redirection kind key s) ≡ with_redirection kind key (setup s)
+redirection_setup kind key s =
+    by (is_redirected kind key s)
+    ∙ ap (λ b. if b then record (setup s) { redirected = raised kind (metric_name_of key) s.redirected } else setup s) (sym (redirected_setup kind key s))
+  where
+    by : (b : Bool) → setup (if b then record s { redirected = raised kind (metric_name_of key) s.redirected } else s) ≡ if b then record (setup s) { redirected = raised kind (metric_name_of key) s.redirected } else setup s
+    by true = refl
+    by false = refl
+
+-- the number that a registration gives
+pub number_setup : (kind : MetricKind) (key : KeyText) (s : PrometheusState) → number_given kind key (setup s) ≡ number_given kind key s
+number_setup kind key s = ap (λ k. number_of kind k (setup s)) (key_setup kind key s) ∙ number_of_setup kind (key_given kind key s) s
+
 -- what a registration makes
 pub register_setup : (kind : MetricKind) (key : KeyText) (s : PrometheusState) → setup (register kind key s) ≡ register kind key (setup s)
 register_setup kind key s =
-    choose_setup (is_some (live_series kind key s)) (s.made == no_series) kind key s
-    ∙ ap (λ b. choose b (s.made == no_series) kind key (setup s)) (sym (found_setup kind key s))
+    series_setup kind (key_given kind key s) (with_redirection kind key s)
+    ∙ (λ i. with_series kind (sym (key_setup kind key s) i) (redirection_setup kind key s i))
 
 -- ---- describing
 
@@ -116,7 +161,7 @@ counter_setup id None x y l = (ap (λ (e : Exporter). e.settings) l.1, ap (λ (e
 counter_setup id (Some lent) x y l = (
   ap (λ (e : Exporter). e.settings) l.4,
   ap (λ (e : Exporter). setup (state_of e)) l.4
-      ∙ ap (λ cs. record { counters = cs; gauges = bares x.series.gauges; histograms = sampled_bares x.series.histograms; made = x.series.made; published = x.said.published; pending = x.said.pending })
+      ∙ ap (λ cs. record (setup (state_of x)) { counters = cs })
       (bare_set id l.1 x.series.counters),
 )
 
@@ -125,7 +170,7 @@ gauge_setup id None x y l = (ap (λ (e : Exporter). e.settings) l.1, ap (λ (e :
 gauge_setup id (Some lent) x y l = (
   ap (λ (e : Exporter). e.settings) l.4,
   ap (λ (e : Exporter). setup (state_of e)) l.4
-      ∙ ap (λ gs. record { counters = bares x.series.counters; gauges = gs; histograms = sampled_bares x.series.histograms; made = x.series.made; published = x.said.published; pending = x.said.pending })
+      ∙ ap (λ gs. record (setup (state_of x)) { gauges = gs })
       (bare_set id l.1 x.series.gauges),
 )
 
@@ -139,6 +184,6 @@ histogram_setup id None x y l = (ap (λ (e : Exporter). e.settings) l.1, ap (λ 
 histogram_setup id (Some lent) x y l = (
   ap (λ (e : Exporter). e.settings) l.4,
   ap (λ (e : Exporter). setup (state_of e)) l.4
-      ∙ ap (λ hs. record { counters = bares x.series.counters; gauges = bares x.series.gauges; histograms = hs; made = x.series.made; published = x.said.published; pending = x.said.pending })
+      ∙ ap (λ hs. record (setup (state_of x)) { histograms = hs })
       (sampled_set id l.1 x.series.histograms),
 )

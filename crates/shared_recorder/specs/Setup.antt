@@ -14,7 +14,7 @@ bare s = record { number = s.number; key = s.key; calls = []; note = None }
 
 -- the state as registrations, descriptions and pages made it
 abbrev pub setup : PrometheusState → PrometheusState
-setup s = record { counters = map bare s.counters; gauges = map bare s.gauges; histograms = map bare s.histograms; made = s.made; published = s.published; pending = s.pending }
+setup s = record s { counters = map bare s.counters; gauges = map bare s.gauges; histograms = map bare s.histograms }
 
 -- ---- what a page removes
 
