@@ -15,7 +15,8 @@ use Rattle.rolling_summaries.specs.Window.{Sample, timed_samples, timed_samples_
 use Rattle.prom_exporter.specs.Exporter.{AreTimely, Exporter, state_of}
 use Rattle.prom_exporter.specs.Sampled.{IsTimely, Sampled, calls_known}
 use Rattle.prom_exporter.specs.Values.{sampled_series, series_of}
-use Rattle.prom_exporter.specs.State.{PrometheusState, Series, call_on, empty_state, live, live_series, no_series, number_given, register, with_call, with_live}
+use Rattle.name_counts.specs.Counts.{raised}
+use Rattle.prom_exporter.specs.State.{PrometheusState, Series, call_on, empty_state, is_redirected, key_given, live, live_series, metric_name_of, no_series, number_given, register, with_call, with_live, with_redirection, with_series}
 use Rattle.dsd_lines.specs.Grammar.{Counter, Distribution, Gauge, Histogram, LineText, PointsText}
 use Rattle.dsd_receiver.specs.Received.{after_calls, after_line, after_reading, after_readings, calls_of_points, calls_said, kind_said, rate_said, times_at}
 
@@ -108,8 +109,8 @@ points_at rate (Distribution numbers) = each_of _ (λ value. All-replicate AtSta
 
 -- ---- registering
 
-registered_at : (kind : MetricKind) (key : KeyText) (s : PrometheusState) → StateAtStart s → StateAtStart (register kind key s)
-registered_at kind key s at = by (is_some (live_series kind key s)) (s.made == no_series)
+series_at : (kind : MetricKind) (key : KeyText) (s : PrometheusState) → StateAtStart s → StateAtStart (with_series kind key s)
+series_at kind key s at = by (is_some (live_series kind key s)) (s.made == no_series)
   where
     new : Series
     new = record { number = s.made; key = key; calls = []; note = None }
@@ -123,6 +124,16 @@ registered_at kind key s at = by (is_some (live_series kind key s)) (s.made == n
     by true b = at
     by false true = at
     by false false = added kind
+
+redirected_at : (kind : MetricKind) (key : KeyText) (s : PrometheusState) → StateAtStart s → StateAtStart (with_redirection kind key s)
+redirected_at kind key s at = by (is_redirected kind key s)
+  where
+    by : (b : Bool) → StateAtStart (if b then record s { redirected = raised kind (metric_name_of key) s.redirected } else s)
+    by true = at
+    by false = at
+
+registered_at : (kind : MetricKind) (key : KeyText) (s : PrometheusState) → StateAtStart s → StateAtStart (register kind key s)
+registered_at kind key s at = series_at kind (key_given kind key s) (with_redirection kind key s) (redirected_at kind key s at)
 
 -- ---- lines
 

@@ -119,7 +119,8 @@ same_exporter e f things frame =
     let settings = ap (λ (x : Exporter). x.settings) frame in
     let made = ap (λ (x : Exporter). x.series.made) frame in
     let said = ap (λ (x : Exporter). x.said) frame in
-    (λ i. record { settings = settings i; series = record { counters = counters i; gauges = gauges i; histograms = histograms i; made = made i }; said = said i })
+    let redirected = ap (λ (x : Exporter). x.redirected) frame in
+    (λ i. record { settings = settings i; series = record { counters = counters i; gauges = gauges i; histograms = histograms i; made = made i }; said = said i; redirected = redirected i })
 
 -- ---- what a settled thing tells
 

@@ -113,7 +113,7 @@ framed_plain (payload ∷ payloads) = ap (λ l. payload ∷ l) (framed_plain pay
 -- what a flush sent is what the receiver has
 pub delivered_said : (moment : ℕ) (w written : WriterText) (u n : UpdateText) (s t : PrometheusState) (applied : Applied) → IsPlain w → IsAppliedOver moment (lines_delivered written) s applied t
     → (items : List FlushItem) (saids : List LineText) → Sends items w written u n → AllZip (λ item said. IsSaidBy item.item item.values said) items saids
-    → (applied.bad ≡ 0) × (t ≡ after_all_said moment w.limit saids s)
+    → (applied.bad ≡ 0) × (s.limit ≡ None → t ≡ after_all_said moment w.limit saids s)
 delivered_said moment w written u n s t applied plain applies items saids sends said =
     let read = items_read w.limit moment items saids said in
     let lines : written.lines ≡ lines_of_items w.limit items = sends.lines ∙ ap (λ l. l ++ lines_of_items w.limit items) plain.lines in
@@ -121,7 +121,7 @@ delivered_said moment w written u n s t applied plain applies items saids sends 
     let same : applies.readings ≡ read.readings = read_once read.texts applies.readings read.readings (subst (λ l. AreRead l applies.readings) texts applies.are_read) read.are_read in
     let none = ap count_bad same ∙ read.none_bad in
     let bad = applies.bad_are in
-    (omega (arith, bad, none), applies.state ∙ ap (λ rs. after_readings moment rs s) same ∙ read.leaves s)
+    (omega (arith, bad, none), λ never. applies.state ∙ ap (λ rs. after_readings moment rs s) same ∙ read.leaves s never)
 
 -- what a writer without lengths before payloads hands out
 pub plain_left : (w : WriterText) (left : List (List ℕ)) → w.on_stream ≡ false → left ≡ framed_payloads w.on_stream (payloads_of w.limit w.lines) → flat_map payload_lines left ≡ lines_delivered w

@@ -24,8 +24,8 @@ use Rattle.dsd_lines.proofs.Spellings.{said_as_written, said_is_line, said_text}
 use Rattle.dsd_exporter.specs.State.{FlushItem, lines_of_items}
 use Rattle.prom_exporter.specs.State.{PrometheusState}
 use Rattle.dsd_receiver.specs.Received.{AreRead, IsRead, after_line, after_reading, after_readings, calls_of_points, count_bad, kind_said, rate_said, scaled, times_at, with_calls}
-use Rattle.flush_delivery.specs.Delivered.{IsSaidBy, after_all_said, after_said, kept, kept_points, with_some}
-use Rattle.flush_delivery.proofs.Twice.{with_both}
+use Rattle.flush_delivery.specs.Delivered.{IsSaidBy, after_all_said, after_said, calls_kept, kept, kept_points, with_some}
+use Rattle.flush_delivery.proofs.Twice.{still_none, with_both}
 
 -- ---- cuts of what is spelled
 
@@ -75,10 +75,14 @@ filter_tests {X} test (x ∷ xs) = by (test x) refl (filter_tests test xs)
     by true is rest = All-cons (λ (y : X). IsTrue (test y)) x (filter test xs) is rest
     by false is rest = rest
 
-with_some_behind : (kind : MetricKind) (key : KeyText) (cs ds : List Call) (s : PrometheusState) → 0 < length cs → with_some kind key ds (with_calls kind key cs s) ≡ with_some kind key (cs ++ ds) s
-with_some_behind kind key [] ds s some = absurd (omega (arith, some))
-with_some_behind kind key (c ∷ cs) [] s some = ap (λ l. with_calls kind key (c ∷ l) s) (sym (append-nil cs))
-with_some_behind kind key (c ∷ cs) (d ∷ ds) s some = with_both kind key (c ∷ cs) (d ∷ ds) s
+with_some_behind : (kind : MetricKind) (key : KeyText) (cs ds : List Call) (s : PrometheusState) → s.limit ≡ None → 0 < length cs → with_some kind key ds (with_calls kind key cs s) ≡ with_some kind key (cs ++ ds) s
+with_some_behind kind key [] ds s never some = absurd (omega (arith, some))
+with_some_behind kind key (c ∷ cs) [] s never some = ap (λ l. with_calls kind key (c ∷ l) s) (sym (append-nil cs))
+with_some_behind kind key (c ∷ cs) (d ∷ ds) s never some = with_both kind key (c ∷ cs) (d ∷ ds) s never
+
+some_none : (kind : MetricKind) (key : KeyText) (cs : List Call) (s : PrometheusState) → s.limit ≡ None → (with_some kind key cs s).limit ≡ None
+some_none kind key [] s never = never
+some_none kind key (c ∷ cs) s never = still_none kind key (c ∷ cs) s never
 
 -- ---- values of one type
 
@@ -128,16 +132,16 @@ module _ {X : Type 0} (make : List X → PointsText) (spell : X → List ℕ) (c
   abbrev its_call : X → Call
   its_call = call moment (rate_said said.rate)
 
-  after_runs : (runs : List (List X)) → All (λ run. 0 < length run) runs → (s : PrometheusState) → after_readings moment (readings runs) s ≡ with_some kind said.key (map its_call (joined runs)) s
-  after_runs [] some s = refl
-  after_runs (run ∷ runs) some s =
+  after_runs : (runs : List (List X)) → All (λ run. 0 < length run) runs → (s : PrometheusState) → s.limit ≡ None → after_readings moment (readings runs) s ≡ with_some kind said.key (map its_call (joined runs)) s
+  after_runs [] some s never = refl
+  after_runs (run ∷ runs) some s never =
       let first : after_line moment s (of_run run) ≡ with_calls kind said.key (map its_call run) s =
       (λ i. with_calls (are.kind_is run i) said.key (are.called moment (rate_said said.rate) run i) s) in
       let one = All-head (λ r. 0 < length r) run runs some in
       let long = length-map run its_call in
       ap (after_readings moment (readings runs)) first
-      ∙ after_runs runs (All-tail (λ r. 0 < length r) run runs some) (with_calls kind said.key (map its_call run) s)
-      ∙ with_some_behind kind said.key (map its_call run) (map its_call (joined runs)) s (omega (arith, long, one))
+      ∙ after_runs runs (All-tail (λ r. 0 < length r) run runs some) (with_calls kind said.key (map its_call run) s) (still_none kind said.key (map its_call run) s never)
+      ∙ with_some_behind kind said.key (map its_call run) (map its_call (joined runs)) s never (omega (arith, long, one))
       ∙ ap (λ cs. with_some kind said.key cs s) (sym (map-append its_call run (joined runs)))
 
   none_bad : (runs : List (List X)) → count_bad (readings runs) ≡ 0
@@ -164,14 +168,14 @@ module _ {X : Type 0} (make : List X → PointsText) (spell : X → List ℕ) (c
 
   -- the lines of the series are read as what they say, and leave the calls of the values that are kept
   pub series_read : (texts : List (List ℕ)) × (readings : List (Option LineText)) × (lines_of limit (item_said said) (points_spelled said.points) ≡ map line texts) × AreRead texts readings × (count_bad readings ≡ 0)
-      × ((s : PrometheusState) → after_readings moment readings s ≡ with_some kind said.key (map its_call its_kept) s)
+      × ((s : PrometheusState) → s.limit ≡ None → after_readings moment readings s ≡ with_some kind said.key (map its_call its_kept) s)
   series_read = (
     texts its_runs,
     readings its_runs,
     lines_cut,
     runs_read its_runs runs_cut.1 (all_runs Fits its_runs (subst (All Fits) runs_cut.0 (All-filter _ Fits xs fit))),
     none_bad its_runs,
-    λ s. after_runs its_runs runs_cut.1 s ∙ ap (λ l. with_some kind said.key (map its_call l) s) (sym runs_cut.0),
+    λ s never. after_runs its_runs runs_cut.1 s never ∙ ap (λ l. with_some kind said.key (map its_call l) s) (sym runs_cut.0),
   )
 
 -- ---- one series
@@ -188,14 +192,14 @@ histogram_points = record { type = codes "h"; typed = λ xs. refl; spelled = λ 
 distribution_points : ArePoints Distribution dogstatsd_number (λ moment rate value. Record value moment (times_at rate)) (FitsSigned w64) kinds.Histogram
 distribution_points = record { type = codes "d"; typed = λ xs. refl; spelled = λ xs. refl; called = λ moment rate xs. refl; ranged = λ xs all. all; kind_is = λ xs. refl }
 
--- these lines are read as what was said of series, and leave the state extended by that
+-- these lines are read as what was said of series, and leave a state without a limit extended by that
 pub record ReadsBack (limit moment : ℕ) (lines : List (List ℕ)) (after : PrometheusState → PrometheusState) : Type 0 where
   pub texts : List (List ℕ)
   pub readings : List (Option LineText)
   pub lines_are : lines ≡ map line texts
   pub are_read : AreRead texts readings
   pub none_bad : count_bad readings ≡ 0
-  pub leaves : (s : PrometheusState) → after_readings moment readings s ≡ after s
+  pub leaves : (s : PrometheusState) → s.limit ≡ None → after_readings moment readings s ≡ after s
 
 module _ (limit moment : ℕ) (said : LineText) (sayable : IsSayable said) where
   abbrev its_lines : List (List ℕ)
@@ -209,7 +213,7 @@ module _ (limit moment : ℕ) (said : LineText) (sayable : IsSayable said) where
     where
       from : (points : PointsText) → said.points ≡ points
           → (texts : List (List ℕ)) × (readings : List (Option LineText)) × (its_lines ≡ map line texts) × AreRead texts readings × (count_bad readings ≡ 0)
-          × ((s : PrometheusState) → after_readings moment readings s ≡ after_points points s)
+          × ((s : PrometheusState) → s.limit ≡ None → after_readings moment readings s ≡ after_points points s)
           → ReadsBack limit moment its_lines (λ s. after_said moment limit s said)
       from points own read = record {
         texts = read.0;
@@ -217,7 +221,7 @@ module _ (limit moment : ℕ) (said : LineText) (sayable : IsSayable said) where
         lines_are = read.2;
         are_read = read.3;
         none_bad = read.4;
-        leaves = λ s. read.5 s ∙ ap (λ p. after_points p s) (sym own);
+        leaves = λ s never. read.5 s never ∙ ap (λ p. after_points p s) (sym own);
       }
 
       by : (points : PointsText) → said.points ≡ points → HaveRange points → ReadsBack limit moment its_lines (λ s. after_said moment limit s said)
@@ -245,7 +249,7 @@ bad_behind rs ts = ap length (filter-append is_none rs ts) ∙ length-append (fi
 
 pub items_read : (limit moment : ℕ) (items : List FlushItem) (saids : List LineText) → AllZip (λ item said. IsSaidBy item.item item.values said) items saids
     → ReadsBack limit moment (lines_of_items limit items) (λ s. after_all_said moment limit saids s)
-items_read limit moment [] [] all = record { texts = []; readings = []; lines_are = refl; are_read = tt; none_bad = refl; leaves = λ s. refl }
+items_read limit moment [] [] all = record { texts = []; readings = []; lines_are = refl; are_read = tt; none_bad = refl; leaves = λ s never. refl }
 items_read limit moment [] (said ∷ saids) all = absurd all
 items_read limit moment (item ∷ items) [] all = absurd all
 items_read limit moment (item ∷ items) (said ∷ saids) (is, all) =
@@ -258,7 +262,9 @@ items_read limit moment (item ∷ items) (said ∷ saids) (is, all) =
       lines_are = (λ i. lines i ++ rest.lines_are i) ∙ sym (map-append line first.texts rest.texts);
       are_read = read_behind first.texts rest.texts first.readings rest.readings first.are_read rest.are_read;
       none_bad = (let both = bad_behind first.readings rest.readings in let one = first.none_bad in let others = rest.none_bad in omega (arith, both, one, others));
-      leaves = λ s. after_behind moment first.readings rest.readings s ∙ ap (after_readings moment rest.readings) (first.leaves s) ∙ rest.leaves (after_said moment limit s said);
+      leaves = λ s never.
+          after_behind moment first.readings rest.readings s ∙ ap (after_readings moment rest.readings) (first.leaves s never)
+          ∙ rest.leaves (after_said moment limit s said) (some_none (kind_said said.points) said.key (calls_kept moment limit said) s never);
     }
 
 -- ---- payloads

@@ -1,5 +1,5 @@
 -- What a delivery does: a flush is made, and each of its payloads is applied once.
-use Rattle.std.specs.Prelude.{◌≡◌, ℕ, ◌+◌, Bool, true, false, List, [], Option, flat_map}
+use Rattle.std.specs.Prelude.{◌≡◌, ℕ, ◌+◌, Bool, true, false, List, [], Option, None, flat_map}
 use Rattle.std.specs.List.{AllZip}
 use Rattle.metrics_core.specs.Numbers.{in_64_bits}
 use Rattle.dsd_writer.specs.Lines.{payloads_of}
@@ -47,7 +47,7 @@ behind_lines applied (faults.Memory flushed done registered values) =
 
 module _ (moment : ℕ) (old new : Exporter) (marks noted : List Bool) (w v : WriterText) (u n : UpdateText) (to_come left : Option (ℕ → ℕ)) (s : PrometheusState) where
   -- All series were flushed, and the payloads applied, after which the writer has no lines. Where lines can say what the flush sent,
-  -- none of them is bad, and the state is extended by the values sent, less those that are left out: `said` for whatever items were
+  -- none of them is bad, and the state, where it has no limit on series, is extended by the values sent, less those that are left out: `said` for whatever items were
   -- sent, and `clean` for those of the sequential state, where no pass of the flushed exporter is out.
   pub record Delivers (applied : Applied) (t : PrometheusState) : Type 0 where
     pub written : WriterText
@@ -58,9 +58,9 @@ module _ (moment : ℕ) (old new : Exporter) (marks noted : List Bool) (w v : Wr
     pub emptied : IsEmptied written v
     pub applies : IsAppliedOver moment (lines_delivered written) s applied t
     pub said : (items : List FlushItem) (saids : List LineText) → Sends items w written u n → AllZip (λ item said. IsSaidBy item.item item.values said) items saids
-        → (applied.bad ≡ 0) × (t ≡ after_all_said moment w.limit saids s)
+        → (applied.bad ≡ 0) × (s.limit ≡ None → t ≡ after_all_said moment w.limit saids s)
     pub clean : AllHome old → w.global_tags ≡ [] → CanBeSaid old.settings (state_seen marks old)
-        → (applied.bad ≡ 0) × (t ≡ after_all_said moment w.limit (flush_said old.settings moment (state_seen marks old)) s)
+        → (applied.bad ≡ 0) × (s.limit ≡ None → t ≡ after_all_said moment w.limit (flush_said old.settings moment (state_seen marks old)) s)
 
   -- The flush was refused, and nothing was applied; or all series were flushed, and the receiving of the payloads was stopped.
   abbrev pub IsUndelivered : ReceiveFault → PrometheusState → Type 0
