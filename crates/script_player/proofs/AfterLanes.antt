@@ -452,7 +452,7 @@ module _ (moment : ℕ) (e f : Exporter) (handles : List SeriesId) (lines : List
             legal round are counters.0 gauges.0 histograms.0 counters.1 gauges.1 histograms.1,
             subst (λ n. after ≡ after_calls before (record { moment = n; setup = round.setup; calls = round.calls }) orders) (sym when)
                 (λ i. record {
-                  prometheus = record { counters = counters.2 i; gauges = gauges.2 i; histograms = histograms.2 i; made = (frame i).series.made; published = (frame i).said.published; pending = (frame i).said.pending };
+                  prometheus = record { counters = counters.2 i; gauges = gauges.2 i; histograms = histograms.2 i; made = (frame i).series.made; published = (frame i).said.published; pending = (frame i).said.pending; limit = (frame i).settings.series_limit; redirected = (frame i).redirected };
                   handles = handles;
                 }),
           )

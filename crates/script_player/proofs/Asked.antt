@@ -61,6 +61,7 @@ told_all s = record default_settings {
   bucket_count = unwrap_or (option_map (λ (w : NonZeroU32 × ℕ). non_zero_u32_get w.0) s.summary) 3;
   bucket_duration = unwrap_or (option_map (λ (w : NonZeroU32 × ℕ). w.1) s.summary) 20000000000;
   idle = option_map (λ (mask, timeout). record { mask = mask; timeout = timeout }) s.idle;
+  series_limit = option_map non_zero_u32_get s.series_limit;
   units = s.naming || s.units;
   total_suffix = s.naming;
   globals = fold put_label [] (labels_of s.globals.items);

@@ -97,7 +97,7 @@ module _ (count : ℕ) (first : PlayerText) (told : LinkTold) where
 
   -- the last page, of a play of the generated script
   module _ (start : first ≡ first_player bench_settings_text default_agent) (tells tells' : LinkTold) (player : PlayerText) (round : RoundText) (written written' : Option (List ℕ)) (at : StandsAt count first told tells player (round ∷ [])) where
-    paged_last : IsPagedSoFar bench_settings_text play_start (bench_script count).rounds player.pages (round ∷ [])
+    paged_last : IsPagedSoFar bench_settings_text (play_start bench_settings_text) (bench_script count).rounds player.pages (round ∷ [])
     paged_last = subst (λ (p : PlayerText). IsPagedSoFar p.settings p.pages (bench_script count).rounds player.pages (round ∷ [])) start at.paged
 
     asked : player.settings ≡ bench_settings_text

@@ -1,5 +1,5 @@
 -- Lanes whose calls stand among those of a round: the series that they name, and what their lines ask for.
-use Rattle.std.proofs.Common.{◌≡◌, ◌≢◌, ℕ, zero, suc, ◌+◌, ◌<◌, ◌≤◌, ◌⊎◌, inl, inr, ⊎_elim, cond, Bool, true, false, List, [], ◌∷◌, ◌++◌, length, map, drop, refl, sym, ap, subst, ◌∙◌, append-nil, append_assoc, arith, length-append}
+use Rattle.std.proofs.Common.{◌≡◌, ◌≢◌, ℕ, zero, suc, ◌+◌, ◌<◌, ◌≤◌, ◌⊎◌, inl, inr, ⊎_elim, cond, Bool, true, false, List, [], ◌∷◌, ◌++◌, length, map, set, refl, sym, ap, subst, ◌∙◌, append-nil, append_assoc, arith, length-append}
 use Rattle.std.specs.Prelude.{◌==◌, ◌&&◌, flat_map, Option, Some, None, IfSome, All, if◌then◌else◌, slice_get, slice_index_or, filter}
 use Rattle.std.proofs.lemmas.Bool.{true≢false, eq-eqb, ne_eqb}
 use Rattle.std.proofs.lemmas.List.Elements.{filter-append}
@@ -9,7 +9,7 @@ use mathlib.Core.Option.{some, some-injective, some-ne-none}
 use mathlib.Core.Logic.{dite}
 use native.Mathlib.Decide.{ℕ_discrete}
 use lib.ListN.{get_elem?}
-use Rattle.atomic_table.proofs.Lists.{at_longer, at_map}
+use Rattle.atomic_table.proofs.Lists.{at_longer, at_map, at_set}
 use Rattle.cell_lanes.specs.declared.lane.Line.{Line}
 use Rattle.cell_lanes.specs.Lines.{LaneText}
 use Rattle.cell_lanes.specs.Lanes.{LineFit, cell_calls}
@@ -31,10 +31,11 @@ use Rattle.exporter_lanes.specs.ExporterLanes.{first_prometheus}
 use Rattle.drive_script.specs.Texts.{call_line_of}
 use Rattle.drive_script.specs.declared.script.CallLine.{CallLine}
 use Rattle.script_player.specs.declared.lanes.Places.{Places}
-use Rattle.script_player.specs.declared.lane_lines.Slots.{Slots}
+use Rattle.script_player.specs.declared.lane_lines.LaneCall.{LaneCall}
+use Rattle.script_player.specs.declared.lanes.LaneSeries.{LaneSeries}
 use Rattle.script_player.specs.Fitting.{FitsHandle}
-use Rattle.script_player.specs.LaneCalls.{AllAsked, AsksKind, HasLane, IsOfKind, PlacesAsk, SeriesIds, asked, both_at, call_asked, calls_at, ids_of, is_at, is_place, kind_asked, lane_asks, lane_number, numbered, numbered_asked, numbered_at, on_both}
-use Rattle.script_player.specs.LaneTables.{AllFitHandles, AreLanes, ArePlacesOf, HasCalls, HaveCalls, IsNamedAt, IsPlaceOf, NamesBoth, NamesCalls, calls_of, lane_of, lines_of, pair_of}
+use Rattle.script_player.specs.LaneCalls.{AllAsked, AsksKind, HasLane, IsOfKind, PlacesAsk, SeriesIds, asked, both_at, call_asked, calls_at, ids_of, is_at, is_place, kind_asked, lane_asks, lane_cells, lane_its, lane_number, numbered, numbered_asked, numbered_at, on_both}
+use Rattle.script_player.specs.LaneTables.{AllFitHandles, AllNamed, AreLanes, ArePlacesOf, HasCalls, HaveCalls, IsNamedAt, IsPlaceOf, NamesBoth, NamesCalls, lane_of, lines_of, pair_of}
 use Rattle.script_player.proofs.LaneSteps.{both_many, calls_at-last, dogstatsd_many, dogstatsd_place, dogstatsd_step, kind_of_asked, kinds_below, lane_asks-last, lines_last, lines_step, past_asked, past_calls, past_fit, places_ask, prometheus_place, prometheus_step, pushed_asked, pushed_calls, pushed_fit}
 
 -- ---- the place of an id
@@ -96,7 +97,7 @@ IsPushed places call old its new after =
     × ((j : ℕ) → cell_calls j new after ≡ cell_calls j old its ++ both_at j places call)
     × (map call_asked after ≡ map call_asked its ++ on_both call)
 
-both_pushed : (places : Places) (call : SeriesCall) (old between new : List ℕ) (own : Slots) (its : List (Line ExporterCall)) → IsNamedAt places.prometheus old between own.prometheus → IsNamedAt places.dogstatsd between new own.dogstatsd → LineFit (length old) its
+both_pushed : (places : Places) (call : SeriesCall) (old between new : List ℕ) (own : LaneCall) (its : List (Line ExporterCall)) → IsNamedAt places.prometheus old between own.prometheus → IsNamedAt places.dogstatsd between new own.dogstatsd → LineFit (length old) its
     → IsPushed places call old its new (its ++ line_on own.prometheus (exporter.Prometheus call) ∷ line_on own.dogstatsd (exporter.DogStatsD call) ∷ [])
 both_pushed places call old between new own its first second fit =
     let one = line_on own.prometheus (exporter.Prometheus call) in
@@ -157,58 +158,85 @@ module _ (ids : SeriesIds) (handles line_handles : List SeriesId) (moment number
 
 -- ---- the lines of one more call
 
-lines_more : (moment : ℕ) (cs : List CallLine) (ss : List Slots) (c : CallLine) (s : Slots) → length ss ≡ length cs → lines_of moment (cs ++ c ∷ []) (ss ++ s ∷ []) ≡ lines_of moment cs ss ++ pair_of moment c s
-lines_more moment [] [] c s e = refl
-lines_more moment [] (z ∷ ss) c s e = absurd (omega (arith, e))
-lines_more moment (d ∷ cs) [] c s e = absurd (omega (arith, e))
-lines_more moment (d ∷ cs) (z ∷ ss) c s e = ap (λ l. pair_of moment d z ++ l) (lines_more moment cs ss c s (omega (arith, e)))
-
-own_more : (number : ℕ) (xs : List CallLine) (x : CallLine) → x.lane ≡ number → calls_of number (xs ++ x ∷ []) ≡ calls_of number xs ++ x ∷ []
-own_more number xs x own = filter-append (HasLane number) xs (x ∷ []) ∙ ap (λ b. calls_of number xs ++ cond b (x ∷ []) []) (eq-eqb x.lane number own)
-
-own_same : (number : ℕ) (xs : List CallLine) (x : CallLine) → x.lane ≢ number → calls_of number (xs ++ x ∷ []) ≡ calls_of number xs
-own_same number xs x other = filter-append (HasLane number) xs (x ∷ []) ∙ ap (λ b. calls_of number xs ++ cond b (x ∷ []) []) (ne_eqb x.lane number other) ∙ append-nil (calls_of number xs)
+lines_more : (moment : ℕ) (its : List LaneCall) (own : LaneCall) → lines_of moment (its ++ own ∷ []) ≡ lines_of moment its ++ pair_of moment own
+lines_more moment its own = flat_map-append (pair_of moment) its (own ∷ [])
 
 -- a lane that names nothing yet
-pub none_named : (ids : SeriesIds) (handles line_handles : List SeriesId) (number : ℕ) (cells : List ℕ) (slots : List Slots) → cells ≡ [] → slots ≡ [] → NamesCalls ids handles line_handles number [] cells slots
-none_named ids handles line_handles number cells slots no_cells no_slots = (
-  ap length no_slots,
-  (λ moment. record {
-    fit = λ k line e. absurd (some-ne-none line (sym e));
-    asked = (
-      (λ s j e. absurd (some-ne-none j (sym (subst (λ cs. get_elem? cs s ≡ some j) no_cells e)))),
-      (λ k line e. absurd (some-ne-none line (sym e))),
-    );
-    prometheus = λ j. refl;
-    dogstatsd = λ j below. refl;
-    lines = refl;
-  }),
-)
+pub none_named : (ids : SeriesIds) (handles line_handles : List SeriesId) (number : ℕ) (cells : List ℕ) (its : List LaneCall) → cells ≡ [] → its ≡ [] → NamesCalls ids handles line_handles number [] cells its
+none_named ids handles line_handles number cells its no_cells no_calls =
+    subst (λ cs. NamesCalls ids handles line_handles number [] cs its) (sym no_cells) (subst (NamesCalls ids handles line_handles number [] []) (sym no_calls) (λ moment. record {
+      fit = λ k line e. absurd (some-ne-none line (sym e));
+      asked = (
+        (λ s j e. absurd (some-ne-none j (sym e))),
+        (λ k line e. absurd (some-ne-none line (sym e))),
+      );
+      prometheus = λ j. refl;
+      dogstatsd = λ j below. refl;
+      lines = refl;
+    }))
 
-module _ (ids : SeriesIds) (handles line_handles : List SeriesId) (number : ℕ) (xs : List CallLine) (x : CallLine) (cells : List ℕ) (slots : List Slots) (before : NamesCalls ids handles line_handles number xs cells slots) where
+module _ (ids : SeriesIds) (handles line_handles : List SeriesId) (number : ℕ) (xs : List CallLine) (x : CallLine) (cells : List ℕ) (its : List LaneCall) (before : NamesCalls ids handles line_handles number xs cells its) where
   -- a call of the lane, whose series were named
-  pub taken : (new : List ℕ) (slots' : List Slots) (places : Places) → x.lane ≡ number → NamesBoth places cells slots new slots' → ArePlacesOf ids (slice_get handles x.handle) (slice_get line_handles x.handle) places
-      → FitsHandle handles (call_line_of x) → FitsHandle line_handles (call_line_of x) → NamesCalls ids handles line_handles number (xs ++ x ∷ []) new slots'
-  taken new slots' places own (between, its_own, first, second, is) are fits line_fits =
-      let calls = own_more number xs x own in (
-        ap length is ∙ length-append slots (its_own ∷ []) ∙ ap (λ n. n + 1) before.0 ∙ sym (ap length calls ∙ length-append (calls_of number xs) (x ∷ [])),
-        (λ moment.
-            let its = lines_of moment (calls_of number xs) slots in
-            let after : lines_of moment (calls_of number (xs ++ x ∷ [])) slots' ≡ its ++ pair_of moment x its_own
-            = (λ i. lines_of moment (calls i) (is i)) ∙ lines_more moment (calls_of number xs) slots x its_own before.0 in
-            subst (HasCalls ids handles line_handles moment number (xs ++ x ∷ []) new) (sym after)
-            (one_taken ids handles line_handles moment number xs x cells new its (its ++ pair_of moment x its_own) places are fits line_fits own
-            (both_pushed places (asked moment x.act) cells between new its_own its first second (before.1 moment).fit) (before.1 moment))),
-      )
+  taken : (new : List ℕ) (its' : List LaneCall) (places : Places) → x.lane ≡ number → NamesBoth places x cells its new its' → ArePlacesOf ids (slice_get handles x.handle) (slice_get line_handles x.handle) places
+      → FitsHandle handles (call_line_of x) → FitsHandle line_handles (call_line_of x) → NamesCalls ids handles line_handles number (xs ++ x ∷ []) new its'
+  taken new its' places own (between, its_own, first, second, line, is) are fits line_fits = λ moment.
+      let lines = lines_of moment its in
+      let call = asked moment x.act in
+      let pair = line_on its_own.prometheus (exporter.Prometheus call) ∷ line_on its_own.dogstatsd (exporter.DogStatsD call) ∷ [] in
+      let after : lines_of moment its' ≡ lines ++ pair
+      = ap (lines_of moment) is ∙ lines_more moment its its_own
+      ∙ (λ i. lines ++ line_on its_own.prometheus (exporter.Prometheus (asked moment (line i).act)) ∷ line_on its_own.dogstatsd (exporter.DogStatsD (asked moment (line i).act)) ∷ []) in
+      subst (HasCalls ids handles line_handles moment number (xs ++ x ∷ []) new) (sym after)
+      (one_taken ids handles line_handles moment number xs x cells new lines (lines ++ pair) places are fits line_fits own
+      (both_pushed places call cells between new its_own lines first second (before moment).fit) (before moment))
 
   -- a call of another lane
-  pub passed : x.lane ≢ number → NamesCalls ids handles line_handles number (xs ++ x ∷ []) cells slots
-  passed other =
-      let calls = own_same number xs x other in (
-        before.0 ∙ sym (ap length calls),
-        (λ moment. subst (HasCalls ids handles line_handles moment number (xs ++ x ∷ []) cells) (ap (λ cs. lines_of moment cs slots) (sym calls))
-            (passed_over ids handles line_handles moment number xs x cells (lines_of moment (calls_of number xs) slots) other (before.1 moment))),
-      )
+  passed : x.lane ≢ number → NamesCalls ids handles line_handles number (xs ++ x ∷ []) cells its
+  passed other = λ moment. passed_over ids handles line_handles moment number xs x cells (lines_of moment its) other (before moment)
+
+-- ---- the series of all lanes
+
+at_end : {A : Type 0} (xs : List A) (x : A) → get_elem? (xs ++ x ∷ []) (length xs) ≡ some x
+at_end [] x = refl
+at_end (y ∷ ys) x = at_end ys x
+
+pub get_read : {A : Type 0} (xs : List A) (i : ℕ) (x : A) → i < length xs → x ≡ slice_index_or xs i x → get_elem? xs i ≡ some x
+get_read [] i x within e = absurd (omega (arith, within))
+get_read (y ∷ ys) zero x within e = ap some (sym e)
+get_read (y ∷ ys) (suc i) x within e = get_read ys i x (omega (arith, within)) e
+
+in_all : {A : Type 0} (P : A → Type 0) (xs : List A) (i : ℕ) (x : A) → All P xs → get_elem? xs i ≡ some x → P x
+in_all P [] i x all at = absurd (some-ne-none x (sym at))
+in_all P (y ∷ ys) zero x all at = subst P (some-injective y x at) (all 0 y (omega arith))
+in_all P (y ∷ ys) (suc i) x all at = in_all P ys i x (λ k d below. all (suc k) d (omega (arith, below))) at
+
+module _ (ids : SeriesIds) (handles line_handles : List SeriesId) where
+  -- none names anything yet
+  pub all_empty : (all : List LaneSeries) → All (λ (series : LaneSeries). (lane_cells series ≡ []) × (lane_its series ≡ [])) all → AllNamed ids handles line_handles [] all
+  all_empty all empty n series at =
+      let is = in_all (λ (series : LaneSeries). (lane_cells series ≡ []) × (lane_its series ≡ [])) all n series empty at in
+      none_named ids handles line_handles n (lane_cells series) (lane_its series) is.0 is.1
+
+  -- one more call is named in the series of its lane, and those of the others stay
+  pub all_taken : (xs : List CallLine) (x : CallLine) (all after : List LaneSeries) (old new : LaneSeries) (places : Places) → get_elem? all x.lane ≡ some old → after ≡ set all x.lane new
+      → NamesBoth places x (lane_cells old) (lane_its old) (lane_cells new) (lane_its new) → ArePlacesOf ids (slice_get handles x.handle) (slice_get line_handles x.handle) places
+      → FitsHandle handles (call_line_of x) → FitsHandle line_handles (call_line_of x) → AllNamed ids handles line_handles xs all → AllNamed ids handles line_handles (xs ++ x ∷ []) after
+  all_taken xs x all after old new places at is names are fits line_fits before n series there = ⊎_elim
+      (λ (own : (n ≡ x.lane) × (new ≡ series)).
+      subst (λ (s : LaneSeries). NamesCalls ids handles line_handles n (xs ++ x ∷ []) (lane_cells s) (lane_its s)) own.1
+      (taken ids handles line_handles n xs x (lane_cells old) (lane_its old) (subst (λ m. NamesCalls ids handles line_handles m xs (lane_cells old) (lane_its old)) (sym own.0) (before x.lane old at))
+      (lane_cells new) (lane_its new) places (sym own.0) names are fits line_fits))
+      (λ (other : (n ≢ x.lane) × (get_elem? all n ≡ some series)).
+      passed ids handles line_handles n xs x (lane_cells series) (lane_its series) (before n series other.1) (λ e. other.0 (sym e)))
+      (at_set all x.lane n new series (subst (λ l. get_elem? l n ≡ some series) is there))
+
+  -- the series of the last lane, and those before it
+  pub last_named : (calls : List CallLine) (all front : List LaneSeries) (last : LaneSeries) → all ≡ front ++ last ∷ [] → AllNamed ids handles line_handles calls all
+      → NamesCalls ids handles line_handles (length front) calls (lane_cells last) (lane_its last)
+  last_named calls all front last is named = named (length front) last (subst (λ l. get_elem? l (length front) ≡ some last) (sym is) (at_end front last))
+
+  pub front_named : (calls : List CallLine) (all front : List LaneSeries) (last : LaneSeries) → all ≡ front ++ last ∷ [] → AllNamed ids handles line_handles calls all → AllNamed ids handles line_handles calls front
+  front_named calls all front last is named n series at = named n series (subst (λ l. get_elem? l n ≡ some series) (sym is) (at_longer front (last ∷ []) n series at))
 
 -- ---- lanes below a number
 
@@ -219,11 +247,6 @@ all_below n m (y ∷ xs) x le own all zero d within = let first = all 0 d (omega
 all_below n m (y ∷ xs) x le own all (suc k) d within = all_below n m xs x le own (λ k d w. all (suc k) d (omega (arith, w))) k d (omega (arith, within))
 
 -- ---- what stands under a number
-
-below_or_past : (h n : ℕ) → (h < n) ⊎ (n ≤ h)
-below_or_past h zero = inr (omega arith)
-below_or_past zero (suc n) = inl (omega arith)
-below_or_past (suc h) (suc n) = ⊎_elim (λ (a : h < n). inl (omega (arith, a))) (λ (b : n ≤ h). inr (omega (arith, b))) (below_or_past h n)
 
 none_of : (test : CallLine → Bool) (xs : List CallLine) → All (λ x. test x ≡ false) xs → filter test xs ≡ []
 none_of test [] all = refl
@@ -257,112 +280,103 @@ module _ {X A : Type 0} (number : X → ℕ) (tells : X → List A) where
 
 -- ---- the lanes of a round, number by number
 
+nothing_asked : (moment : ℕ) (xs : List CallLine) → flat_map on_both (map (λ (line : CallLine). asked moment line.act) xs) ≡ [] → xs ≡ []
+nothing_asked moment [] none = refl
+nothing_asked moment (x ∷ xs) none = let many = ap length none in absurd (omega (arith, many))
+
 module _ (exporters : Exporters) (handles line_handles : List SeriesId) (moment : ℕ) (calls : List CallLine) where
   abbrev its_ids : SeriesIds
   its_ids = ids_of exporters
 
-  pub record IsLane (count : ℕ) (lane : LaneText ExporterCall) : Type 0 where
-    pub below : lane.number < count
+  abbrev calls_of : ℕ → List CallLine
+  calls_of n = filter (HasLane n) calls
+
+  pub record IsLane (low : ℕ) (lane : LaneText ExporterCall) : Type 0 where
+    pub from : low ≤ lane.number
     pub once : Distinct lane.cells
     pub busy : 0 < length lane.lines
     pub has : HasCalls its_ids handles line_handles moment lane.number calls lane.cells lane.lines
 
-  -- the lanes with numbers below this one are there, but those without calls
-  pub record AreBelow (count : ℕ) (lanes : List (LaneText ExporterCall)) : Type 0 where
-    pub each : (i : ℕ) (lane : LaneText ExporterCall) → get_elem? lanes i ≡ some lane → IsLane count lane
+  -- the lanes with numbers from this one on are there, but those without calls
+  pub record AreFrom (low : ℕ) (lanes : List (LaneText ExporterCall)) : Type 0 where
+    pub each : (i : ℕ) (lane : LaneText ExporterCall) → get_elem? lanes i ≡ some lane → IsLane low lane
     pub apart : Distinct (map lane_number lanes)
-    pub all : (n : ℕ) → n < count → ((i : ℕ) × (lane : LaneText ExporterCall) × (get_elem? lanes i ≡ some lane) × (lane.number ≡ n)) ⊎ (calls_of n calls ≡ [])
+    pub all : (n : ℕ) → low ≤ n → ((i : ℕ) × (lane : LaneText ExporterCall) × (get_elem? lanes i ≡ some lane) × (lane.number ≡ n)) ⊎ (calls_of n ≡ [])
 
-  pub none_below : (lanes : List (LaneText ExporterCall)) → lanes ≡ [] → AreBelow 0 lanes
-  none_below lanes none = record {
+  pub none_from : (low : ℕ) (lanes : List (LaneText ExporterCall)) → lanes ≡ [] → All (λ (line : CallLine). line.lane < low) calls → AreFrom low lanes
+  none_from low lanes none most = record {
     each = λ i lane at. absurd (some-ne-none lane (sym (subst (λ ls. get_elem? ls i ≡ some lane) none at)));
     apart = subst (λ ls. Distinct (map lane_number ls)) (sym none) tt;
-    all = λ n below. absurd (omega (arith, below));
+    all = λ n past. inr (none_of (HasLane n) calls (λ k d within. let less = most k d within in ne_eqb _ n (λ e. absurd (omega (arith, e, less, past)))));
   }
 
-  higher : (n m : ℕ) (lane : LaneText ExporterCall) → n ≤ m → IsLane n lane → IsLane m lane
-  higher n m lane most is = record { below = (let b = is.below in omega (arith, most, b)); once = is.once; busy = is.busy; has = is.has }
-
-  no_lines : (cs : List CallLine) (ss : List Slots) → length ss ≡ length cs → length ss ≡ 0 → cs ≡ []
-  no_lines [] ss e none = refl
-  no_lines (c ∷ cs) ss e none = absurd (omega (arith, e, none))
+  lower : (n m : ℕ) (lane : LaneText ExporterCall) → n ≤ m → IsLane m lane → IsLane n lane
+  lower n m lane most is = record { from = (let b = is.from in omega (arith, most, b)); once = is.once; busy = is.busy; has = is.has }
 
   -- the lane with this number has no calls
-  pub skipped : (n : ℕ) (lanes : List (LaneText ExporterCall)) (cells : List ℕ) (slots : List Slots) → NamesCalls its_ids handles line_handles n calls cells slots → length slots ≡ 0 → AreBelow n lanes → AreBelow (n + 1) lanes
-  skipped n lanes cells slots names none are = record {
-    each = λ i lane at. higher n (n + 1) lane (omega arith) (are.each i lane at);
+  pub skipped : (n : ℕ) (lanes : List (LaneText ExporterCall)) (cells : List ℕ) (its : List LaneCall) → NamesCalls its_ids handles line_handles n calls cells its → its ≡ [] → AreFrom (n + 1) lanes → AreFrom n lanes
+  skipped n lanes cells its names none are = record {
+    each = λ i lane at. lower n (n + 1) lane (omega arith) (are.each i lane at);
     apart = are.apart;
-    all = λ m below. dite (ℕ_discrete m n)
-        (λ (same : m ≡ n). inr (ap (λ k. calls_of k calls) same ∙ no_lines (calls_of n calls) slots names.0 none))
-        (λ (ne : ¬ (m ≡ n)). are.all m (omega (arith, below, ne)));
+    all = λ m from. dite (ℕ_discrete m n)
+        (λ (same : m ≡ n). inr (ap calls_of same ∙ nothing_asked moment (calls_of n) (sym (names moment).lines ∙ ap (λ ls. map call_asked (lines_of moment ls)) none)))
+        (λ (ne : ¬ (m ≡ n)). are.all m (omega (arith, from, ne)));
   }
 
-  some_lines : (cs : List CallLine) (ss : List Slots) → length ss ≡ length cs → 0 < length ss → 0 < length (lines_of moment cs ss)
-  some_lines [] ss e some_are = absurd (omega (arith, e, some_are))
-  some_lines (c ∷ cs) [] e some_are = absurd (omega (arith, some_are))
-  some_lines (c ∷ cs) (s ∷ ss) e some_are = omega arith
+  some_lines : (its : List LaneCall) → 0 < length its → 0 < length (lines_of moment its)
+  some_lines [] some_are = absurd (omega (arith, some_are))
+  some_lines (own ∷ its) some_are = omega arith
 
   -- it goes last
-  pub added : (n : ℕ) (lanes after : List (LaneText ExporterCall)) (lane : LaneText ExporterCall) (cells : List ℕ) (slots : List Slots) → NamesCalls its_ids handles line_handles n calls cells slots → 0 < length slots
-      → lane ≡ lane_of n moment calls cells slots → Distinct lane.cells → after ≡ lanes ++ lane ∷ [] → AreBelow n lanes → AreBelow (n + 1) after
-  added n lanes after lane cells slots names busy is once pushed are = subst (AreBelow (n + 1)) (sym pushed) (record {
+  pub added : (n : ℕ) (lanes after : List (LaneText ExporterCall)) (lane : LaneText ExporterCall) (cells : List ℕ) (its : List LaneCall) → NamesCalls its_ids handles line_handles n calls cells its → 0 < length its
+      → lane ≡ lane_of n moment cells its → Distinct lane.cells → after ≡ lanes ++ lane ∷ [] → AreFrom (n + 1) lanes → AreFrom n after
+  added n lanes after lane cells its names busy is once pushed are = subst (AreFrom n) (sym pushed) (record {
     each = λ i x at. ⊎_elim
-        (λ (before : get_elem? lanes i ≡ some x). higher n (n + 1) x (omega arith) (are.each i x before))
-        (λ (last : (i ≡ length lanes) × (lane ≡ x)). subst (IsLane (n + 1)) last.1 own)
+        (λ (before : get_elem? lanes i ≡ some x). lower n (n + 1) x (omega arith) (are.each i x before))
+        (λ (last : (i ≡ length lanes) × (lane ≡ x)). subst (IsLane n) last.1 own)
         (at_snoc_index lanes lane x i at);
     apart = subst Distinct (sym (map-append lane_number lanes (lane ∷ []))) (distinct_last (map lane_number lanes) lane.number other are.apart);
-    all = λ m below. dite (ℕ_discrete m n)
+    all = λ m from. dite (ℕ_discrete m n)
         (λ (same : m ≡ n). inl (length lanes, lane, at_end lanes lane, number ∙ sym same))
         (λ (ne : ¬ (m ≡ n)). ⊎_elim
         (λ (found : (i : ℕ) × (x : LaneText ExporterCall) × (get_elem? lanes i ≡ some x) × (x.number ≡ m)). inl (found.0, found.1, at_longer lanes (lane ∷ []) found.0 found.1 found.2, found.3))
-        (λ (none : calls_of m calls ≡ []). inr none)
-        (are.all m (omega (arith, below, ne))));
+        (λ (none : calls_of m ≡ []). inr none)
+        (are.all m (omega (arith, from, ne))));
   })
     where
       number : lane.number ≡ n
       number = ap (λ (x : LaneText ExporterCall). x.number) is
 
-      own : IsLane (n + 1) lane
+      own : IsLane n lane
       own = record {
-        below = omega (arith, number);
+        from = omega (arith, number);
         once = once;
-        busy = subst (λ (x : LaneText ExporterCall). 0 < length x.lines) (sym is) (some_lines (calls_of n calls) slots names.0 busy);
-        has = subst (λ (x : LaneText ExporterCall). HasCalls its_ids handles line_handles moment x.number calls x.cells x.lines) (sym is) (names.1 moment);
+        busy = subst (λ (x : LaneText ExporterCall). 0 < length x.lines) (sym is) (some_lines its busy);
+        has = subst (λ (x : LaneText ExporterCall). HasCalls its_ids handles line_handles moment x.number calls x.cells x.lines) (sym is) (names moment);
       }
 
       other : In lane.number (map lane_number lanes) → ⊥
-      other is_in = far lanes (λ i x at. (are.each i x at).below) (subst (λ m. In m (map lane_number lanes)) number is_in)
+      other is_in = far lanes (λ i x at. (are.each i x at).from) (subst (λ m. In m (map lane_number lanes)) number is_in)
         where
-          far : (xs : List (LaneText ExporterCall)) → ((i : ℕ) (x : LaneText ExporterCall) → get_elem? xs i ≡ some x → x.number < n) → In n (map lane_number xs) → ⊥
-          far [] less is_in = is_in
-          far (x ∷ xs) less is_in = ⊎_elim (λ (e : n ≡ x.number). let b = less 0 x refl in absurd (omega (arith, e, b))) (λ (r : In n (map lane_number xs)). far xs (λ i y at. less (suc i) y at) r) is_in
+          far : (xs : List (LaneText ExporterCall)) → ((i : ℕ) (x : LaneText ExporterCall) → get_elem? xs i ≡ some x → n + 1 ≤ x.number) → In n (map lane_number xs) → ⊥
+          far [] more is_in = is_in
+          far (x ∷ xs) more is_in = ⊎_elim (λ (e : n ≡ x.number). let b = more 0 x refl in absurd (omega (arith, e, b))) (λ (r : In n (map lane_number xs)). far xs (λ i y at. more (suc i) y at) r) is_in
 
-      at_end : (xs : List (LaneText ExporterCall)) (x : LaneText ExporterCall) → get_elem? (xs ++ x ∷ []) (length xs) ≡ some x
-      at_end [] x = refl
-      at_end (y ∷ ys) x = at_end ys x
-
-  module _ (count : ℕ) (lanes : List (LaneText ExporterCall)) (most : All (λ (line : CallLine). line.lane < count) calls) (are : AreBelow count lanes) where
+  module _ (lanes : List (LaneText ExporterCall)) (are : AreFrom 0 lanes) where
     -- what is told of the lane with a number, where it is this of each lane, and this is nothing where the lane has no calls
     told : {A : Type 0} (tells : LaneText ExporterCall → List A) (all : ℕ → List A) → ((i : ℕ) (lane : LaneText ExporterCall) → get_elem? lanes i ≡ some lane → tells lane ≡ all lane.number)
-        → ((l : ℕ) → calls_of l calls ≡ [] → all l ≡ []) → (l : ℕ) → numbered lane_number tells lanes l ≡ all l
-    told tells all own none l = by (below_or_past l count)
-      where
-        absent : calls_of l calls ≡ [] → numbered lane_number tells lanes l ≡ all l
-        absent no_calls = numbered_none lane_number tells lanes l (λ i lane at e.
-            let is = are.each i lane at in
-            let nothing : flat_map on_both (lane_asks moment lane.number calls) ≡ [] = ap (λ cs. flat_map on_both (map (λ (line : CallLine). asked moment line.act) cs)) (ap (λ n. calls_of n calls) e ∙ no_calls) in
-            let many = ap length (is.has.lines ∙ nothing) in
-            let same = length-map lane.lines call_asked in
-            let some_are = is.busy in
-            absurd (omega (arith, many, same, some_are))) ∙ sym (none l no_calls)
-
-        by : (l < count) ⊎ (count ≤ l) → numbered lane_number tells lanes l ≡ all l
-        by (inl below) = ⊎_elim
-            (λ (found : (i : ℕ) × (lane : LaneText ExporterCall) × (get_elem? lanes i ≡ some lane) × (lane.number ≡ l)).
-            ap (numbered lane_number tells lanes) (sym found.3) ∙ numbered_own lane_number tells lanes are.apart found.0 found.1 found.2 ∙ own found.0 found.1 found.2 ∙ ap all found.3)
-            absent
-            (are.all l below)
-        by (inr past) = absent (none_of (HasLane l) calls (λ k d within. let less = most k d within in ne_eqb _ l (λ e. absurd (omega (arith, e, less, past)))))
+        → ((l : ℕ) → calls_of l ≡ [] → all l ≡ []) → (l : ℕ) → numbered lane_number tells lanes l ≡ all l
+    told tells all own none l = ⊎_elim
+        (λ (found : (i : ℕ) × (lane : LaneText ExporterCall) × (get_elem? lanes i ≡ some lane) × (lane.number ≡ l)).
+        ap (numbered lane_number tells lanes) (sym found.3) ∙ numbered_own lane_number tells lanes are.apart found.0 found.1 found.2 ∙ own found.0 found.1 found.2 ∙ ap all found.3)
+        (λ (no_calls : calls_of l ≡ []). numbered_none lane_number tells lanes l (λ i lane at e.
+        let is = are.each i lane at in
+        let nothing : flat_map on_both (lane_asks moment lane.number calls) ≡ [] = ap (λ cs. flat_map on_both (map (λ (line : CallLine). asked moment line.act) cs)) (ap calls_of e ∙ no_calls) in
+        let many = ap length (is.has.lines ∙ nothing) in
+        let same = length-map lane.lines call_asked in
+        let some_are = is.busy in
+        absurd (omega (arith, many, same, some_are))) ∙ sym (none l no_calls))
+        (are.all l (omega arith))
 
     pub are_lanes : AreLanes exporters lanes
     are_lanes = record {

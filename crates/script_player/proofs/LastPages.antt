@@ -33,7 +33,7 @@ paged-round settings start all p q round left so_far (orders, legal, state) =
     (whole.0, whole.1 ++ page ∷ [], whole.2, whole.3 ∙ sym (append_assoc whole.1 (page ∷ []) (pages_along settings (after_round settings p round orders) left rest))))
 
 -- what is so of the last round's page is so of a script's last page
-pub last_shown : (script : ScriptText) (p : PlayState) (round : RoundText) (P : List ℕ → Type 0) → IsPagedSoFar script.settings play_start script.rounds p (round ∷ [])
+pub last_shown : (script : ScriptText) (p : PlayState) (round : RoundText) (P : List ℕ → Type 0) → IsPagedSoFar script.settings (play_start script.settings) script.rounds p (round ∷ [])
     → ForSomeOrders p round (λ orders. P (round_text script.settings p round orders)) → (page : List ℕ) × IsLastPageOf script page × P page
 last_shown script p round P so_far (orders, legal, holds) =
     let whole = so_far (orders ∷ []) (legal, tt) in (
@@ -87,5 +87,5 @@ has_last settings p round (next ∷ rounds) =
 pub last_unshown : (script : ScriptText) (first : RoundText) (others : List RoundText) (told : Option (List ℕ)) → script.rounds ≡ first ∷ others
     → (page : List ℕ) × IsLastPageOf script page × GrewByPrefix told told page
 last_unshown script first others told is =
-    let any : LastPage script.settings play_start script.rounds = subst (LastPage script.settings play_start) (sym is) (has_last script.settings play_start first others) in
+    let any : LastPage script.settings (play_start script.settings) script.rounds = subst (LastPage script.settings (play_start script.settings)) (sym is) (has_last script.settings (play_start script.settings) first others) in
     (any.bytes, record { orders = any.orders; legal = any.legal; earlier = any.earlier; families = any.families; last = any.last; page = any.page }, grew_none told any.bytes)

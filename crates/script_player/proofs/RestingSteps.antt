@@ -242,22 +242,30 @@ new_rests {X} root kind es number key cell is_first rest i s at =
     } in
     ⊎_elim (λ (old : get_elem? es i ≡ some s). rest i s old) (λ (is : new ≡ s). subst (IsResting root kind) is rests) (at_snoc es new s i at)
 
-pub counter_rests : (key : KeyText) (old new : Exporter) → (new ≡ old) ⊎ AddsCounter key old new → AllRest old → AllRest new
+-- a state with the series of one that rests
+rests_as : (e : Exporter) (cells : Cells) (f : Exporter) → f.series ≡ cells → AllRest (record e { series = cells }) → AllRest f
+rests_as e cells f same rest = record {
+  counters = subst (λ (c : Cells). EachRests value_root kinds.Counter c.counters) (sym same) rest.counters;
+  gauges = subst (λ (c : Cells). EachRests value_root kinds.Gauge c.gauges) (sym same) rest.gauges;
+  histograms = subst (λ (c : Cells). EachRests sample_root kinds.Histogram c.histograms) (sym same) rest.histograms;
+}
+
+pub counter_rests : (key : KeyText) (old new : Exporter) → (new.series ≡ old.series) ⊎ AddsCounter key old new → AllRest old → AllRest new
 counter_rests key old new step rest = ⊎_elim
-    (λ (same : new ≡ old). subst AllRest (sym same) rest)
-    (λ (adds : AddsCounter key old new). subst AllRest (sym adds.1) (record { counters = new_rests value_root kinds.Counter old.series.counters old.series.made key (unused adds.0) refl rest.counters; gauges = rest.gauges; histograms = rest.histograms }))
+    (λ (same : new.series ≡ old.series). rests_as old old.series new same (record { counters = rest.counters; gauges = rest.gauges; histograms = rest.histograms }))
+    (λ (adds : AddsCounter key old new). rests_as old _ new adds.1 (record { counters = new_rests value_root kinds.Counter old.series.counters old.series.made key (unused adds.0) refl rest.counters; gauges = rest.gauges; histograms = rest.histograms }))
     step
 
-pub gauge_rests : (key : KeyText) (old new : Exporter) → (new ≡ old) ⊎ AddsGauge key old new → AllRest old → AllRest new
+pub gauge_rests : (key : KeyText) (old new : Exporter) → (new.series ≡ old.series) ⊎ AddsGauge key old new → AllRest old → AllRest new
 gauge_rests key old new step rest = ⊎_elim
-    (λ (same : new ≡ old). subst AllRest (sym same) rest)
-    (λ (adds : AddsGauge key old new). subst AllRest (sym adds.1) (record { counters = rest.counters; gauges = new_rests value_root kinds.Gauge old.series.gauges old.series.made key (unused adds.0) refl rest.gauges; histograms = rest.histograms }))
+    (λ (same : new.series ≡ old.series). rests_as old old.series new same (record { counters = rest.counters; gauges = rest.gauges; histograms = rest.histograms }))
+    (λ (adds : AddsGauge key old new). rests_as old _ new adds.1 (record { counters = rest.counters; gauges = new_rests value_root kinds.Gauge old.series.gauges old.series.made key (unused adds.0) refl rest.gauges; histograms = rest.histograms }))
     step
 
-pub histogram_rests : (key : KeyText) (old new : Exporter) → (new ≡ old) ⊎ AddsHistogram key old new → AllRest old → AllRest new
+pub histogram_rests : (key : KeyText) (old new : Exporter) → (new.series ≡ old.series) ⊎ AddsHistogram key old new → AllRest old → AllRest new
 histogram_rests key old new step rest = ⊎_elim
-    (λ (same : new ≡ old). subst AllRest (sym same) rest)
-    (λ (adds : AddsHistogram key old new). subst AllRest (sym adds.1) (record { counters = rest.counters; gauges = rest.gauges; histograms = new_rests sample_root kinds.Histogram old.series.histograms old.series.made key _ refl rest.histograms }))
+    (λ (same : new.series ≡ old.series). rests_as old old.series new same (record { counters = rest.counters; gauges = rest.gauges; histograms = rest.histograms }))
+    (λ (adds : AddsHistogram key old new). rests_as old _ new adds.1 (record { counters = rest.counters; gauges = rest.gauges; histograms = new_rests sample_root kinds.Histogram old.series.histograms old.series.made key _ refl rest.histograms }))
     step
 
 -- an exporter without series

@@ -118,7 +118,7 @@ so_far-end settings start all p rounds a b none so_far =
 
 -- a run of which nothing was written
 pub unbegun : (script : ScriptText) (told : Option (List ℕ)) → ForSomeRun script (GrewByPrefix told told)
-unbegun script told = (orders_along script.settings play_start script.rounds, orders_legal script.settings play_start script.rounds, grew_none told _)
+unbegun script told = (orders_along script.settings (play_start script.settings) script.rounds, orders_legal script.settings (play_start script.settings) script.rounds, grew_none told _)
 
 -- a round and those behind it
 pub rounds_behind : (rounds : List Round) (i : ℕ) (round : Round) → i < length rounds → round ≡ get_or rounds i round → map round_of (drop i rounds) ≡ round_of round ∷ map round_of (drop (i + 1) rounds)

@@ -44,8 +44,8 @@ pub run_is_pages : (script : ScriptText) (choice : List RoundOrders) → AreOrde
 run_is_pages script choice legal = record {
   orders = choice;
   legal = legal;
-  pages = pages_read script.settings play_start script.rounds choice legal;
+  pages = pages_read script.settings (play_start script.settings) script.rounds choice legal;
 }
 
 pub turns_are_pages : (script : ScriptText) → IsPagesOf script (run_text script (script_orders script))
-turns_are_pages script = run_is_pages script (script_orders script) (orders_legal script.settings play_start script.rounds)
+turns_are_pages script = run_is_pages script (script_orders script) (orders_legal script.settings (play_start script.settings) script.rounds)

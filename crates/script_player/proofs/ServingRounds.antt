@@ -47,8 +47,8 @@ served_any p rounds P every = (in_turn p rounds, in_turn_legal p rounds, every (
 
 pub page_any : (script : ScriptText) (P : List ℕ → Type 0) → ((page : List ℕ) → P page) → ForSomePage script P
 page_any script P every =
-    let choice = in_turn play_start script.rounds in
-    (choice, in_turn_legal play_start script.rounds, every (served_body script choice))
+    let choice = in_turn (play_start script.settings) script.rounds in
+    (choice, in_turn_legal (play_start script.settings) script.rounds, every (served_body script choice))
 
 -- ---- rounds
 

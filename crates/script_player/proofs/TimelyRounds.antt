@@ -13,7 +13,8 @@ use Rattle.metrics_registry.specs.Recency.{Idle, note_left}
 use Rattle.rolling_summaries.specs.Standing.{NeverFall, NoneAfter}
 use Rattle.rolling_summaries.specs.Window.{Sample, timed_samples, timed_samples_of}
 use Rattle.metric_descriptions.specs.Descriptions.{description_of}
-use Rattle.prom_exporter.specs.State.{PrometheusState, Series, count_of_updates, kept_at, live, live_series, no_series, register, with_live}
+use Rattle.name_counts.specs.Counts.{raised}
+use Rattle.prom_exporter.specs.State.{PrometheusState, Series, count_of_updates, is_redirected, kept_at, key_given, live, live_series, metric_name_of, no_series, register, with_live, with_redirection, with_series}
 use Rattle.prom_format.specs.Names.{sanitized_metric_name}
 use Rattle.drive_script.specs.Script.{Act, Inc, Abs, Add, Sub, Set, Rec, RecN, CallLine, RoundText, SetupLine, Describe, Register, SettingsText, call_of}
 use Rattle.script_player.specs.Play.{PlayState, RoundOrders, after_calls, after_round, after_setup, called, setup_step}
@@ -92,8 +93,8 @@ later_timely m n state le timely =
     All-weaker (λ (s : Series). AreTimelyCalls m s.calls) (λ (s : Series). AreTimelyCalls n s.calls)
     (λ s h. (h.0, All-weaker (λ (x : Sample). x.moment ≤ m) (λ (x : Sample). x.moment ≤ n) (λ x before. omega (arith, before, le)) (timed_samples s.calls) h.1)) state.histograms timely
 
-registered_timely : (moment : ℕ) (kind : MetricKind) (key : KeyText) (s : PrometheusState) → IsTimelyState moment s → IsTimelyState moment (register kind key s)
-registered_timely moment kind key s timely = by (is_some (live_series kind key s)) (s.made == no_series)
+series_timely : (moment : ℕ) (kind : MetricKind) (key : KeyText) (s : PrometheusState) → IsTimelyState moment s → IsTimelyState moment (with_series kind key s)
+series_timely moment kind key s timely = by (is_some (live_series kind key s)) (s.made == no_series)
   where
     new : Series
     new = record { number = s.made; key = key; calls = []; note = None }
@@ -107,6 +108,16 @@ registered_timely moment kind key s timely = by (is_some (live_series kind key s
     by true b = timely
     by false true = timely
     by false false = added kind
+
+redirected_timely : (moment : ℕ) (kind : MetricKind) (key : KeyText) (s : PrometheusState) → IsTimelyState moment s → IsTimelyState moment (with_redirection kind key s)
+redirected_timely moment kind key s timely = by (is_redirected kind key s)
+  where
+    by : (b : Bool) → IsTimelyState moment (if b then record s { redirected = raised kind (metric_name_of key) s.redirected } else s)
+    by true = timely
+    by false = timely
+
+registered_timely : (moment : ℕ) (kind : MetricKind) (key : KeyText) (s : PrometheusState) → IsTimelyState moment s → IsTimelyState moment (register kind key s)
+registered_timely moment kind key s timely = series_timely moment kind (key_given kind key s) (with_redirection kind key s) (redirected_timely moment kind key s timely)
 
 described_timely : (moment : ℕ) (b : Bool) (s t : PrometheusState) → t.histograms ≡ s.histograms → IsTimelyState moment s → IsTimelyState moment (if b then s else t)
 described_timely moment true s t same timely = timely

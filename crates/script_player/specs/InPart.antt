@@ -47,4 +47,4 @@ pub record EndsWithin (settings : SettingsText) (to : RemoteText) (p : PlayState
 
 -- so of a script
 abbrev pub IsCutOff : ScriptText → RemoteText → Option (List ℕ) → Option (List ℕ) → LinkTold → LinkTold → Type 0
-IsCutOff script to written written' told tells = EndsWithin script.settings to play_start flush_start script.rounds written written' told tells none_sent
+IsCutOff script to written written' told tells = EndsWithin script.settings to (play_start script.settings) flush_start script.rounds written written' told tells none_sent

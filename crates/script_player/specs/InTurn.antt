@@ -25,7 +25,7 @@ orders_along settings p (round ∷ rounds) =
 
 -- the orders of all rounds of a script
 abbrev pub script_orders : ScriptText → List RoundOrders
-script_orders script = orders_along script.settings play_start script.rounds
+script_orders script = orders_along script.settings (play_start script.settings) script.rounds
 
 -- the same of the series of the flushes
 abbrev pub flush_orders_for : {S : Type 0} → FlushPlay → RoundText → List (LiveSeries S) → List (List CallLine)

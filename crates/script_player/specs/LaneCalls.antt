@@ -21,7 +21,7 @@ use Rattle.drive_script.specs.declared.script.Act.{Act}
 use Rattle.drive_script.specs.declared.script.Act.TheVariants as acts
 use Rattle.drive_script.specs.declared.script.CallLine.{CallLine}
 use Rattle.script_player.specs.declared.lanes.LaneSeries.{LaneSeries}
-use Rattle.script_player.specs.declared.lane_lines.Slots.{Slots}
+use Rattle.script_player.specs.declared.lane_lines.LaneCall.{LaneCall}
 use Rattle.script_player.specs.declared.lanes.Places.{Places}
 
 -- the call on a series that an act makes in a round at a moment, and the kind of series that it is on
@@ -131,9 +131,9 @@ numbered_at j = numbered lane_number (λ lane. cell_calls j lane.cells lane.line
 abbrev pub numbered_asked : List (LaneText ExporterCall) → ℕ → List ExporterCall
 numbered_asked = numbered lane_number (λ lane. map call_asked lane.lines)
 
--- what is told of a lane while its calls are looked through: the cells that it names, and where the series of its calls are among them
+-- what is told of a lane while the calls of a round are looked through: the cells that it names, and its calls
 abbrev pub lane_cells : LaneSeries → List ℕ
 lane_cells series = series.cells.keys
 
-abbrev pub lane_slots : LaneSeries → List Slots
-lane_slots series = series.slots.items
+abbrev pub lane_its : LaneSeries → List LaneCall
+lane_its series = series.calls.items

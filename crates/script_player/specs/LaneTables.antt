@@ -16,9 +16,10 @@ use Rattle.dsd_exporter.specs.LanePasses as D
 use Rattle.drive_script.specs.Texts.{call_line_of}
 use Rattle.drive_script.specs.declared.script.CallLine.{CallLine}
 use Rattle.script_player.specs.declared.lanes.Places.{Places}
-use Rattle.script_player.specs.declared.lane_lines.Slots.{Slots}
+use Rattle.script_player.specs.declared.lane_lines.LaneCall.{LaneCall}
+use Rattle.script_player.specs.declared.lanes.LaneSeries.{LaneSeries}
 use Rattle.script_player.specs.Fitting.{FitsHandle}
-use Rattle.script_player.specs.LaneCalls.{AllAsked, AreWith, HasLane, IsOfKind, SeriesIds, asked, call_asked, calls_at, id_at, ids_of, is_place, lane_asks, lane_number, numbered_asked, numbered_at, on_both}
+use Rattle.script_player.specs.LaneCalls.{AllAsked, AreWith, IsOfKind, SeriesIds, asked, call_asked, calls_at, id_at, ids_of, is_place, lane_asks, lane_cells, lane_its, lane_number, numbered_asked, numbered_at, on_both}
 
 -- the id that a handle names, if any, is the one at an index
 abbrev pub names_index : List SeriesId → Option SeriesId → ℕ → Bool
@@ -36,30 +37,24 @@ ArePlacesOf ids own other places =
 abbrev pub AllFitHandles : List SeriesId → List CallLine → Type 0
 AllFitHandles handles calls = All (λ line. FitsHandle handles (call_line_of line)) calls
 
--- the calls of lane l, in order
-abbrev pub calls_of : ℕ → List CallLine → List CallLine
-calls_of l calls = filter (HasLane l) calls
-
 -- the two lines of a call, each on the series at its slot, or on none
-abbrev pub pair_of : ℕ → CallLine → Slots → List (Line ExporterCall)
-pair_of moment call slots =
-    record { slot = slots.prometheus; call = exporter.Prometheus (asked moment call.act) } ∷ record { slot = slots.dogstatsd; call = exporter.DogStatsD (asked moment call.act) } ∷ []
+abbrev pub pair_of : ℕ → LaneCall → List (Line ExporterCall)
+pair_of moment own =
+    record { slot = own.prometheus; call = exporter.Prometheus (asked moment own.line.now.act) } ∷ record { slot = own.dogstatsd; call = exporter.DogStatsD (asked moment own.line.now.act) } ∷ []
 
--- the lines of these calls, each of which has slots of its own
-abbrev pub lines_of : ℕ → List CallLine → List Slots → List (Line ExporterCall)
-lines_of moment [] slots = []
-lines_of moment (call ∷ calls) [] = []
-lines_of moment (call ∷ calls) (own ∷ slots) = pair_of moment call own ++ lines_of moment calls slots
+-- the lines of a lane's calls
+abbrev pub lines_of : ℕ → List LaneCall → List (Line ExporterCall)
+lines_of moment calls = flat_map (pair_of moment) calls
 
 -- the series at a place, if there is one, is named: it has this slot among the cells, as they are now
 abbrev pub IsNamedAt : Option ℕ → List ℕ → List ℕ → Option ℕ → Type 0
 IsNamedAt None old new slot = (slot ≡ None) × (new ≡ old)
 IsNamedAt (Some index) old new slot = (s : ℕ) × (slot ≡ Some s) × AreWith index old new × (slice_get new s ≡ Some index)
 
--- the series at both places are named, for one more call
-abbrev pub NamesBoth : Places → List ℕ → List Slots → List ℕ → List Slots → Type 0
-NamesBoth places old slots new slots' =
-    (between : List ℕ) × (own : Slots) × IsNamedAt places.prometheus old between own.prometheus × IsNamedAt places.dogstatsd between new own.dogstatsd × (slots' ≡ slots ++ own ∷ [])
+-- the series at both places are named, for the call of a line
+abbrev pub NamesBoth : Places → CallLine → List ℕ → List LaneCall → List ℕ → List LaneCall → Type 0
+NamesBoth places line old calls new calls' =
+    (between : List ℕ) × (own : LaneCall) × IsNamedAt places.prometheus old between own.prometheus × IsNamedAt places.dogstatsd between new own.dogstatsd × (own.line.now ≡ line) × (calls' ≡ calls ++ own ∷ [])
 
 -- these lines on these cells are what the calls ask of the lane with a number, on the series that the handles name
 pub record HasCalls (ids : SeriesIds) (handles line_handles : List SeriesId) (moment number : ℕ) (calls : List CallLine) (cells : List ℕ) (its : List (Line ExporterCall)) : Type 0 where
@@ -69,14 +64,19 @@ pub record HasCalls (ids : SeriesIds) (handles line_handles : List SeriesId) (mo
   pub dogstatsd : (j : ℕ) → j < length ids.dogstatsd → cell_calls j cells its ≡ map exporter.DogStatsD (calls_at moment ids.dogstatsd line_handles number j calls)
   pub lines : map call_asked its ≡ flat_map on_both (lane_asks moment number calls)
 
--- each of the lane's calls has slots, and its lines are what the calls ask for at whatever moment
-abbrev pub NamesCalls : SeriesIds → List SeriesId → List SeriesId → ℕ → List CallLine → List ℕ → List Slots → Type 0
-NamesCalls ids handles line_handles number calls cells slots =
-    (length slots ≡ length (calls_of number calls)) × ((moment : ℕ) → HasCalls ids handles line_handles moment number calls cells (lines_of moment (calls_of number calls) slots))
+-- these are the calls of the lane with a number: their lines are what the calls of the round ask of it, at whatever moment
+abbrev pub NamesCalls : SeriesIds → List SeriesId → List SeriesId → ℕ → List CallLine → List ℕ → List LaneCall → Type 0
+NamesCalls ids handles line_handles number calls cells its =
+    (moment : ℕ) → HasCalls ids handles line_handles moment number calls cells (lines_of moment its)
+
+-- so of each lane, in the order of their numbers
+abbrev pub AllNamed : SeriesIds → List SeriesId → List SeriesId → List CallLine → List LaneSeries → Type 0
+AllNamed ids handles line_handles calls all =
+    (n : ℕ) (series : LaneSeries) → get_elem? all n ≡ some series → NamesCalls ids handles line_handles n calls (lane_cells series) (lane_its series)
 
 -- the lane with a number, at a moment
-abbrev pub lane_of : ℕ → ℕ → List CallLine → List ℕ → List Slots → LaneText ExporterCall
-lane_of number moment calls cells slots = record { number = number; cells = cells; lines = lines_of moment (calls_of number calls) slots }
+abbrev pub lane_of : ℕ → ℕ → List ℕ → List LaneCall → LaneText ExporterCall
+lane_of number moment cells its = record { number = number; cells = cells; lines = lines_of moment its }
 
 -- the lanes of a round, as they can be run side by side
 pub record AreLanes (exporters : Exporters) (lanes : List (LaneText ExporterCall)) : Type 0 where

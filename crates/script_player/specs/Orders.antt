@@ -13,7 +13,7 @@ rounds_text settings p rounds choice = flat_map page_text (pages_along settings 
 
 -- the text that a script's run writes
 abbrev pub run_text : ScriptText → List RoundOrders → List ℕ
-run_text script choice = rounds_text script.settings play_start script.rounds choice
+run_text script choice = rounds_text script.settings (play_start script.settings) script.rounds choice
 
 -- after the calls of a round, made in some order on each series
 abbrev pub IsCalled : PlayState → RoundText → PlayState → Type 0
@@ -27,4 +27,4 @@ abbrev pub ForSomeRounds : SettingsText → PlayState → List RoundText → (Li
 ForSomeRounds settings p rounds P = (choice : List RoundOrders) × AreOrdersAlong settings p rounds choice × P (rounds_text settings p rounds choice)
 
 abbrev pub ForSomeRun : ScriptText → (List ℕ → Type 0) → Type 0
-ForSomeRun script P = ForSomeRounds script.settings play_start script.rounds P
+ForSomeRun script P = ForSomeRounds script.settings (play_start script.settings) script.rounds P

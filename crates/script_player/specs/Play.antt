@@ -35,6 +35,7 @@ exporter_settings s = record {
   bucket_count = (window_settings s.summary).0;
   bucket_duration = (window_settings s.summary).1;
   idle = option_map (λ (mask, timeout). record { mask = mask; timeout = timeout }) s.idle;
+  series_limit = s.series_limit;
   units = s.naming || s.units;
   total_suffix = s.naming;
   globals = global_labels s;
@@ -47,8 +48,8 @@ pub record PlayState : Type 0 where
   pub prometheus : PrometheusState
   pub handles : List SeriesId
 
-abbrev pub play_start : PlayState
-play_start = record { prometheus = prom.empty_state; handles = [] }
+abbrev pub play_start : SettingsText → PlayState
+play_start s = record { prometheus = prom.state_with s.series_limit; handles = [] }
 
 -- a setup line does its step on the exporter
 abbrev pub setup_step : PlayState → SetupLine → PlayState
@@ -148,7 +149,7 @@ pages_along settings p (round ∷ rounds) (orders ∷ choice) =
 
 -- one order for each round and each series that is live in it
 abbrev pub AreOrders : ScriptText → List RoundOrders → Type 0
-AreOrders script choice = AreOrdersAlong script.settings play_start script.rounds choice
+AreOrders script choice = AreOrdersAlong script.settings (play_start script.settings) script.rounds choice
 
 abbrev pub pages_of : ScriptText → List RoundOrders → List (List Family)
-pages_of script choice = pages_along script.settings play_start script.rounds choice
+pages_of script choice = pages_along script.settings (play_start script.settings) script.rounds choice

@@ -42,7 +42,7 @@ pub record PlayerText : Type 0 where
 
 -- before the first round
 abbrev pub first_player : SettingsText → RemoteText → PlayerText
-first_player settings to = record { settings = settings; to = to; pages = play_start; flushes = flush_start; waiting = []; report = none_sent }
+first_player settings to = record { settings = settings; to = to; pages = play_start settings; flushes = flush_start; waiting = []; report = none_sent }
 
 -- So of each player, also of one whose round failed: both exporters rest, and they and what flushes go through are as the settings ask for.
 pub record IsMadeFor (settings : SettingsText) (to : RemoteText) (pages : PrometheusExporter) (lines : DogStatsDExporter) (writer : WriterText) : Type 0 where

@@ -38,10 +38,10 @@ last_moment script = moment_from 0 script.rounds
 
 -- one order for each round and each series that is live in it
 abbrev pub AreServedOrders : ScriptText → List RoundOrders → Type 0
-AreServedOrders script choice = AreServedOrdersAlong play_start script.rounds choice
+AreServedOrders script choice = AreServedOrdersAlong (play_start script.settings) script.rounds choice
 
 abbrev pub served_state : ScriptText → List RoundOrders → PlayState
-served_state script choice = served_along play_start script.rounds choice
+served_state script choice = served_along (play_start script.settings) script.rounds choice
 
 -- the families that are served: those of one page step at the last round's moment, and the body of their page, which has no line `# EOF`
 abbrev pub served_families : ScriptText → List RoundOrders → List Family

@@ -8,10 +8,12 @@ use drive_script::{Act, CallLine};
 use exporter_lanes::ExporterCall;
 use metrics_core::SeriesCall;
 
-/// Where the two series of a call are among those that its lane names.
+/// A call of a lane.
 #[derive(Clone, Copy)]
-pub struct Slots {
-    /// Where the Prometheus series is, if it is live.
+pub struct LaneCall<'a> {
+    /// Its line, where it stands among those of the round.
+    pub line: &'a CallLine,
+    /// Where the Prometheus series is among those that the lane names, if it is live.
     pub prometheus: Option<usize>,
     /// Where the DogStatsD series is, if there is one.
     pub dogstatsd: Option<usize>,
@@ -20,46 +22,30 @@ pub struct Slots {
 /// The lines of a lane: for each of its calls one on the Prometheus series, and then one on the DogStatsD series.
 #[derive(Drop)]
 pub struct RoundLines<'a> {
-    /// The lane's number.
-    number: usize,
     /// The moment of the round.
     moment: u64,
-    /// The calls of all lanes.
-    calls: &'a [CallLine],
-    /// For each of the lane's calls, where its series are.
-    slots: Vec<Slots>,
+    /// The lane's calls.
+    calls: Vec<LaneCall<'a>>,
 }
 
 /// How far a lane has come.
 #[derive(Drop)]
 pub struct RoundWalk {
-    /// It is past so many calls of the round.
+    /// It is past so many of its calls.
     past: usize,
-    /// So many of them are its own.
-    own: usize,
-    /// The second line of its last call, where that is left.
+    /// The second line of the last of them, where that is left.
     second: Option<Line<ExporterCall>>,
 }
 
 impl<'a> RoundLines<'a> {
-    ghost use Rattle.script_player.specs.LaneTables.{calls_of, lines_of};
+    ghost use Rattle.script_player.specs.LaneTables.{lines_of};
     ghost use Rattle.script_player.specs.RoundLines.{all_lines};
 
-    /// The lines of the lane with a number in a round at a moment, whose calls these are.
-    pub(crate) fn new(
-        number: usize,
-        moment: u64,
-        calls: &'a [CallLine],
-        slots: Vec<Slots>,
-    ) -> RoundLines<'a>
-        ensures { all_lines result ≡ lines_of moment (calls_of number calls.entry.now) slots.items }
+    /// The lines of a lane with these calls in a round at a moment.
+    pub(crate) fn new(moment: u64, calls: Vec<LaneCall<'a>>) -> RoundLines<'a>
+        ensures { all_lines result ≡ lines_of moment calls.entry.items }
     {
-        RoundLines {
-            number,
-            moment,
-            calls,
-            slots,
-        }
+        RoundLines { moment, calls }
     }
 }
 
@@ -79,7 +65,6 @@ impl<'a> LaneLines for RoundLines<'a> {
         let _most = self.calls.len() + self.calls.len();
         RoundWalk {
             past: 0,
-            own: 0,
             second: None,
         }
     }
@@ -88,24 +73,17 @@ impl<'a> LaneLines for RoundLines<'a> {
         if let Some(second) = walk.second.take() {
             return Some(second);
         }
-        for past in walk.past..self.calls.len() {
-            let line = &self.calls[past];
-            if usize::from(line.lane) == self.number {
-                let slots = self.slots.get(walk.own)?;
-                let call = call_of(self.moment, line.act);
-                walk.past = past + 1;
-                walk.own += 1;
-                walk.second = Some(Line {
-                    slot: slots.dogstatsd,
-                    call: ExporterCall::DogStatsD(call),
-                });
-                return Some(Line {
-                    slot: slots.prometheus,
-                    call: ExporterCall::Prometheus(call),
-                });
-            }
-        }
-        None
+        let own = self.calls.get(walk.past)?;
+        let call = call_of(self.moment, own.line.act);
+        walk.past += 1;
+        walk.second = Some(Line {
+            slot: own.dogstatsd,
+            call: ExporterCall::DogStatsD(call),
+        });
+        Some(Line {
+            slot: own.prometheus,
+            call: ExporterCall::Prometheus(call),
+        })
     }
 }
 

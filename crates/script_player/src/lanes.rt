@@ -8,10 +8,10 @@ ghost use Rattle.prom_exporter.specs.LanePasses as P;
 ghost use Rattle.dsd_exporter.specs.LanePasses as D;
 ghost use Rattle.drive_script.specs.Texts.{call_line_of};
 ghost use Rattle.script_player.specs.Fitting.{FitsHandle};
-ghost use Rattle.script_player.specs.LaneTables.{AreLanes, ArePlacesOf, HaveCalls, IsPlaceOf, NamesBoth, NamesCalls, IsNamedAt, lane_of};
-ghost use Rattle.script_player.specs.LaneCalls.{AreWith, ids_of, lane_cells, lane_slots};
+ghost use Rattle.script_player.specs.LaneTables.{AllNamed, AreLanes, HaveCalls, IsNamedAt, IsPlaceOf, NamesBoth, lane_of};
+ghost use Rattle.script_player.specs.LaneCalls.{AreWith, ids_of, lane_cells, lane_its};
 
-use crate::lane_lines::{RoundLines, Slots};
+use crate::lane_lines::{LaneCall, RoundLines};
 use cell_lanes::Lane;
 use drive_script::CallLine;
 use dsd_exporter::State;
@@ -45,24 +45,21 @@ pub(crate) fn lanes_of<'a>(
         calls.entry.now lanes.items) }
     ensures numbered { IsNumbered exporters.now.dogstatsd.series }
 {
-    let first = exporters.dogstatsd.series_count();
+    let mut all = series_of(
+        alloc,
+        exporters,
+        handles,
+        guesses,
+        line_handles,
+        line_guesses,
+        calls,
+    )?;
     let mut lanes = Vec::new(alloc);
-    for number in 0..lanes_in(calls) {
-        let series = series_of(
-            alloc,
-            exporters,
-            first,
-            handles,
-            guesses,
-            line_handles,
-            line_guesses,
-            number,
-            calls,
-        )?;
-        if series.slots.is_empty() {
+    while let Some(series) = all.pop() {
+        if series.calls.is_empty() {
             continue;
         }
-        lanes.push(series.into_lane(alloc, number, moment, calls)?)?;
+        lanes.push(series.into_lane(alloc, all.len(), moment)?)?;
     }
     Ok(lanes)
 }
@@ -81,44 +78,53 @@ fn lanes_in(calls: &[CallLine]) -> usize
     lanes
 }
 
-/// The series that the calls of the lane with a number are on. `first` is how many series of the DogStatsD exporter stand before those
-/// of the Prometheus exporter; the other arguments are those of `lanes_of`.
-fn series_of(
+/// The series that the calls of each lane are on, in the order of the lanes' numbers. The arguments are those of `lanes_of`.
+fn series_of<'a>(
     alloc: Global,
     exporters: &Exporters,
-    first: usize,
     handles: &[SeriesId],
     guesses: &mut [u32],
     line_handles: &[SeriesId],
     line_guesses: &mut [u32],
-    number: usize,
-    calls: &[CallLine],
-) -> Result<LaneSeries, Memory>
+    calls: &'a [CallLine],
+) -> Result<Vec<LaneSeries<'a>>, Memory>
     requires fit { All (λ line. FitsHandle handles.now (call_line_of line)) calls.now }
     requires line_fit { All (λ line. FitsHandle line_handles.now (call_line_of line)) calls.now }
-    requires first { first ≡ length (D.ids_of exporters.now.dogstatsd) }
-    ensures { IfOk result (λ series. NamesCalls (ids_of exporters.now) handles.now line_handles.now
-        number calls.now (lane_cells series) (lane_slots series)) }
+    ensures below { IfOk result (λ all. All (λ line. line.lane < length all.items) calls.entry.now) }
+    ensures named { IfOk result (λ all. AllNamed (ids_of exporters.now) handles.now line_handles.now
+        calls.entry.now all.items) }
+    ensures numbered { IsNumbered exporters.now.dogstatsd.series }
 {
-    let guess_count = if calls.len() < GUESSES { 0 } else { GUESSES };
-    let mut series = LaneSeries::new(alloc, guess_count)?;
+    let first = exporters.dogstatsd.series_count();
+    let mut all = empty_series(alloc, lanes_in(calls), calls.len())?;
     for line in calls {
-        if usize::from(line.lane) == number {
-            let handle = line.handle as usize;
-            let prometheus = prometheus_place(&exporters.prometheus, handles, guesses, handle);
-            let places = Places {
-                prometheus: behind(first, prometheus)?,
-                dogstatsd: dogstatsd_place(
-                    &exporters.dogstatsd,
-                    line_handles,
-                    line_guesses,
-                    handle,
-                ),
-            };
-            series.name_both(places)?;
-        }
+        let handle = line.handle as usize;
+        let prometheus = prometheus_place(&exporters.prometheus, handles, guesses, handle);
+        let places = Places {
+            prometheus: behind(first, prometheus)?,
+            dogstatsd: dogstatsd_place(&exporters.dogstatsd, line_handles, line_guesses, handle),
+        };
+        all[usize::from(line.lane)].name_both(places, line)?;
     }
-    Ok(series)
+    Ok(all)
+}
+
+/// The series of so many lanes, before any of so many calls is looked at.
+fn empty_series<'a>(
+    alloc: Global,
+    lanes: usize,
+    calls: usize,
+) -> Result<Vec<LaneSeries<'a>>, Memory>
+    ensures many { IfOk result (λ all. length all.items ≡ lanes) }
+    ensures empty { IfOk result (λ all. All (λ series. (lane_cells series ≡ [])
+        × (lane_its series ≡ [])) all.items) }
+{
+    let guesses = if calls < GUESSES { 0 } else { GUESSES };
+    let mut all = Vec::with_capacity(alloc, lanes)?;
+    for _ in 0..lanes {
+        all.push(LaneSeries::new(alloc, guesses)?)?;
+    }
+    Ok(all)
 }
 
 /// Where the two series of a call line stand among those of both exporters.
@@ -176,38 +182,39 @@ fn behind(first: usize, index: Option<usize>) -> Result<Option<usize>, Memory>
     }
 }
 
-/// The series that a lane names, while its calls are looked through.
+/// The series that a lane names, while the calls of the round are looked through.
 #[derive(Drop)]
-pub struct LaneSeries {
+pub struct LaneSeries<'a> {
     /// The indices of the series that its calls are on, each once.
     cells: IndexSet<usize>,
     /// Where to look first for a series among the cells, by the end of its index; none in a round of few calls.
     guesses: Vec<u32>,
-    /// For each of its calls, where the call's series are among the cells.
-    slots: Vec<Slots>,
+    /// Its calls, each with where its series are among the cells.
+    calls: Vec<LaneCall<'a>>,
 }
 
-impl LaneSeries {
+impl<'a> LaneSeries<'a> {
     /// No series yet, with so many guesses.
-    fn new(alloc: Global, guesses: usize) -> Result<LaneSeries, Memory>
+    fn new(alloc: Global, guesses: usize) -> Result<LaneSeries<'a>, Memory>
         ensures cells { IfOk result (λ series. lane_cells series ≡ []) }
-        ensures slots { IfOk result (λ series. lane_slots series ≡ []) }
+        ensures calls { IfOk result (λ series. lane_its series ≡ []) }
     {
         Ok(LaneSeries {
             cells: IndexSet::new(alloc),
             guesses: vec![in alloc; 0; guesses]?,
-            slots: Vec::new(alloc),
+            calls: Vec::new(alloc),
         })
     }
 
-    /// Names the series at both places, for the next call.
-    fn name_both(&mut self, places: Places) -> Result<(), Memory>
-        ensures { OnOk result (NamesBoth places (lane_cells self.old) (lane_slots self.old)
-            (lane_cells self.new) (lane_slots self.new)) }
+    /// Names the series at both places, for the call of a line.
+    fn name_both(&mut self, places: Places, line: &'a CallLine) -> Result<(), Memory>
+        ensures { OnOk result (NamesBoth places line.entry.now (lane_cells self.old) (lane_its self.old)
+            (lane_cells self.new) (lane_its self.new)) }
     {
         let prometheus = self.slot_at(places.prometheus)?;
         let dogstatsd = self.slot_at(places.dogstatsd)?;
-        self.slots.push(Slots {
+        self.calls.push(LaneCall {
+            line,
             prometheus,
             dogstatsd,
         })?;
@@ -216,7 +223,7 @@ impl LaneSeries {
 
     /// Where the series at a place is among those of the lane, if there is one. One that isn't there goes last.
     fn slot_at(&mut self, place: Option<usize>) -> Result<Option<usize>, Memory>
-        ensures slots { lane_slots self.new ≡ lane_slots self.old }
+        ensures calls { lane_its self.new ≡ lane_its self.old }
         ensures named { IfOk result (IsNamedAt place (lane_cells self.old) (lane_cells self.new)) }
     {
         match place {
@@ -227,7 +234,7 @@ impl LaneSeries {
 
     /// The place of a series among those of the lane. One that isn't there goes last.
     fn slot(&mut self, index: usize) -> Result<usize, Memory>
-        ensures slots { lane_slots self.new ≡ lane_slots self.old }
+        ensures calls { lane_its self.new ≡ lane_its self.old }
         ensures grown { OnOk result (AreWith index (lane_cells self.old) (lane_cells self.new)) }
         ensures stored { IfOk result (λ slot. slice_get (lane_cells self.new) slot ≡ Some index) }
     {
@@ -237,20 +244,19 @@ impl LaneSeries {
         }
     }
 
-    /// The lane with a number, whose calls in a round at a moment these are.
-    fn into_lane<'a>(
+    /// The lane with a number that makes these calls in a round at a moment.
+    fn into_lane(
         self,
         alloc: Global,
         number: usize,
         moment: u64,
-        calls: &'a [CallLine],
     ) -> Result<Lane<RoundLines<'a>>, Memory>
-        ensures lane { IfOk result (λ lane. lane ≡ lane_of number moment calls.entry.now
-            (lane_cells self) (lane_slots self)) }
+        ensures lane { IfOk result (λ lane. lane ≡ lane_of number moment (lane_cells self.entry)
+            (lane_its self.entry)) }
         ensures once { IfOk result (λ lane. Distinct lane.cells) }
     {
         let cells = Vec::from_slice(alloc, self.cells.as_slice())?;
-        let lines = RoundLines::new(number, moment, calls, self.slots);
+        let lines = RoundLines::new(moment, self.calls);
         Ok(Lane::new(number, cells, lines))
     }
 }

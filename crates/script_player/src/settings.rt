@@ -36,6 +36,7 @@ pub(crate) fn builder_of(
     let builder = with_native_rules(alloc, builder, settings.native_for)?;
     let builder = with_window(builder, settings.summary)?;
     let builder = with_idle(builder, settings.idle);
+    let builder = with_series_limit(builder, settings.series_limit);
     let builder = with_names(builder, settings.naming, settings.units);
     with_globals(alloc, builder, settings.globals)
 }
@@ -167,6 +168,19 @@ fn with_idle(builder: PrometheusBuilder, idle: Option<(MetricKindMask, u64)>) ->
 {
     match idle {
         Some((mask, timeout)) => builder.idle_timeout(mask, Some(timeout)),
+        None => builder,
+    }
+}
+
+/// A builder that is told how many series of one kind and metric name are made at most, if there is a limit.
+fn with_series_limit(builder: PrometheusBuilder, limit: Option<NonZeroU32>) -> PrometheusBuilder
+    requires { builder.settings.series_limit ≡ None }
+    ensures { result ≡ record builder {
+      settings = record builder.settings { series_limit = option_map non_zero_u32_get limit };
+    } }
+{
+    match limit {
+        Some(limit) => builder.series_limit(limit),
         None => builder,
     }
 }

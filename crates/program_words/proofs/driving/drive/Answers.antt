@@ -89,7 +89,7 @@ returns-clause-leaves g c =
     (λ fault cut cause. cut_leaves to left read.bytes script written written_now told tells Failed SameLink fault read.whole read.good c.in_ok-check_settings.ensures.allowed
     (record {
       prefix = cut.prefix;
-      in_part = ends_within-earlier script.settings to play_start flush_start script.rounds written written_now told aimed tells none_sent c.in_ok-aim.ensures.sent c.in_ok-aim.ensures.never_falls cut.in_part;
+      in_part = ends_within-earlier script.settings to (play_start script.settings) flush_start script.rounds written written_now told aimed tells none_sent c.in_ok-aim.ensures.sent c.in_ok-aim.ensures.never_falls cut.in_part;
     }) cause)
 
 pub returns-clause-devices : goal.returns-clause-devices

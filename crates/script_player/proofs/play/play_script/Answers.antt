@@ -25,7 +25,7 @@ returns-in_err-player-clause-cut g c =
     let written = g.K.Sink.written c.args.out.now in
     on_handed_on c.from_residual.result _ (record {
       prefix = unbegun (script_of c.args.script) written;
-      in_part = none_within (settings_of c.args.script.settings) (remote_text c.args.to.now) play_start flush_start (map round_of c.args.script.rounds.items) written told none_sent;
+      in_part = none_within (settings_of c.args.script.settings) (remote_text c.args.to.now) (play_start (settings_of c.args.script.settings)) flush_start (map round_of c.args.script.rounds.items) written told none_sent;
     })
 
 pub returns-in_err-played-clause-cut : goal.returns-in_err-played-clause-cut

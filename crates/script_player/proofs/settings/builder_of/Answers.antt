@@ -24,6 +24,8 @@ returns c =
     ∙ ap (λ (b : ExporterSettings). record b { globals = fold put_label b.globals (labels_of s.globals.items) })
     (ap settings_in c.with_names-builder.ensures
     ∙ ap (λ (b : ExporterSettings). record b { units = s.naming || s.units; total_suffix = s.naming })
+    (ap settings_in c.with_series_limit-builder.ensures
+    ∙ ap (λ (b : ExporterSettings). record b { series_limit = option_map non_zero_u32_get s.series_limit })
     (ap settings_in c.with_idle-builder.ensures
     ∙ ap (λ (b : ExporterSettings). record b { idle = option_map (λ (mask, timeout). record { mask = mask; timeout = timeout }) s.idle })
     (ap settings_in c.in_ok-builder-6.ensures
@@ -36,6 +38,6 @@ returns c =
     ∙ ap (λ (b : ExporterSettings). record b { buckets = option_map (λ numbers. values_of numbers.items) s.buckets })
     (ap settings_in c.in_ok-builder-2.ensures
     ∙ ap (λ (b : ExporterSettings). record b { quantiles = unwrap_or (option_map (λ numbers. values_of numbers.items) s.quantiles) b.quantiles })
-    (ap settings_in c.in_ok-builder.ensures.defaults))))))))
+    (ap settings_in c.in_ok-builder.ensures.defaults)))))))))
     ∙ told_is_asked s)
     c.with_globals.ensures

@@ -31,7 +31,7 @@ invariant_of-result c =
 
 pub returns-in-Ok : goal.returns-in-Ok
 returns-in-Ok c =
-    let pages : rows_state c.in-Ok.prometheus c.new-in-Ok.result.items ≡ play_start = search rules in
+    let pages : rows_state c.in-Ok.prometheus c.new-in-Ok.result.items ≡ play_start (settings_of c.args.settings) = search rules in
     let flushes : lines_state c.in_ok-flushes.flushes.marks c.in_ok-dogstatsd.dogstatsd c.new-in-Ok-3.result.items ≡ flush_start = search rules in
     λ j. record {
       settings = settings_of (c.of-made_for.ensures j);
