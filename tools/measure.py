@@ -50,6 +50,11 @@ def registered(count, line, more=()):
     yield from more
 
 
+def past_a_limit(count):
+    yield "series-limit 100"
+    yield from registered(100 + count, 'register counter "requests" "id"="%d"')
+
+
 def all_kinds(*given):
     return lanes(*given, kinds=("counter", "gauge", "histogram"))
 
@@ -121,6 +126,8 @@ COSTLY = [
     ("1,000,000 samples in a histogram of 1,000 bounds", lambda: samples(1_000_000, ("buckets " + " ".join(map(str, range(1, 1_001))),))),
     ("2,000 pages of a summary with a new value for each", lambda: summary_pages(2_000)),
     ("4,000 pages of a summary with a new value for each", lambda: summary_pages(4_000)),
+    ("100,000 registrations past a limit of 100", lambda: past_a_limit(100_000)),
+    ("200,000 registrations past a limit of 100", lambda: past_a_limit(200_000)),
 ]
 
 
@@ -223,7 +230,7 @@ def costly(program, _names):
 
 def receive(program, _names):
     print("| Lines | Series | MB of payloads | Seconds | MB |\n|---|---|---|---|---|")
-    for lines, count in ((250_000, 1_000), (500_000, 1_000), (1_000_000, 1_000), (1_000_000, 100_000)):
+    for lines, count in ((1_000_000, 1_000), (1_000_000, 100_000)):
         with payloads(lines, count) as file:
             seconds, size = least([program, "receive"], file)
             print("| %d | %d | %.1f | %.2f | %.0f |" % (lines, count, os.path.getsize(file.name) / 1e6, seconds, size / 1e6), flush=True)
@@ -231,7 +238,7 @@ def receive(program, _names):
 
 def rules(program, _names):
     print("| Pages | Rows of each | Rules | MB of input | Seconds | MB |\n|---|---|---|---|---|---|")
-    for pages_, rows, count in ((250, 1_000, 100), (500, 1_000, 100), (1_000, 1_000, 100), (1_000, 1_000, 10)):
+    for pages_, rows, count in ((1_000, 1_000, 100), (1_000, 1_000, 10)):
         with written(ruled_pages(pages_, rows, count)) as file:
             seconds, size = least([program, "rules"], file)
             print("| %d | %d | %d | %.1f | %.2f | %.0f |" % (pages_, rows, count, os.path.getsize(file.name) / 1e6, seconds, size / 1e6), flush=True)
@@ -239,7 +246,7 @@ def rules(program, _names):
 
 def threads(program, _names):
     print("| Counters before | In each of 8 threads | Pages beside | Seconds |\n|---|---|---|---|")
-    for before, each, pages_ in ((0, 25_000, 0), (100_000, 25_000, 0), (100_000, 25_000, 20)):
+    for before, each, pages_ in ((0, 25_000, 0), (100_000, 25_000, 20)):
         with written(()) as file:
             seconds, _size = least([program, *map(str, (before, each, pages_))], file)
         print("| %d | %d | %d | %.2f |" % (before, each, pages_, seconds), flush=True)
