@@ -1,10 +1,10 @@
 //! Rows: a line and what it says, and a stream that comes in pieces.
 
-use dsd_lines::{Frames, Line, read_line};
+use dsd_lines::{Dialect, Frames, Line, read_line};
 use std::alloc::Global;
 use std::test::Fail;
 
-/// Lines, and what they say: the key, the values, and in brackets the rate in billionths and the timestamp.
+/// Lines of DogStatsD, and what they say: the key, the values, the rate in billionths and the timestamp.
 const LINES: &[(&str, &str)] = &[
     ("page.views:1|c", "Key(page.views) Counter([1]) None None"),
     ("a:0|c", "Key(a) Counter([0]) None None"),
@@ -67,7 +67,53 @@ const LINES: &[(&str, &str)] = &[
     ),
 ];
 
-/// Lines that say nothing: each breaks one rule.
+/// Lines of StatsD that say something else in DogStatsD, or nothing.
+const STATSD_LINES: &[(&str, &str)] = &[
+    (
+        "gaugor:333|g",
+        "Key(gaugor) Steps([SetTo(Fixed(333000000000))]) None None",
+    ),
+    (
+        "gaugor:-10|g",
+        "Key(gaugor) Steps([MoveBy(Fixed(-10000000000))]) None None",
+    ),
+    (
+        "gaugor:+4|g",
+        "Key(gaugor) Steps([MoveBy(Fixed(4000000000))]) None None",
+    ),
+    (
+        "a:0:-10:+0.5|g|#k:v",
+        "Key(a, [k = v]) Steps([SetTo(Fixed(0)), MoveBy(Fixed(-10000000000)), MoveBy(Fixed(500000000))]) None None",
+    ),
+    (
+        "glork:320|ms|@0.1",
+        "Key(glork) Timer([Fixed(320000000)]) Some(100000000) None",
+    ),
+    (
+        "a:0.000001999:-0.000001999|ms",
+        "Key(a) Timer([Fixed(1), Fixed(-1)]) None None",
+    ),
+    (
+        "gorets:1|c|@0.1",
+        "Key(gorets) Counter([1]) Some(100000000) None",
+    ),
+    ("a:-1|h", "Key(a) Histogram([Fixed(-1000000000)]) None None"),
+];
+
+/// Lines that say nothing in StatsD either.
+const BAD_STATSD_LINES: &[&str] = &[
+    "a:+|g",
+    "a:++1|g",
+    "a:+-1|g",
+    "a:-+1|g",
+    "a:+1|ms",
+    "a:+1|h",
+    "a:1|m",
+    "a:|ms",
+    "uniques:765|s",
+];
+
+/// Lines of DogStatsD that say nothing: each breaks one rule.
 const BAD_LINES: &[&str] = &[
     "",
     "a",
@@ -118,11 +164,15 @@ fn said(alloc: Global, line: &Line) -> Result<String, Fail> {
     Ok(text)
 }
 
-fn says(alloc: Global, bytes: &[u8], expected: &str) -> Result<bool, Fail> {
-    match read_line(alloc, bytes)? {
+fn says(alloc: Global, dialect: Dialect, bytes: &[u8], expected: &str) -> Result<bool, Fail> {
+    match read_line(alloc, dialect, bytes)? {
         Some(line) => Ok(said(alloc, &line)?.as_str() == expected),
         None => Ok(false),
     }
+}
+
+fn says_nothing(alloc: Global, dialect: Dialect, bytes: &[u8]) -> Result<bool, Fail> {
+    Ok(read_line(alloc, dialect, bytes)?.is_none())
 }
 
 /// Takes the frames that are whole so far.
@@ -157,7 +207,10 @@ fn cut_at(alloc: Global, stream: &[u8], cut: usize, expected: &[&[u8]]) -> Resul
 #[test]
 fn lines_say_what_they_say(rt: HostRuntime) -> Result<(), Fail> {
     for (line, expected) in LINES {
-        assert!(rt; says(rt.alloc(), line.as_bytes(), expected)?);
+        assert!(rt; says(rt.alloc(), Dialect::DogStatsd, line.as_bytes(), expected)?);
+    }
+    for (line, expected) in STATSD_LINES {
+        assert!(rt; says(rt.alloc(), Dialect::Statsd, line.as_bytes(), expected)?);
     }
     Ok(())
 }
@@ -165,9 +218,12 @@ fn lines_say_what_they_say(rt: HostRuntime) -> Result<(), Fail> {
 #[test]
 fn bad_lines_say_nothing(rt: HostRuntime) -> Result<(), Fail> {
     for line in BAD_LINES {
-        assert!(rt; read_line(rt.alloc(), line.as_bytes())?.is_none());
+        assert!(rt; says_nothing(rt.alloc(), Dialect::DogStatsd, line.as_bytes())?);
     }
-    assert!(rt; read_line(rt.alloc(), b"\xff:1|c")?.is_none());
+    for line in BAD_STATSD_LINES {
+        assert!(rt; says_nothing(rt.alloc(), Dialect::Statsd, line.as_bytes())?);
+    }
+    assert!(rt; says_nothing(rt.alloc(), Dialect::DogStatsd, b"\xff:1|c")?);
     Ok(())
 }
 

@@ -1,7 +1,8 @@
 -- A line is read as what it says, and as nothing else.
 use Rattle.std.proofs.Common.{◌≡◌, ℕ, ◌<◌, Bool, true, false, List, [], ◌∷◌, ◌++◌, map, length, Option, Some, None, refl, sym, ap, subst, ◌∙◌, append_assoc, append-nil, arith}
-use Rattle.std.specs.Prelude.{MatchOption, option_map, All, ◌==◌, ℤ, codes, bytes_eq, if◌then◌else◌}
+use Rattle.std.specs.Prelude.{MatchOption, option_map, All, ◌==◌, ℤ, codes, bytes_eq, ◌⊎◌, if◌then◌else◌}
 use Rattle.std.specs.List.{AllZip, join_with_byte}
+use Rattle.std.proofs.lemmas.Bool.{true≢false}
 use Rattle.std.proofs.lemmas.Bool.Decides.{Decides-eqb}
 use Rattle.std.proofs.lemmas.List.Elements.{All-nil, All-cons, All-head, All-tail, All-append}
 use Rattle.std.proofs.lemmas.Option.{cond_some, same_Some}
@@ -9,12 +10,14 @@ use Rattle.std.proofs.lemmas.Slice.Eq.{bytes_eq-Decides}
 use Rattle.metrics_core.specs.Characters.{newline, comma, colon}
 use Rattle.metrics_core.specs.Keys.{LabelText}
 use Rattle.dsd_writer.specs.Lines.{tag_text}
-use Rattle.dsd_lines.specs.Grammar.{PointsText, Counter, Gauge, Histogram, Distribution, LineText, IsNumber, IsDecimal, AreSpelled, IsPlain, IsTag, bar, ends_name, ends_key, ends_value, type_text, AreRateParts, tags_parts, AreTimeParts, IsLine}
-use Rattle.dsd_lines.specs.Reading.{◌>>=◌, is, pieces, each, some_of, number_of, decimal_of, rate_of, plain_of, typed, points_of, led, led_by, optional, tags_of, or_none, tags_at, ended, line_behind, line_of_head, line_of_parts, line_at}
-use Rattle.dsd_lines.specs.Texts.{IsNoLine, line_text}
+use Rattle.dsd_lines.specs.declared.dialects.Dialect.{Dialect}
+use Rattle.dsd_lines.specs.declared.dialects.Dialect.TheVariants.{DogStatsd, Statsd}
+use Rattle.dsd_lines.specs.Grammar.{PointsText, Counter, Gauge, Steps, Histogram, Distribution, Timer, StepText, LineText, IsNumber, IsDecimal, IsStep, IsMillis, AreSpelled, IsPlain, IsTag, bar, ends_name, ends_key, ends_value, type_text, AreRateParts, tags_parts, AreTimeParts, IsLineIn}
+use Rattle.dsd_lines.specs.Reading.{◌>>=◌, is, pieces, each, some_of, number_of, decimal_of, step_of, millis_of, rate_of, plain_of, typed, typed_values, others_of, points_of, led, led_by, optional, tags_of, or_none, tags_at, ended, line_behind, line_of_head, line_of_parts, line_at}
+use Rattle.dsd_lines.specs.Texts.{IsNoLineIn, line_text}
 use Rattle.dsd_lines.specs.declared.lines.Line.{Line}
 use Rattle.dsd_lines.proofs.Digits.{number_takes, number_again}
-use Rattle.dsd_lines.proofs.Decimals.{bind_some, OfNumber, in_number, number_in_number, decimal_in_number, other_free, decimal_takes, decimal_again, rate_takes, rate_again}
+use Rattle.dsd_lines.proofs.Decimals.{bind_some, OfNumber, in_number, number_in_number, decimal_in_number, step_in_number, other_free, decimal_takes, decimal_again, step_takes, step_again, millis_take, millis_again, rate_takes, rate_again}
 use Rattle.dsd_lines.proofs.Joined.{Free, pieces_free, pieces_keep, pieces_join, join_pieces, join_keeps}
 use Rattle.dsd_lines.proofs.Plain.{plain_takes, plain_again, name_ends, name_apart, key_apart, value_apart}
 use Rattle.dsd_lines.proofs.TagForms.{each_takes, each_again, tags_take, tags_again, tags_free}
@@ -41,45 +44,78 @@ decimals_take values numbers e = each_takes decimal_of (λ _. Unit {0}) IsDecima
 decimals_again : (values : List (List ℕ)) (numbers : List ℤ) → AllZip IsDecimal values numbers → each decimal_of values ≡ Some numbers
 decimals_again values numbers h = each_again decimal_of (λ _. Unit {0}) IsDecimal decimal_again values numbers h
 
-record Taken (type : List ℕ) (values : List (List ℕ)) (points : PointsText) : Type 0 where
+steps_take : (values : List (List ℕ)) (steps : List StepText) → each step_of values ≡ Some steps → AllZip IsStep values steps
+steps_take values steps e = each_takes step_of (λ _. Unit {0}) IsStep (λ text v _ f. step_takes text v f) values steps (λ k d within. tt) e
+
+timers_take : (values : List (List ℕ)) (numbers : List ℤ) → each millis_of values ≡ Some numbers → AllZip IsMillis values numbers
+timers_take values numbers e = each_takes millis_of (λ _. Unit {0}) IsMillis (λ text v _ f. millis_take text v f) values numbers (λ k d within. tt) e
+
+record Taken (dialect : Dialect) (type : List ℕ) (values : List (List ℕ)) (points : PointsText) : Type 0 where
   type_is : type ≡ type_text points
   some : 0 < length values
-  spelled : AreSpelled points values
+  spelled : AreSpelled dialect points values
 
 same_text : (x y : List ℕ) → bytes_eq x y ≡ true → x ≡ y
 same_text x y e = (bytes_eq-Decides x y).0 e
 
-typed_takes : (type : List ℕ) (values : List (List ℕ)) (numbers : List ℤ) (points : PointsText) → 0 < length values → AllZip IsDecimal values numbers → typed type numbers ≡ Some points → Taken type values points
+typed_takes : (dialect : Dialect) (type : List ℕ) (values : List (List ℕ)) (numbers : List ℤ) (points : PointsText) → (bytes_eq type (codes "g") ≡ true → dialect ≡ DogStatsd) → 0 < length values → AllZip IsDecimal values numbers → typed type numbers ≡ Some points → Taken dialect type values points
 unfolding typed
-typed_takes type values numbers points some all e = by (bytes_eq type (codes "g")) (bytes_eq type (codes "h")) (bytes_eq type (codes "d")) refl refl refl e
+typed_takes dialect type values numbers points gauge some all e = by (bytes_eq type (codes "g")) (bytes_eq type (codes "h")) (bytes_eq type (codes "d")) refl refl refl e
   where
     by : (g h d : Bool) → bytes_eq type (codes "g") ≡ g → bytes_eq type (codes "h") ≡ h → bytes_eq type (codes "d") ≡ d
-        → (if g then Some (Gauge numbers) else if h then Some (Histogram numbers) else if d then Some (Distribution numbers) else None) ≡ Some points → Taken type values points
-    by true h d is_g is_h is_d f = subst (Taken type values) (same_Some (Gauge numbers) points f) (record { type_is = same_text type (codes "g") is_g; some = some; spelled = all })
-    by false true d is_g is_h is_d f = subst (Taken type values) (same_Some (Histogram numbers) points f) (record { type_is = same_text type (codes "h") is_h; some = some; spelled = all })
-    by false false true is_g is_h is_d f = subst (Taken type values) (same_Some (Distribution numbers) points f) (record { type_is = same_text type (codes "d") is_d; some = some; spelled = all })
+        → (if g then Some (Gauge numbers) else if h then Some (Histogram numbers) else if d then Some (Distribution numbers) else None) ≡ Some points → Taken dialect type values points
+    by true h d is_g is_h is_d f = subst (Taken dialect type values) (same_Some (Gauge numbers) points f) (record { type_is = same_text type (codes "g") is_g; some = some; spelled = (gauge is_g, all) })
+    by false true d is_g is_h is_d f = subst (Taken dialect type values) (same_Some (Histogram numbers) points f) (record { type_is = same_text type (codes "h") is_h; some = some; spelled = all })
+    by false false true is_g is_h is_d f = subst (Taken dialect type values) (same_Some (Distribution numbers) points f) (record { type_is = same_text type (codes "d") is_d; some = some; spelled = all })
     by false false false is_g is_h is_d f = absurd cc
 
-points_take : (type : List ℕ) (values : List (List ℕ)) (points : PointsText) → points_of type values ≡ Some points → Taken type values points
-unfolding points_of
-points_take type values points e = by (bytes_eq type (codes "c")) refl e
+typed_values_take : (dialect : Dialect) (type : List ℕ) (values : List (List ℕ)) (points : PointsText) → (bytes_eq type (codes "g") ≡ true → dialect ≡ DogStatsd) → typed_values type values ≡ Some points → Taken dialect type values points
+typed_values_take dialect type values points gauge e =
+    let m = bind_some (some_of decimal_of values) (typed type) points e in
+    let h = some_takes decimal_of values m.0 m.1 in
+    typed_takes dialect type values m.0 points gauge h.0 (decimals_take values m.0 h.1) m.2
+
+others_take : (dialect : Dialect) (type : List ℕ) (values : List (List ℕ)) (points : PointsText) → others_of dialect type values ≡ Some points → Taken dialect type values points
+unfolding others_of
+others_take DogStatsd type values points e = typed_values_take DogStatsd type values points (λ _. refl) e
+others_take Statsd type values points e = by (bytes_eq type (codes "g")) (bytes_eq type (codes "ms")) refl refl e
   where
-    by : (c : Bool) → bytes_eq type (codes "c") ≡ c → (if c then (some_of number_of values >>= λ counts. Some (Counter counts)) else (some_of decimal_of values >>= typed type)) ≡ Some points → Taken type values points
+    by : (g ms : Bool) → bytes_eq type (codes "g") ≡ g → bytes_eq type (codes "ms") ≡ ms
+        → (if g then (some_of step_of values >>= λ steps. Some (Steps steps)) else if ms then (some_of millis_of values >>= λ numbers. Some (Timer numbers)) else typed_values type values) ≡ Some points
+        → Taken Statsd type values points
+    by true ms is_g is_ms f =
+        let m = bind_some (some_of step_of values) (λ steps. Some (Steps steps)) points f in
+        let h = some_takes step_of values m.0 m.1 in
+        subst (Taken Statsd type values) (same_Some (Steps m.0) points m.2) (record { type_is = same_text type (codes "g") is_g; some = h.0; spelled = (refl, steps_take values m.0 h.1) })
+    by false true is_g is_ms f =
+        let m = bind_some (some_of millis_of values) (λ numbers. Some (Timer numbers)) points f in
+        let h = some_takes millis_of values m.0 m.1 in
+        subst (Taken Statsd type values) (same_Some (Timer m.0) points m.2) (record { type_is = same_text type (codes "ms") is_ms; some = h.0; spelled = (refl, timers_take values m.0 h.1) })
+    by false false is_g is_ms f = typed_values_take Statsd type values points (λ g. absurd (true≢false (sym g ∙ is_g))) f
+
+points_take : (dialect : Dialect) (type : List ℕ) (values : List (List ℕ)) (points : PointsText) → points_of dialect type values ≡ Some points → Taken dialect type values points
+unfolding points_of
+points_take dialect type values points e = by (bytes_eq type (codes "c")) refl e
+  where
+    by : (c : Bool) → bytes_eq type (codes "c") ≡ c → (if c then (some_of number_of values >>= λ counts. Some (Counter counts)) else others_of dialect type values) ≡ Some points → Taken dialect type values points
     by true is_c f =
         let m = bind_some (some_of number_of values) (λ counts. Some (Counter counts)) points f in
         let h = some_takes number_of values m.0 m.1 in
-        subst (Taken type values) (same_Some (Counter m.0) points m.2) (record { type_is = same_text type (codes "c") is_c; some = h.0; spelled = numbers_take values m.0 h.1 })
-    by false is_c f =
-        let m = bind_some (some_of decimal_of values) (typed type) points f in
-        let h = some_takes decimal_of values m.0 m.1 in
-        typed_takes type values m.0 points h.0 (decimals_take values m.0 h.1) m.2
+        subst (Taken dialect type values) (same_Some (Counter m.0) points m.2) (record { type_is = same_text type (codes "c") is_c; some = h.0; spelled = numbers_take values m.0 h.1 })
+    by false is_c f = others_take dialect type values points f
 
-points_again : (values : List (List ℕ)) (points : PointsText) → 0 < length values → AreSpelled points values → points_of (type_text points) values ≡ Some points
-unfolding points_of typed
-points_again values (Counter counts) some h = ap (λ o. o >>= λ counts. Some (Counter counts)) (some_again number_of values counts some (numbers_again values counts h))
-points_again values (Gauge numbers) some h = ap (λ o. o >>= typed (codes "g")) (some_again decimal_of values numbers some (decimals_again values numbers h))
-points_again values (Histogram numbers) some h = ap (λ o. o >>= typed (codes "h")) (some_again decimal_of values numbers some (decimals_again values numbers h))
-points_again values (Distribution numbers) some h = ap (λ o. o >>= typed (codes "d")) (some_again decimal_of values numbers some (decimals_again values numbers h))
+points_again : (dialect : Dialect) (values : List (List ℕ)) (points : PointsText) → 0 < length values → AreSpelled dialect points values → points_of dialect (type_text points) values ≡ Some points
+unfolding points_of others_of typed
+points_again dialect values (Counter counts) some h = ap (λ o. o >>= λ counts. Some (Counter counts)) (some_again number_of values counts some (numbers_again values counts h))
+points_again dialect values (Gauge numbers) some (is, all) = ap (λ d. others_of d (codes "g") values) is ∙ ap (λ o. o >>= typed (codes "g")) (some_again decimal_of values numbers some (decimals_again values numbers all))
+points_again dialect values (Steps steps) some (is, all) = ap (λ d. others_of d (codes "g") values) is
+    ∙ ap (λ o. o >>= λ steps. Some (Steps steps)) (some_again step_of values steps some (each_again step_of (λ _. Unit {0}) IsStep step_again values steps all))
+points_again dialect values (Timer numbers) some (is, all) = ap (λ d. others_of d (codes "ms") values) is
+    ∙ ap (λ o. o >>= λ numbers. Some (Timer numbers)) (some_again millis_of values numbers some (each_again millis_of (λ _. Unit {0}) IsMillis millis_again values numbers all))
+points_again DogStatsd values (Histogram numbers) some h = ap (λ o. o >>= typed (codes "h")) (some_again decimal_of values numbers some (decimals_again values numbers h))
+points_again Statsd values (Histogram numbers) some h = ap (λ o. o >>= typed (codes "h")) (some_again decimal_of values numbers some (decimals_again values numbers h))
+points_again DogStatsd values (Distribution numbers) some h = ap (λ o. o >>= typed (codes "d")) (some_again decimal_of values numbers some (decimals_again values numbers h))
+points_again Statsd values (Distribution numbers) some h = ap (λ o. o >>= typed (codes "d")) (some_again decimal_of values numbers some (decimals_again values numbers h))
 
 -- ---- parts that may be there
 
@@ -181,13 +217,13 @@ behind_takes name points parts said free e =
       is_timestamp = time.2;
     })
 
-record Head (texts : List (List ℕ)) (type : List ℕ) (parts : List (List ℕ)) (said : LineText) : Type 0 where
+record Head (dialect : Dialect) (texts : List (List ℕ)) (type : List ℕ) (parts : List (List ℕ)) (said : LineText) : Type 0 where
   values : List (List ℕ)
   texts_are : texts ≡ said.key.name ∷ values
   type_is : type ≡ type_text said.points
   some : 0 < length values
   name : IsPlain ends_name said.key.name
-  spelled : AreSpelled said.points values
+  spelled : AreSpelled dialect said.points values
   rate : List (List ℕ)
   timestamp : List (List ℕ)
   split : parts ≡ rate ++ tags_parts said.key.labels ++ timestamp
@@ -195,17 +231,17 @@ record Head (texts : List (List ℕ)) (type : List ℕ) (parts : List (List ℕ)
   tags : All IsTag said.key.labels
   is_timestamp : AreTimeParts timestamp said.timestamp
 
-head_takes : (texts : List (List ℕ)) (type : List ℕ) (parts : List (List ℕ)) (said : LineText) → All (Free colon) texts → All (Free bar) texts → All (Free bar) parts → line_of_head texts type parts ≡ Some said → Head texts type parts said
+head_takes : (dialect : Dialect) (texts : List (List ℕ)) (type : List ℕ) (parts : List (List ℕ)) (said : LineText) → All (Free colon) texts → All (Free bar) texts → All (Free bar) parts → line_of_head dialect texts type parts ≡ Some said → Head dialect texts type parts said
 unfolding line_of_head
-head_takes [] type parts said no_colon no_bar free e = absurd cc
-head_takes (text ∷ values) type parts said no_colon no_bar free e =
-    let a = bind_some (plain_of text) (λ name. points_of type values >>= λ points. line_behind name points parts) said e in
-    let b = bind_some (points_of type values) (λ points. line_behind a.0 points parts) said a.2 in
+head_takes dialect [] type parts said no_colon no_bar free e = absurd cc
+head_takes dialect (text ∷ values) type parts said no_colon no_bar free e =
+    let a = bind_some (plain_of text) (λ name. points_of dialect type values >>= λ points. line_behind name points parts) said e in
+    let b = bind_some (points_of dialect type values) (λ points. line_behind a.0 points parts) said a.2 in
     let name = plain_takes text a.0 a.1 in
     let colons = All-head (Free colon) text values no_colon in
     let bars = All-head (Free bar) text values no_bar in
     let plain : IsPlain ends_name text = record { some = name.1; utf8 = name.2; none = λ k d within. name_ends _ (colons k d within) (bars k d within) (name.3 k d within) } in
-    let points = points_take type values b.0 b.1 in
+    let points = points_take dialect type values b.0 b.1 in
     let behind = behind_takes a.0 b.0 parts said free b.2 in
     let named : text ≡ said.key.name = name.0 ∙ behind.name_is in
     record {
@@ -214,7 +250,7 @@ head_takes (text ∷ values) type parts said no_colon no_bar free e =
       type_is = points.type_is ∙ ap type_text behind.points_are;
       some = points.some;
       name = subst (IsPlain ends_name) named plain;
-      spelled = subst (λ p. AreSpelled p values) behind.points_are points.spelled;
+      spelled = subst (λ p. AreSpelled dialect p values) behind.points_are points.spelled;
       rate = behind.rate;
       timestamp = behind.timestamp;
       split = behind.split;
@@ -223,18 +259,18 @@ head_takes (text ∷ values) type parts said no_colon no_bar free e =
       is_timestamp = behind.is_timestamp;
     }
 
-pub line_takes : (bytes : List ℕ) (said : LineText) → line_at bytes ≡ Some said → IsLine bytes said
+pub line_takes : (dialect : Dialect) (bytes : List ℕ) (said : LineText) → line_at dialect bytes ≡ Some said → IsLineIn dialect bytes said
 unfolding line_at
-line_takes bytes said e = by (pieces bar bytes) refl e
+line_takes dialect bytes said e = by (pieces bar bytes) refl e
   where
-    by : (parts : List (List ℕ)) → pieces bar bytes ≡ parts → line_of_parts parts ≡ Some said → IsLine bytes said
+    by : (parts : List (List ℕ)) → pieces bar bytes ≡ parts → line_of_parts dialect parts ≡ Some said → IsLineIn dialect bytes said
     by [] split f = absurd cc
     by (head ∷ []) split f = absurd cc
     by (head ∷ type ∷ parts) split f =
         let all = subst (All (Free bar)) split (pieces_free bar bytes) in
         let others = All-tail (Free bar) head (type ∷ parts) all in
         let texts = pieces_keep (λ c. is bar c ≡ false) colon head (All-head (Free bar) head (type ∷ parts) all) in
-        let h = head_takes (pieces colon head) type parts said (pieces_free colon head) texts (All-tail (Free bar) type parts others) f in
+        let h = head_takes dialect (pieces colon head) type parts said (pieces_free colon head) texts (All-tail (Free bar) type parts others) f in
         let head_is : head ≡ join_with_byte colon (said.key.name ∷ h.values) = sym (join_pieces colon head) ∙ ap (join_with_byte colon) h.texts_are in
         record {
           values = h.values;
@@ -262,14 +298,28 @@ counts_in_number [] (n ∷ counts) h = absurd h
 counts_in_number (v ∷ values) [] h = absurd h
 counts_in_number (v ∷ values) (n ∷ counts) h = All-cons OfNumber v values (subst OfNumber (sym h.0.0) (number_in_number n h.0.1)) (counts_in_number values counts h.1)
 
-values_in_number : (points : PointsText) (values : List (List ℕ)) → AreSpelled points values → All OfNumber values
-values_in_number (Counter counts) values h = counts_in_number values counts h
-values_in_number (Gauge numbers) values h = decimals_in_number values numbers h
-values_in_number (Histogram numbers) values h = decimals_in_number values numbers h
-values_in_number (Distribution numbers) values h = decimals_in_number values numbers h
+steps_in_number : (values : List (List ℕ)) (steps : List StepText) → AllZip IsStep values steps → All OfNumber values
+steps_in_number [] [] h = All-nil OfNumber
+steps_in_number [] (s ∷ steps) h = absurd h
+steps_in_number (v ∷ values) [] h = absurd h
+steps_in_number (v ∷ values) (s ∷ steps) h = All-cons OfNumber v values (step_in_number v s h.0) (steps_in_number values steps h.1)
 
-values_free : (stop : ℕ) (points : PointsText) (values : List (List ℕ)) → in_number stop ≡ false → AreSpelled points values → All (Free stop) values
-values_free stop points values other h = λ k d within. other_free stop _ other (values_in_number points values h k d within)
+timers_in_number : (values : List (List ℕ)) (numbers : List ℤ) → AllZip IsMillis values numbers → All OfNumber values
+timers_in_number [] [] h = All-nil OfNumber
+timers_in_number [] (n ∷ numbers) h = absurd h
+timers_in_number (v ∷ values) [] h = absurd h
+timers_in_number (v ∷ values) (n ∷ numbers) h = All-cons OfNumber v values (decimal_in_number v h.0.0 h.0.1) (timers_in_number values numbers h.1)
+
+values_in_number : (dialect : Dialect) (points : PointsText) (values : List (List ℕ)) → AreSpelled dialect points values → All OfNumber values
+values_in_number dialect (Counter counts) values h = counts_in_number values counts h
+values_in_number dialect (Gauge numbers) values h = decimals_in_number values numbers h.1
+values_in_number dialect (Steps steps) values h = steps_in_number values steps h.1
+values_in_number dialect (Histogram numbers) values h = decimals_in_number values numbers h
+values_in_number dialect (Distribution numbers) values h = decimals_in_number values numbers h
+values_in_number dialect (Timer numbers) values h = timers_in_number values numbers h.1
+
+values_free : (stop : ℕ) (dialect : Dialect) (points : PointsText) (values : List (List ℕ)) → in_number stop ≡ false → AreSpelled dialect points values → All (Free stop) values
+values_free stop dialect points values other h = λ k d within. other_free stop _ other (values_in_number dialect points values h k d within)
 
 -- the other parts can't be taken for one that isn't there
 no_rate : (tags : List LabelText) (timestamp : List (List ℕ)) (seconds : Option ℕ) → AreTimeParts timestamp seconds → led 64 (tags_parts tags ++ timestamp) ≡ None
@@ -301,6 +351,7 @@ record StandsApart (stop : ℕ) : Type 0 where
   colon_apart : is stop colon ≡ false
   leads : (is stop 64 ≡ false) × (is stop 35 ≡ false) × (is stop 84 ≡ false)
   types : (is stop 99 ≡ false) × (is stop 103 ≡ false) × (is stop 104 ≡ false) × (is stop 100 ≡ false)
+  timer : (is stop 109 ≡ false) × (is stop 115 ≡ false)
   name : (c : ℕ) → ends_name c ≡ false → is stop c ≡ false
   key : (c : ℕ) → ends_key c ≡ false → is stop c ≡ false
   value : (c : ℕ) → ends_value c ≡ false → is stop c ≡ false
@@ -312,6 +363,7 @@ bar_apart = record {
   colon_apart = refl;
   leads = (refl, refl, refl);
   types = (refl, refl, refl, refl);
+  timer = (refl, refl);
   name = λ c e. (name_apart c e).1;
   key = λ c e. (key_apart c e).2;
   value = λ c e. (value_apart c e).1;
@@ -324,6 +376,7 @@ newline_apart = record {
   colon_apart = refl;
   leads = (refl, refl, refl);
   types = (refl, refl, refl, refl);
+  timer = (refl, refl);
   name = λ c e. (name_apart c e).2;
   key = λ c e. (key_apart c e).3;
   value = λ c e. (value_apart c e).2;
@@ -354,25 +407,27 @@ module _ (stop : ℕ) (apart : StandsApart stop) where
   free_type (Gauge numbers) = All-cons (λ c. is stop c ≡ false) 103 [] apart.types.1 (All-nil (λ c. is stop c ≡ false))
   free_type (Histogram numbers) = All-cons (λ c. is stop c ≡ false) 104 [] apart.types.2 (All-nil (λ c. is stop c ≡ false))
   free_type (Distribution numbers) = All-cons (λ c. is stop c ≡ false) 100 [] apart.types.3 (All-nil (λ c. is stop c ≡ false))
+  free_type (Steps steps) = All-cons (λ c. is stop c ≡ false) 103 [] apart.types.1 (All-nil (λ c. is stop c ≡ false))
+  free_type (Timer numbers) = All-cons (λ c. is stop c ≡ false) 109 (115 ∷ []) apart.timer.0 (All-cons (λ c. is stop c ≡ false) 115 [] apart.timer.1 (All-nil (λ c. is stop c ≡ false)))
 
-  free_head : (bytes : List ℕ) (said : LineText) (h : IsLine bytes said) → Free stop (join_with_byte colon (said.key.name ∷ h.values))
-  free_head bytes said h =
+  free_head : (dialect : Dialect) (bytes : List ℕ) (said : LineText) (h : IsLineIn dialect bytes said) → Free stop (join_with_byte colon (said.key.name ∷ h.values))
+  free_head dialect bytes said h =
       join_keeps (λ c. is stop c ≡ false) colon (said.key.name ∷ h.values) apart.colon_apart
-      (All-cons (Free stop) said.key.name h.values (λ k d within. apart.name _ (h.clean.name.none k d within)) (values_free stop said.points h.values apart.number h.are_values))
+      (All-cons (Free stop) said.key.name h.values (λ k d within. apart.name _ (h.clean.name.none k d within)) (values_free stop dialect said.points h.values apart.number h.are_values))
 
-  free_parts : (bytes : List ℕ) (said : LineText) (h : IsLine bytes said)
+  free_parts : (dialect : Dialect) (bytes : List ℕ) (said : LineText) (h : IsLineIn dialect bytes said)
       → All (Free stop) (join_with_byte colon (said.key.name ∷ h.values) ∷ type_text said.points ∷ (h.rate ++ tags_parts said.key.labels ++ h.timestamp))
-  free_parts bytes said h =
+  free_parts dialect bytes said h =
       let others = All-append (Free stop) (h.rate ++ tags_parts said.key.labels) h.timestamp
       (All-append (Free stop) h.rate (tags_parts said.key.labels) (free_rate h.rate said.rate h.is_rate) (free_tags said.key.labels h.clean.tags))
       (free_time h.timestamp said.timestamp h.is_timestamp) in
-      All-cons (Free stop) (join_with_byte colon (said.key.name ∷ h.values)) (type_text said.points ∷ (h.rate ++ tags_parts said.key.labels ++ h.timestamp)) (free_head bytes said h)
+      All-cons (Free stop) (join_with_byte colon (said.key.name ∷ h.values)) (type_text said.points ∷ (h.rate ++ tags_parts said.key.labels ++ h.timestamp)) (free_head dialect bytes said h)
       (All-cons (Free stop) (type_text said.points) (h.rate ++ tags_parts said.key.labels ++ h.timestamp) (free_type said.points) others)
 
 -- a line has no newline
-pub line_no_newline : (bytes : List ℕ) (said : LineText) → IsLine bytes said → Free newline bytes
-line_no_newline bytes said h =
-    subst (Free newline) (sym h.spelled) (join_keeps (λ c. is newline c ≡ false) bar (join_with_byte colon (said.key.name ∷ h.values) ∷ type_text said.points ∷ (h.rate ++ tags_parts said.key.labels ++ h.timestamp)) refl (free_parts newline newline_apart bytes said h))
+pub line_no_newline : (dialect : Dialect) (bytes : List ℕ) (said : LineText) → IsLineIn dialect bytes said → Free newline bytes
+line_no_newline dialect bytes said h =
+    subst (Free newline) (sym h.spelled) (join_keeps (λ c. is newline c ≡ false) bar (join_with_byte colon (said.key.name ∷ h.values) ∷ type_text said.points ∷ (h.rate ++ tags_parts said.key.labels ++ h.timestamp)) refl (free_parts newline newline_apart dialect bytes said h))
 
 behind_again : (said : LineText) (rate timestamp : List (List ℕ)) → AreRateParts rate said.rate → All IsTag said.key.labels → AreTimeParts timestamp said.timestamp
     → line_behind said.key.name said.points (rate ++ tags_parts said.key.labels ++ timestamp) ≡ Some said
@@ -385,27 +440,27 @@ behind_again said rate timestamp r t s =
       time_read timestamp said.timestamp s,
     ) refl
 
-pub line_again : (bytes : List ℕ) (said : LineText) → IsLine bytes said → line_at bytes ≡ Some said
+pub line_again : (dialect : Dialect) (bytes : List ℕ) (said : LineText) → IsLineIn dialect bytes said → line_at dialect bytes ≡ Some said
 unfolding line_at line_of_head
-line_again bytes said h =
+line_again dialect bytes said h =
     let texts = said.key.name ∷ h.values in
     let head = join_with_byte colon texts in
     let parts = h.rate ++ tags_parts said.key.labels ++ h.timestamp in
     let name_colon : Free colon said.key.name = λ k d within. (name_apart _ (h.clean.name.none k d within)).0 in
-    let no_colon = All-cons (Free colon) said.key.name h.values name_colon (values_free colon said.points h.values refl h.are_values) in
-    let free = free_parts bar bar_apart bytes said h in
+    let no_colon = All-cons (Free colon) said.key.name h.values name_colon (values_free colon dialect said.points h.values refl h.are_values) in
+    let free = free_parts bar bar_apart dialect bytes said h in
     let cut : pieces bar bytes ≡ head ∷ type_text said.points ∷ parts = ap (pieces bar) h.spelled ∙ pieces_join bar (head ∷ type_text said.points ∷ parts) (omega arith) free in
     let cut_head : pieces colon head ≡ texts = pieces_join colon texts (omega arith) no_colon in
-    ap line_of_parts cut ∙ ap (λ l. line_of_head l (type_text said.points) parts) cut_head
-    ∙ rw (plain_again ends_name said.key.name (λ c e. (name_apart c e).2) h.clean.name, points_again h.values said.points h.some h.are_values)
+    ap (line_of_parts dialect) cut ∙ ap (λ l. line_of_head dialect l (type_text said.points) parts) cut_head
+    ∙ rw (plain_again ends_name said.key.name (λ c e. (name_apart c e).2) h.clean.name, points_again dialect h.values said.points h.some h.are_values)
     (behind_again said h.rate h.timestamp h.is_rate h.clean.tags h.is_timestamp)
 
 -- ---- one reading
 
-pub one_said : (bytes : List ℕ) (said other : LineText) → IsLine bytes said → IsLine bytes other → said ≡ other
-one_said bytes said other h k = same_Some said other (sym (line_again bytes said h) ∙ line_again bytes other k)
+pub one_said : (dialect : Dialect) (bytes : List ℕ) (said other : LineText) → IsLineIn dialect bytes said → IsLineIn dialect bytes other → said ≡ other
+one_said dialect bytes said other h k = same_Some said other (sym (line_again dialect bytes said h) ∙ line_again dialect bytes other k)
 
 -- what is read is the line, or there is none
-pub read_exactly : (bytes : List ℕ) (read : Option Line) → option_map line_text read ≡ line_at bytes → MatchOption read (IsNoLine bytes) (λ line. IsLine bytes (line_text line))
-read_exactly bytes None e = λ said h. let some = e ∙ line_again bytes said h in cc
-read_exactly bytes (Some line) e = line_takes bytes (line_text line) (sym e)
+pub read_exactly : (dialect : Dialect) (bytes : List ℕ) (read : Option Line) → option_map line_text read ≡ line_at dialect bytes → MatchOption read (IsNoLineIn dialect bytes) (λ line. IsLineIn dialect bytes (line_text line))
+read_exactly dialect bytes None e = λ said h. let some = e ∙ line_again dialect bytes said h in cc
+read_exactly dialect bytes (Some line) e = line_takes dialect bytes (line_text line) (sym e)

@@ -17,7 +17,8 @@ use Rattle.metrics_core.specs.Keys.{LabelText}
 use Rattle.metrics_core.specs.Numbers.{one, padded, before_zeros, without_trailing_zeros, fraction_text, dogstatsd_number}
 use Rattle.metrics_core.proofs.Digits.{fraction_text-some, decimal-one_before}
 use Rattle.dsd_writer.specs.Lines.{tag_text, tags_text, rate_text, timestamp_text, values_text, line_of}
-use Rattle.dsd_lines.specs.Grammar.{PointsText, Counter, Gauge, Histogram, Distribution, LineText, IsNumber, IsDecimal, sign, signed, point_and, billionths, greatest, AreSpelled, bar, type_text, AreRateParts, tags_parts, AreTimeParts, IsLine}
+use Rattle.dsd_lines.specs.declared.dialects.Dialect.TheVariants.{DogStatsd}
+use Rattle.dsd_lines.specs.Grammar.{PointsText, Counter, Gauge, Steps, Histogram, Distribution, Timer, LineText, IsNumber, IsDecimal, sign, signed, point_and, billionths, greatest, AreSpelled, bar, type_text, AreRateParts, tags_parts, AreTimeParts, IsLine}
 use Rattle.dsd_lines.specs.Written.{points_spelled, HaveRange, IsSayable, item_said}
 
 -- ---- the digits of a fraction
@@ -242,11 +243,13 @@ counts_spelled : (counts : List ℕ) → All (λ n. n < 2 ^ 64) counts → AllZi
 counts_spelled [] all = tt
 counts_spelled (n ∷ counts) all = ((refl, All-head (λ n. n < 2 ^ 64) n counts all), counts_spelled counts (All-tail (λ n. n < 2 ^ 64) n counts all))
 
-values_spelled : (points : PointsText) → HaveRange points → AreSpelled points (points_spelled points)
+values_spelled : (points : PointsText) → HaveRange points → AreSpelled DogStatsd points (points_spelled points)
 values_spelled (Counter counts) all = counts_spelled counts all
-values_spelled (Gauge numbers) all = numbers_spelled numbers all
+values_spelled (Gauge numbers) all = (refl, numbers_spelled numbers all)
 values_spelled (Histogram numbers) all = numbers_spelled numbers all
 values_spelled (Distribution numbers) all = numbers_spelled numbers all
+values_spelled (Steps steps) all = absurd all
+values_spelled (Timer numbers) all = absurd all
 
 -- the text of what is said, without its newline
 abbrev pub said_text : LineText → List ℕ

@@ -1,22 +1,32 @@
 -- The lines that a receiver reads: DogStatsD datagrams, protocol 1.3, `NAME:VALUE[:VALUE ..]|TYPE[|@RATE][|#TAGS][|TSECONDS]`
--- without the newline. Of the types this project reads `c`, `g`, `h` and `d`, and no line with other fields.
-use Rattle.std.specs.Prelude.{◌≡◌, ℕ, ◌+◌, ◌-◌, ◌*◌, ◌^◌, ◌<◌, ◌≤◌, ◌==◌, ◌||◌, Bool, false, List, [], ◌∷◌, ◌++◌, map, length, ℤ, pos, neg_ℤ, codes, decimal, IsUtf8, All, Option, None, Some, if◌then◌else◌}
+-- without the newline. Of the types this project reads `c`, `g`, `h` and `d`, and no line with other fields. In the dialect of
+-- StatsD (its README, "Metric types") a gauge's value with a sign in front moves the gauge, and `ms` is a timer in milliseconds.
+use Rattle.std.specs.Prelude.{◌≡◌, ℕ, ◌+◌, ◌-◌, ◌*◌, ◌^◌, ◌<◌, ◌≤◌, ◌==◌, ◌||◌, Bool, false, List, [], ◌∷◌, ◌++◌, map, length, ℤ, pos, neg_ℤ, int_div, codes, decimal, IsUtf8, All, Option, None, Some, if◌then◌else◌}
 use Rattle.std.specs.List.{AllZip, join_with_byte}
 use Rattle.std.specs.Str.Parse.{AllDigits, digits_value}
 use Rattle.metrics_core.specs.Characters.{newline, comma, colon, full_stop, minus_sign}
 use Rattle.metrics_core.specs.Numbers.{one}
 use Rattle.metrics_core.specs.Keys.{LabelText, KeyText}
 use Rattle.dsd_writer.specs.Lines.{tag_text}
+use Rattle.dsd_lines.specs.declared.dialects.Dialect.{Dialect}
+use Rattle.dsd_lines.specs.declared.dialects.Dialect.TheVariants.{DogStatsd, Statsd}
 
 -- ---- what a line says
 
--- the values of a line, in order: increments of a counter, or in billionths values of a gauge, samples of a histogram or of a
--- distribution
+-- what a value of StatsD does to its gauge, in billionths: the gauge is set to it, or moves by it
+pub data StepText : Type 0 where
+  SetTo : ℤ → StepText
+  MoveBy : ℤ → StepText
+
+-- the values of a line, in order: increments of a counter, or in billionths values of a gauge, its steps, samples of a histogram,
+-- of a distribution, or of a timer, in seconds
 pub data PointsText : Type 0 where
   Counter : List ℕ → PointsText
   Gauge : List ℤ → PointsText
+  Steps : List StepText → PointsText
   Histogram : List ℤ → PointsText
   Distribution : List ℤ → PointsText
+  Timer : List ℤ → PointsText
 
 -- name and tags, values, and where there are any the sample rate in billionths and the timestamp in seconds
 pub record LineText : Type 0 where
@@ -51,23 +61,49 @@ billionths whole digits = whole * one + digits_value 10 digits * 10 ^ (9 - lengt
 abbrev pub greatest : Bool → ℕ
 greatest negative = if negative then 2 ^ 63 else 2 ^ 63 - 1
 
--- DEC: an optional `-`, a NAT, and optionally a point and one to nine digits; the value in billionths fits 64 bits
-pub record IsDecimal (text : List ℕ) (value : ℤ) : Type 0 where
+-- a sign spelled so, a NAT, and optionally a point and one to nine digits; the value in billionths fits 64 bits
+pub record IsSigned (spelling : Bool → List ℕ) (text : List ℕ) (value : ℤ) : Type 0 where
   pub negative : Bool
   pub whole : ℕ
   pub digits : List ℕ
   pub few : length digits ≤ 9
   pub each_digit : AllDigits 10 digits
-  pub spelled : text ≡ sign negative ++ decimal whole ++ point_and digits
+  pub spelled : text ≡ spelling negative ++ decimal whole ++ point_and digits
   pub meant : value ≡ signed negative (billionths whole digits)
   pub fits : billionths whole digits ≤ greatest negative
 
--- VALUE: a NAT for a counter, otherwise a DEC
-abbrev pub AreSpelled : PointsText → List (List ℕ) → Type 0
-AreSpelled (Counter counts) values = AllZip IsNumber values counts
-AreSpelled (Gauge numbers) values = AllZip IsDecimal values numbers
-AreSpelled (Histogram numbers) values = AllZip IsDecimal values numbers
-AreSpelled (Distribution numbers) values = AllZip IsDecimal values numbers
+-- DEC: the sign is `-`, or there is none
+abbrev pub IsDecimal : List ℕ → ℤ → Type 0
+IsDecimal text value = IsSigned sign text value
+
+abbrev pub plus_sign : ℕ
+plus_sign = 43
+
+-- the sign of a move, which stands there always
+abbrev pub move_sign : Bool → List ℕ
+move_sign negative = if negative then minus_sign ∷ [] else plus_sign ∷ []
+
+-- STEP: a DEC without sign, to which the gauge is set, or a move
+abbrev pub IsStep : List ℕ → StepText → Type 0
+IsStep text (SetTo value) = (spelled : IsDecimal text value) × (spelled.negative ≡ false)
+IsStep text (MoveBy value) = IsSigned move_sign text value
+
+-- a DEC of milliseconds is so many seconds, billionths of a second rounded toward zero
+abbrev pub seconds : ℤ → ℤ
+seconds millis = int_div millis (pos 1000)
+
+abbrev pub IsMillis : List ℕ → ℤ → Type 0
+IsMillis text value = (millis : ℤ) × IsDecimal text millis × (value ≡ seconds millis)
+
+-- VALUE, of which each dialect has its own for gauges, and StatsD alone timers: a NAT for a counter, a STEP for a gauge of StatsD,
+-- otherwise a DEC
+abbrev pub AreSpelled : Dialect → PointsText → List (List ℕ) → Type 0
+AreSpelled dialect (Counter counts) values = AllZip IsNumber values counts
+AreSpelled dialect (Gauge numbers) values = (dialect ≡ DogStatsd) × AllZip IsDecimal values numbers
+AreSpelled dialect (Steps steps) values = (dialect ≡ Statsd) × AllZip IsStep values steps
+AreSpelled dialect (Histogram numbers) values = AllZip IsDecimal values numbers
+AreSpelled dialect (Distribution numbers) values = AllZip IsDecimal values numbers
+AreSpelled dialect (Timer numbers) values = (dialect ≡ Statsd) × AllZip IsMillis values numbers
 
 -- RATE: a DEC of at least 0.000001 and at most 1, so that a value stands for at most 1,000,000 samples
 pub record IsRate (text : List ℕ) (rate : ℕ) : Type 0 where
@@ -116,8 +152,10 @@ pub record IsClean (key : KeyText) : Type 0 where
 abbrev pub type_text : PointsText → List ℕ
 type_text (Counter counts) = codes "c"
 type_text (Gauge numbers) = codes "g"
+type_text (Steps steps) = codes "g"
 type_text (Histogram numbers) = codes "h"
 type_text (Distribution numbers) = codes "d"
+type_text (Timer numbers) = codes "ms"
 
 -- the part of a line with its rate, with its tags, and with its timestamp; no part where there is none
 abbrev pub AreRateParts : List (List ℕ) → Option ℕ → Type 0
@@ -132,15 +170,19 @@ abbrev pub AreTimeParts : List (List ℕ) → Option ℕ → Type 0
 AreTimeParts parts None = parts ≡ []
 AreTimeParts parts (Some seconds) = (text : List ℕ) × (parts ≡ (codes "T" ++ text) ∷ []) × IsNumber text seconds
 
--- A line: the name and the values with a colon between each two, the type, and the other parts that there are, with a bar between
+-- A line of a dialect: the name and the values with a colon between each two, the type, and the other parts that there are, with a bar between
 -- each two of these.
-pub record IsLine (bytes : List ℕ) (said : LineText) : Type 0 where
+pub record IsLineIn (dialect : Dialect) (bytes : List ℕ) (said : LineText) : Type 0 where
   pub values : List (List ℕ)
   pub rate : List (List ℕ)
   pub timestamp : List (List ℕ)
   pub spelled : bytes ≡ join_with_byte bar (join_with_byte colon (said.key.name ∷ values) ∷ type_text said.points ∷ (rate ++ tags_parts said.key.labels ++ timestamp))
   pub some : 0 < length values
   pub clean : IsClean said.key
-  pub are_values : AreSpelled said.points values
+  pub are_values : AreSpelled dialect said.points values
   pub is_rate : AreRateParts rate said.rate
   pub is_timestamp : AreTimeParts timestamp said.timestamp
+
+-- a line of DogStatsD
+abbrev pub IsLine : List ℕ → LineText → Type 0
+IsLine bytes said = IsLineIn DogStatsd bytes said

@@ -1,5 +1,5 @@
 -- What is read of a line, part by part. That a line is read as what it says, and as nothing else, is proved.
-use Rattle.std.specs.Prelude.{ℕ, ◌+◌, ◌-◌, ◌*◌, ◌^◌, ◌&&◌, Bool, true, false, nat_le, nat_lt, List, [], ◌∷◌, length, ℤ, pos, Option, Some, None, codes, decimal, bytes_eq, not, ◌==◌, if◌then◌else◌}
+use Rattle.std.specs.Prelude.{ℕ, ◌+◌, ◌-◌, ◌*◌, ◌^◌, ◌&&◌, Bool, true, false, nat_le, nat_lt, List, [], ◌∷◌, length, ℤ, pos, Option, Some, None, option_map, codes, decimal, bytes_eq, not, ◌==◌, if◌then◌else◌}
 use Rattle.std.specs.Char.{is_ascii_digit}
 use Rattle.std.specs.List.{list_all, list_any, slice_split, position_or_len, before_first, after_first}
 use Rattle.std.specs.Str.{is_utf8}
@@ -7,7 +7,9 @@ use Rattle.std.specs.Str.Parse.{digits_value}
 use Rattle.metrics_core.specs.Characters.{newline, comma, colon, full_stop, minus_sign}
 use Rattle.metrics_core.specs.Keys.{LabelText}
 use Rattle.metrics_core.specs.Numbers.{one}
-use Rattle.dsd_lines.specs.Grammar.{PointsText, Counter, Gauge, Histogram, Distribution, LineText, bar, signed, greatest}
+use Rattle.dsd_lines.specs.declared.dialects.Dialect.{Dialect}
+use Rattle.dsd_lines.specs.declared.dialects.Dialect.TheVariants.{DogStatsd, Statsd}
+use Rattle.dsd_lines.specs.Grammar.{PointsText, Counter, Gauge, Steps, Histogram, Distribution, Timer, StepText, SetTo, MoveBy, LineText, bar, plus_sign, signed, greatest, seconds}
 
 infixl 10 ◌>>=◌
 abbrev pub ◌>>=◌ : {A B : Type 0} → Option A → (A → Option B) → Option B
@@ -68,6 +70,18 @@ abbrev pub decimal_of : List ℕ → Option ℤ
 decimal_of [] = None
 decimal_of (c ∷ text) = if c == minus_sign then signed_of true text else signed_of false (c ∷ text)
 
+-- a value of a gauge of StatsD
+abbrev pub step_of : List ℕ → Option StepText
+step_of [] = None
+step_of (c ∷ text) =
+    if c == minus_sign then option_map MoveBy (signed_of true text)
+    else if c == plus_sign then option_map MoveBy (signed_of false text)
+    else option_map SetTo (signed_of false (c ∷ text))
+
+-- milliseconds, in seconds
+abbrev pub millis_of : List ℕ → Option ℤ
+millis_of text = option_map seconds (decimal_of text)
+
 -- a rate in billionths
 abbrev pub rate_within : ℤ → Option ℕ
 rate_within (pos n) = if nat_le 1000 n && nat_le n one then Some n else None
@@ -107,11 +121,22 @@ typed type numbers =
     else if bytes_eq type (codes "d") then Some (Distribution numbers)
     else None
 
+abbrev pub typed_values : List ℕ → List (List ℕ) → Option PointsText
+typed_values type values = some_of decimal_of values >>= typed type
+
+-- the values of a line that is no counter's, by its type, in each dialect
+unfoldable pub others_of : Dialect → List ℕ → List (List ℕ) → Option PointsText
+others_of DogStatsd type values = typed_values type values
+others_of Statsd type values =
+    if bytes_eq type (codes "g") then (some_of step_of values >>= λ steps. Some (Steps steps))
+    else if bytes_eq type (codes "ms") then (some_of millis_of values >>= λ numbers. Some (Timer numbers))
+    else typed_values type values
+
 -- the values of a line, by its type
-unfoldable pub points_of : List ℕ → List (List ℕ) → Option PointsText
-points_of type values =
+unfoldable pub points_of : Dialect → List ℕ → List (List ℕ) → Option PointsText
+points_of dialect type values =
     if bytes_eq type (codes "c") then (some_of number_of values >>= λ counts. Some (Counter counts))
-    else some_of decimal_of values >>= typed type
+    else others_of dialect type values
 
 -- ---- parts
 
@@ -162,17 +187,17 @@ line_behind name points parts = do
     timestamp = timestamp.0;
   }) timestamp.1
 
-unfoldable pub line_of_head : List (List ℕ) → List ℕ → List (List ℕ) → Option LineText
-line_of_head [] type parts = None
-line_of_head (text ∷ values) type parts = do
+unfoldable pub line_of_head : Dialect → List (List ℕ) → List ℕ → List (List ℕ) → Option LineText
+line_of_head dialect [] type parts = None
+line_of_head dialect (text ∷ values) type parts = do
   name ← plain_of text
-  points ← points_of type values
+  points ← points_of dialect type values
   line_behind name points parts
 
-abbrev pub line_of_parts : List (List ℕ) → Option LineText
-line_of_parts [] = None
-line_of_parts (head ∷ []) = None
-line_of_parts (head ∷ type ∷ parts) = line_of_head (pieces colon head) type parts
+abbrev pub line_of_parts : Dialect → List (List ℕ) → Option LineText
+line_of_parts dialect [] = None
+line_of_parts dialect (head ∷ []) = None
+line_of_parts dialect (head ∷ type ∷ parts) = line_of_head dialect (pieces colon head) type parts
 
-unfoldable pub line_at : List ℕ → Option LineText
-line_at bytes = line_of_parts (pieces bar bytes)
+unfoldable pub line_at : Dialect → List ℕ → Option LineText
+line_at dialect bytes = line_of_parts dialect (pieces bar bytes)

@@ -4,17 +4,18 @@ ghost use Rattle.std.specs.Prelude.{◌≡◌, ℕ, ◌∷◌, ◌++◌, List, f
 ghost use Rattle.metrics_core.specs.Characters.{line, newline};
 ghost use Rattle.dsd_writer.specs.Lines.{line_of};
 ghost use Rattle.dsd_lines.specs.Frames.{AreFrames};
-ghost use Rattle.dsd_lines.specs.Grammar.{IsLine, LineText};
+ghost use Rattle.dsd_lines.specs.declared.dialects.Dialect.{Dialect};
+ghost use Rattle.dsd_lines.specs.Grammar.{IsLine, IsLineIn, LineText};
 ghost use Rattle.dsd_lines.specs.Payloads.{payload_lines};
 ghost use Rattle.dsd_lines.specs.Reading.{is};
 ghost use Rattle.dsd_lines.specs.Written.{IsSayable, item_said, points_spelled};
 
-/// A line is read in one way, and has no newline.
+/// A line is read in one way in each dialect, and has no newline.
 pub fn one_reading()
-    ensures same { (bytes : List ℕ) (said other : LineText) → IsLine bytes said → IsLine bytes other
-        → said ≡ other }
-    ensures no_newline { (bytes : List ℕ) (said : LineText) → IsLine bytes said
-        → All (λ c. is newline c ≡ false) bytes }
+    ensures same { (dialect : Dialect) (bytes : List ℕ) (said other : LineText)
+        → IsLineIn dialect bytes said → IsLineIn dialect bytes other → said ≡ other }
+    ensures no_newline { (dialect : Dialect) (bytes : List ℕ) (said : LineText)
+        → IsLineIn dialect bytes said → All (λ c. is newline c ≡ false) bytes }
 {}
 
 /// What a line can say is written by the writer as one line and a newline, and that line says it.

@@ -2,15 +2,25 @@
 
 ghost use Rattle.std.specs.Prelude.{◌≡◌, IfOk, MatchOption, option_map, string_bytes};
 ghost use Rattle.metrics_core.specs.Characters.{colon};
-ghost use Rattle.dsd_lines.specs.Grammar.{IsLine, bar};
+ghost use Rattle.dsd_lines.specs.Grammar.{IsLineIn, bar};
 ghost use Rattle.dsd_lines.specs.Reading.{line_at, line_behind, line_of_head, pieces};
-ghost use Rattle.dsd_lines.specs.Texts.{IsNoLine, line_text, pieces_left, points_text};
+ghost use Rattle.dsd_lines.specs.Texts.{IsNoLineIn, line_text, pieces_left, points_text};
 
+use crate::Dialect;
 use crate::line_parts::{read_points, take_rate, take_tags, take_timestamp};
 use crate::pieces::Pieces;
 use crate::tags::read_plain;
 use metrics_core::{Fixed, Key, KeyName, Memory};
 use std::alloc::Global;
+
+/// What a value of StatsD does to its gauge.
+#[derive(Clone, Copy, Debug, Drop)]
+pub enum GaugeStep {
+    /// The gauge is set to it.
+    SetTo(Fixed),
+    /// The gauge moves by it.
+    MoveBy(Fixed),
+}
 
 /// The values of a line, one at least.
 #[derive(Debug, Drop)]
@@ -19,10 +29,14 @@ pub enum Points {
     Counter(Vec<u64>),
     /// Values of a gauge.
     Gauge(Vec<Fixed>),
+    /// Steps of a gauge of StatsD.
+    Steps(Vec<GaugeStep>),
     /// Samples of a histogram.
     Histogram(Vec<Fixed>),
     /// Samples of a distribution.
     Distribution(Vec<Fixed>),
+    /// Samples of a timer of StatsD, in seconds. They are spelled in milliseconds, and rounded toward zero to billionths of a second.
+    Timer(Vec<Fixed>),
 }
 
 /// What a line says.
@@ -37,18 +51,18 @@ pub struct Line {
     pub timestamp: Option<u64>,
 }
 
-/// Reads a line, which stands without its newline. Answers what it says, or nothing where the bytes are no line.
-pub fn read_line(alloc: Global, bytes: &[u8]) -> Result<Option<Line>, Memory>
-    ensures { IfOk result (λ line.
-        MatchOption line (IsNoLine bytes.now) (λ line. IsLine bytes.now (line_text line))) }
+/// Reads a line of a dialect, which stands without its newline. Answers what it says, or nothing where the bytes are no line.
+pub fn read_line(alloc: Global, dialect: Dialect, bytes: &[u8]) -> Result<Option<Line>, Memory>
+    ensures { IfOk result (λ line. MatchOption line (IsNoLineIn dialect bytes.now)
+        (λ line. IsLineIn dialect bytes.now (line_text line))) }
 {
-    read_parts(alloc, bytes)
+    read_parts(alloc, dialect, bytes)
 }
 
 /// Reads the parts of a line.
 #[tactic(auto, unfolding(crate::specs::Reading::line_at))]
-fn read_parts(alloc: Global, bytes: &[u8]) -> Result<Option<Line>, Memory>
-    ensures { IfOk result (λ line. option_map line_text line ≡ line_at bytes.now) }
+fn read_parts(alloc: Global, dialect: Dialect, bytes: &[u8]) -> Result<Option<Line>, Memory>
+    ensures { IfOk result (λ line. option_map line_text line ≡ line_at dialect bytes.now) }
 {
     let mut parts = Pieces::new(bytes, b'|');
     let Some(head) = parts.next() else {
@@ -57,19 +71,20 @@ fn read_parts(alloc: Global, bytes: &[u8]) -> Result<Option<Line>, Memory>
     let Some(line_type) = parts.next() else {
         return Ok(None);
     };
-    read_head(alloc, Pieces::new(head, b':'), line_type, parts)
+    read_head(alloc, dialect, Pieces::new(head, b':'), line_type, parts)
 }
 
 /// Reads name and values, and the parts behind the type.
 #[tactic(auto, unfolding(crate::specs::Reading::line_of_head))]
 fn read_head(
     alloc: Global,
+    dialect: Dialect,
     head: Pieces<'_>,
     line_type: &[u8],
     parts: Pieces<'_>,
 ) -> Result<Option<Line>, Memory>
     ensures { IfOk result (λ line.
-        option_map line_text line ≡ line_of_head (pieces_left head.entry) line_type.now
+        option_map line_text line ≡ line_of_head dialect (pieces_left head.entry) line_type.now
         (pieces_left parts.entry)) }
 {
     let mut head = head;
@@ -79,7 +94,7 @@ fn read_head(
     let Some(name) = read_plain(alloc, name)? else {
         return Ok(None);
     };
-    let Some(points) = read_points(alloc, line_type, head)? else {
+    let Some(points) = read_points(alloc, dialect, line_type, head)? else {
         return Ok(None);
     };
     read_behind(alloc, name, points, parts)

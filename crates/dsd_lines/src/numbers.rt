@@ -4,8 +4,10 @@ ghost use Rattle.std.specs.Prelude.{◌≡◌, ◌≢◌, ◌<◌, ◌≤◌, �
 ghost use Rattle.std.specs.Char.{is_ascii_digit};
 ghost use Rattle.std.specs.List.{list_all};
 ghost use Rattle.std.specs.Str.Parse.{AllDigits, digits_value};
-ghost use Rattle.dsd_lines.specs.Reading.{decimal_of, fraction_behind, fraction_of, number_of, rate_of, signed_of, value_of};
+ghost use Rattle.dsd_lines.specs.Reading.{decimal_of, fraction_behind, fraction_of, millis_of, number_of, rate_of, signed_of, step_of, value_of};
+ghost use Rattle.dsd_lines.specs.Texts.{step_text};
 
+use crate::GaugeStep;
 use crate::pieces::cut;
 use metrics_core::{BILLIONTHS, Fixed};
 
@@ -16,6 +18,9 @@ const PLACES: usize = 9;
 
 /// The greatest whole part of a value.
 const MOST_WHOLE: u64 = 9_223_372_036;
+
+/// How many milliseconds a second has.
+const MILLIS: i64 = 1_000;
 
 /// The least rate, in billionths.
 const LEAST_RATE: i64 = 1_000;
@@ -51,6 +56,28 @@ pub(crate) fn read_decimal(text: &[u8]) -> Option<Fixed>
     } else {
         read_signed(false, text)
     }
+}
+
+/// The step of a gauge that the text is a spelling of: with a sign it moves, without one it sets.
+pub(crate) fn read_step(text: &[u8]) -> Option<GaugeStep>
+    ensures { option_map step_text result ≡ step_of text.now }
+{
+    let (first, behind) = text.split_first()?;
+    if *first == b'-' {
+        Some(GaugeStep::MoveBy(read_signed(true, behind)?))
+    } else if *first == b'+' {
+        Some(GaugeStep::MoveBy(read_signed(false, behind)?))
+    } else {
+        Some(GaugeStep::SetTo(read_signed(false, text)?))
+    }
+}
+
+/// The value in seconds of which the text is a spelling in milliseconds.
+pub(crate) fn read_seconds(text: &[u8]) -> Option<Fixed>
+    ensures { option_map (λ value. value.0) result ≡ millis_of text.now }
+{
+    let Fixed(millis) = read_decimal(text)?;
+    Some(Fixed(millis / MILLIS))
 }
 
 /// The rate in billionths that the text is a spelling of.
