@@ -9,3 +9,5 @@ pub mod SoFar
 pub mod ReceivedPages
 pub mod ReceivedMoments
 pub mod ReceivedStreams
+pub mod Crossing
+pub mod Readings

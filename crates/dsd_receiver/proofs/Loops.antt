@@ -4,8 +4,9 @@ use Rattle.std.specs.Prelude.{Result, Ok, Err, is_err}
 use Rattle.std.proofs.lemmas.Bool.{true≢false}
 use Rattle.std.proofs.lemmas.List.{map-append, map_more, take-map}
 use Rattle.metrics_core.specs.Calls.{Call, Increment, Set, Record}
-use Rattle.dsd_lines.specs.Texts.{numbers_of}
-use Rattle.dsd_receiver.specs.Received.{increments, records, scaled, sets}
+use Rattle.dsd_lines.specs.declared.lines.GaugeStep.{GaugeStep}
+use Rattle.dsd_lines.specs.Texts.{numbers_of, step_text, steps_of}
+use Rattle.dsd_receiver.specs.Received.{call_of_step, increments, records, scaled, sets, steps}
 use Rattle.metrics_core.specs.Series.{call_of}
 use Rattle.metrics_core.specs.declared.numbers.Fixed.{Fixed}
 use Rattle.metrics_facade.specs.Handles.{Recorded, Refused, Stands}
@@ -32,8 +33,17 @@ increments_more rate xs i d n within is = (λ j. increments rate (take i xs) ++ 
 numbers_more : (xs : List Fixed) (i : ℕ) (d : Fixed) → i < length xs → numbers_of (take (i + 1) xs) ≡ numbers_of (take i xs) ++ (get_or xs i d).0 ∷ []
 numbers_more xs i d within = map_more _ xs i d within
 
-pub sets_more : (xs : List Fixed) (i : ℕ) (d : Fixed) → i < length xs → sets (numbers_of (take i xs)) ++ Set (get_or xs i d).0 ∷ [] ≡ sets (numbers_of (take (i + 1) xs))
-sets_more xs i d within = sym (ap sets (numbers_more xs i d within) ∙ map-append Set (numbers_of (take i xs)) ((get_or xs i d).0 ∷ []))
+pub changes_more : {C : Type 0} (call : C → Call) (xs : List C) (i : ℕ) (d : C) → i < length xs → map call (take i xs) ++ call (get_or xs i d) ∷ [] ≡ map call (take (i + 1) xs)
+changes_more call xs i d within = sym (map_more call xs i d within)
+
+-- the calls of values that set a gauge, and of those that set it or move it
+pub sets_called : (xs : List Fixed) → map (λ value. Set value.0) xs ≡ sets (numbers_of xs)
+sets_called [] = refl
+sets_called (x ∷ xs) = (λ j. Set x.0 ∷ sets_called xs j)
+
+pub steps_called : (xs : List GaugeStep) → map (λ step. call_of_step (step_text step)) xs ≡ steps (steps_of xs)
+steps_called [] = refl
+steps_called (x ∷ xs) = (λ j. call_of_step (step_text x) ∷ steps_called xs j)
 
 pub records_more : (moment times : ℕ) (xs : List Fixed) (i : ℕ) (d : Fixed) → i < length xs
     → records moment times (numbers_of (take i xs)) ++ Record (get_or xs i d).0 moment times ∷ [] ≡ records moment times (numbers_of (take (i + 1) xs))

@@ -17,8 +17,8 @@ use Rattle.prom_exporter.specs.Sampled.{IsTimely, Sampled, calls_known}
 use Rattle.prom_exporter.specs.Values.{sampled_series, series_of}
 use Rattle.name_counts.specs.Counts.{raised}
 use Rattle.prom_exporter.specs.State.{PrometheusState, Series, call_on, empty_state, is_redirected, key_given, live, live_series, metric_name_of, no_series, number_given, register, with_call, with_live, with_redirection, with_series}
-use Rattle.dsd_lines.specs.Grammar.{Counter, Distribution, Gauge, Histogram, LineText, PointsText}
-use Rattle.dsd_receiver.specs.Received.{after_calls, after_line, after_reading, after_readings, calls_of_points, calls_said, kind_said, rate_said, times_at}
+use Rattle.dsd_lines.specs.Grammar.{Counter, Distribution, Gauge, Histogram, LineText, MoveBy, PointsText, SetTo, StepText, Steps, Timer}
+use Rattle.dsd_receiver.specs.Received.{after_calls, after_line, after_reading, after_readings, call_of_step, calls_of_points, calls_said, kind_said, rate_said, times_at}
 
 -- ---- samples at the first moment
 
@@ -105,6 +105,12 @@ points_at : (rate : ℕ) (points : PointsText) → EachAtStart (calls_of_points 
 points_at rate (Counter counts) = each_of _ (λ n. All-nil _) counts
 points_at rate (Gauge numbers) = each_of _ (λ value. All-nil _) numbers
 points_at rate (Histogram numbers) = each_of _ (λ value. All-replicate AtStart (times_at rate) (record { value = value; moment = 0 }) refl) numbers
+points_at rate (Steps steps) = each_of _ step_at steps
+  where
+    step_at : (step : StepText) → AreAtStart (timed_samples_of (call_of_step step))
+    step_at (SetTo value) = All-nil _
+    step_at (MoveBy value) = All-nil _
+points_at rate (Timer numbers) = each_of _ (λ value. All-replicate AtStart (times_at rate) (record { value = value; moment = 0 }) refl) numbers
 points_at rate (Distribution numbers) = each_of _ (λ value. All-replicate AtStart (times_at rate) (record { value = value; moment = 0 }) refl) numbers
 
 -- ---- registering

@@ -6,6 +6,7 @@ use Rattle.std.proofs.lemmas.List.Elements.{filter-append}
 use Rattle.std.proofs.lemmas.List.Sums.{fold-append}
 use Rattle.dsd_writer.specs.Lines.{framed}
 use Rattle.prom_exporter.specs.State.{PrometheusState, empty_state}
+use Rattle.dsd_lines.specs.declared.dialects.Dialect.TheVariants.{DogStatsd}
 use Rattle.dsd_lines.specs.Frames.{BeginsNoFrame, Splits, stream_of}
 use Rattle.dsd_lines.specs.Grammar.{LineText}
 use Rattle.dsd_lines.specs.Payloads.{payload_lines}
@@ -21,7 +22,7 @@ pub record IsTakenSoFar (bytes rest : List ℕ) (received : Received) (state : P
   pub frames : List (List ℕ)
   pub readings : List (Option LineText)
   pub split : Splits bytes frames rest
-  pub are_read : AreRead (lines_of frames) readings
+  pub are_read : AreRead DogStatsd (lines_of frames) readings
   pub state_is : state ≡ after_readings 0 readings empty_state
   pub frames_are : received.frames ≡ length frames
   pub lines_are : received.lines ≡ count_lines readings
@@ -42,7 +43,7 @@ none_taken bytes rest state split empty = record {
   few = omega (arith, ap length split.whole);
 }
 
-read_both : (lines others : List (List ℕ)) (readings more : List (Option LineText)) → AreRead lines readings → AreRead others more → AreRead (lines ++ others) (readings ++ more)
+read_both : (lines others : List (List ℕ)) (readings more : List (Option LineText)) → AreRead DogStatsd lines readings → AreRead DogStatsd others more → AreRead DogStatsd (lines ++ others) (readings ++ more)
 read_both [] others [] more read also = also
 read_both [] others (reading ∷ readings) more read also = absurd read
 read_both (line ∷ lines) others [] more read also = absurd read
@@ -56,7 +57,7 @@ framed_length payload = refl
 
 -- one payload more
 pub one_more : (bytes rest payload rest' : List ℕ) (received received' : Received) (applied : Applied) (state state' : PrometheusState) → (so_far : IsTakenSoFar bytes rest received state)
-    → rest ≡ framed true payload ++ rest' → Splits bytes (so_far.frames ++ payload ∷ []) rest' → IsApplied 0 (payload_lines payload) state applied state'
+    → rest ≡ framed true payload ++ rest' → Splits bytes (so_far.frames ++ payload ∷ []) rest' → IsApplied DogStatsd 0 (payload_lines payload) state applied state'
     → applied.lines + applied.bad ≤ length payload
     → received'.frames ≡ received.frames + 1 → received'.lines ≡ received.lines + applied.lines → received'.bad ≡ received.bad + applied.bad
     → IsTakenSoFar bytes rest' received' state'
@@ -64,7 +65,7 @@ one_more bytes rest payload rest' received received' applied state state' so_far
   frames = so_far.frames ++ payload ∷ [];
   readings = so_far.readings ++ is.readings;
   split = split;
-  are_read = subst (λ ls. AreRead ls (so_far.readings ++ is.readings)) (sym more_lines) (read_both (lines_of so_far.frames) (payload_lines payload) so_far.readings is.readings so_far.are_read is.are_read);
+  are_read = subst (λ ls. AreRead DogStatsd ls (so_far.readings ++ is.readings)) (sym more_lines) (read_both (lines_of so_far.frames) (payload_lines payload) so_far.readings is.readings so_far.are_read is.are_read);
   state_is = is.state ∙ ap (after_readings 0 is.readings) so_far.state_is ∙ sym (fold-append (after_reading 0) empty_state so_far.readings is.readings);
   frames_are = frames ∙ ap (λ n. n + 1) so_far.frames_are ∙ sym (length-append so_far.frames (payload ∷ []));
   lines_are = omega (arith, lines, so_far.lines_are, is.lines_are, counted_both is_some so_far.readings is.readings);

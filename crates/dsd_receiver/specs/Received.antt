@@ -4,20 +4,23 @@ use Rattle.std.specs.List.{AllZip}
 use Rattle.metrics_core.specs.declared.kinds.MetricKind.{MetricKind}
 use Rattle.metrics_core.specs.declared.kinds.MetricKind.TheVariants as kinds
 use Rattle.metrics_core.specs.Keys.{KeyText}
-use Rattle.metrics_core.specs.Calls.{Call, Increment, Set, Record}
+use Rattle.metrics_core.specs.Calls.{Call, Increment, Add, Set, Record}
 use Rattle.metrics_core.specs.Numbers.{one, in_64_bits}
-use Rattle.dsd_lines.specs.Grammar.{PointsText, Counter, Gauge, Histogram, Distribution, LineText, IsLine}
-use Rattle.dsd_lines.specs.Texts.{IsNoLine}
+use Rattle.dsd_lines.specs.declared.dialects.Dialect.{Dialect}
+use Rattle.dsd_lines.specs.Grammar.{PointsText, Counter, Gauge, Steps, Histogram, Distribution, Timer, StepText, SetTo, MoveBy, LineText, IsLineIn}
+use Rattle.dsd_lines.specs.Texts.{IsNoLineIn}
 use Rattle.prom_exporter.specs.State.{PrometheusState, register, number_given, call_on}
 
 -- ---- what a line asks for
 
--- a distribution is a histogram
+-- a distribution and a timer are histograms
 abbrev pub kind_said : PointsText → MetricKind
 kind_said (Counter counts) = kinds.Counter
 kind_said (Gauge numbers) = kinds.Gauge
 kind_said (Histogram numbers) = kinds.Histogram
+kind_said (Steps steps) = kinds.Gauge
 kind_said (Distribution numbers) = kinds.Histogram
+kind_said (Timer numbers) = kinds.Histogram
 
 -- the sample rate in billionths; a line without one has rate 1
 abbrev pub rate_said : Option ℕ → ℕ
@@ -30,12 +33,19 @@ scaled rate n = in_64_bits (n * one / rate)
 abbrev pub times_at : ℕ → ℕ
 times_at rate = one / rate
 
--- each value is one call: an increment, a set, or a record of so many samples
+-- each value is one call: an increment, a set, a step, or a record of so many samples
 abbrev pub increments : ℕ → List ℕ → List Call
 increments rate counts = map (λ n. Increment (scaled rate n)) counts
 
 abbrev pub sets : List ℤ → List Call
 sets values = map (λ value. Set value) values
+
+abbrev pub call_of_step : StepText → Call
+call_of_step (SetTo value) = Set value
+call_of_step (MoveBy value) = Add value
+
+abbrev pub steps : List StepText → List Call
+steps values = map call_of_step values
 
 abbrev pub records : ℕ → ℕ → List ℤ → List Call
 records moment times values = map (λ value. Record value moment times) values
@@ -44,7 +54,9 @@ abbrev pub calls_of_points : ℕ → ℕ → PointsText → List Call
 calls_of_points moment rate (Counter counts) = increments rate counts
 calls_of_points moment rate (Gauge values) = sets values
 calls_of_points moment rate (Histogram values) = records moment (times_at rate) values
+calls_of_points moment rate (Steps values) = steps values
 calls_of_points moment rate (Distribution values) = records moment (times_at rate) values
+calls_of_points moment rate (Timer values) = records moment (times_at rate) values
 
 abbrev pub calls_said : ℕ → LineText → List Call
 calls_said moment said = calls_of_points moment (rate_said said.rate) said.points
@@ -65,13 +77,13 @@ after_line moment s said = with_calls (kind_said said.points) said.key (calls_sa
 
 -- ---- lines
 
--- what each line says; a bad one says nothing
-abbrev pub IsRead : List ℕ → Option LineText → Type 0
-IsRead line None = IsNoLine line
-IsRead line (Some said) = IsLine line said
+-- what each line says in a dialect; a bad one says nothing
+abbrev pub IsRead : Dialect → List ℕ → Option LineText → Type 0
+IsRead dialect line None = IsNoLineIn dialect line
+IsRead dialect line (Some said) = IsLineIn dialect line said
 
-abbrev pub AreRead : List (List ℕ) → List (Option LineText) → Type 0
-AreRead lines readings = AllZip IsRead lines readings
+abbrev pub AreRead : Dialect → List (List ℕ) → List (Option LineText) → Type 0
+AreRead dialect lines readings = AllZip (IsRead dialect) lines readings
 
 -- a bad line changes nothing
 abbrev pub after_reading : ℕ → PrometheusState → Option LineText → PrometheusState
@@ -82,8 +94,8 @@ abbrev pub after_readings : ℕ → List (Option LineText) → PrometheusState �
 after_readings moment readings s = fold (after_reading moment) s readings
 
 -- a state after these lines, received at a moment, in order
-abbrev pub Receives : ℕ → List (List ℕ) → PrometheusState → PrometheusState → Type 0
-Receives moment lines s t = (readings : List (Option LineText)) × AreRead lines readings × (t ≡ after_readings moment readings s)
+abbrev pub Receives : Dialect → ℕ → List (List ℕ) → PrometheusState → PrometheusState → Type 0
+Receives dialect moment lines s t = (readings : List (Option LineText)) × AreRead dialect lines readings × (t ≡ after_readings moment readings s)
 
 -- how many of some lines are in the grammar, and how many are bad
 abbrev pub count_lines : List (Option LineText) → ℕ

@@ -4,6 +4,7 @@ use Rattle.metrics_core.specs.Outside.{GrewBy, GrewByPrefix}
 use Rattle.prom_format.specs.Pages.{IsPage}
 use Rattle.prom_exporter.specs.State.{PrometheusState, empty_state}
 use Rattle.prom_exporter.specs.Exporter.{default_settings, families_shown}
+use Rattle.dsd_lines.specs.declared.dialects.Dialect.TheVariants.{DogStatsd}
 use Rattle.dsd_lines.specs.Frames.{AreFrames, Splits}
 use Rattle.dsd_lines.specs.Grammar.{LineText}
 use Rattle.dsd_lines.specs.Payloads.{payload_lines}
@@ -24,7 +25,7 @@ pub record IsReceivedPage (bytes text : List ℕ) : Type 0 where
   pub frames : List (List ℕ)
   pub state : PrometheusState
   pub whole : Splits bytes frames []
-  pub receives : Receives 0 (lines_of frames) empty_state state
+  pub receives : Receives DogStatsd 0 (lines_of frames) empty_state state
   pub page : IsPage text (families_shown default_settings 0 state)
 
 -- what the sink tells grew by that page
@@ -44,7 +45,7 @@ pub record AreCounted (bytes : List ℕ) (received : Received) : Type 0 where
   pub frames : List (List ℕ)
   pub readings : List (Option LineText)
   pub whole : Splits bytes frames []
-  pub are_read : AreRead (lines_of frames) readings
+  pub are_read : AreRead DogStatsd (lines_of frames) readings
   pub frames_are : received.frames ≡ length frames
   pub lines_are : received.lines ≡ count_lines readings
   pub bad_are : received.bad ≡ count_bad readings

@@ -1,13 +1,14 @@
 //! The calls of one line on its series: a pass is lent, the calls are made with it, and it is given back.
 
-ghost use Rattle.std.specs.Prelude.{◌≡◌, ◌≤◌, ◌<◌, OnOk, OnErr, length, take};
+ghost use Rattle.std.specs.Prelude.{◌≡◌, ◌≤◌, ◌<◌, OnOk, OnErr, length, map, take};
 ghost use Rattle.metrics_core.specs.declared.kinds.MetricKind.TheVariants.{Counter, Gauge, Histogram};
 ghost use Rattle.metrics_registry.specs.Live.{IsNumbered};
 ghost use Rattle.dsd_lines.specs.Texts.{numbers_of};
 ghost use Rattle.prom_exporter.specs.Exporter.{AllHome, state_of};
-ghost use Rattle.dsd_receiver.specs.Received.{after_calls, increments, records, scaled, sets};
+ghost use Rattle.dsd_receiver.specs.Received.{after_calls, increments, records, scaled};
 ghost use Rattle.dsd_receiver.specs.Passes.{IsCounterHeld, IsGaugeHeld, IsHistogramHeld, IsSettled, MakesCalls, MakesRecords};
 
+use crate::gauge_changes::GaugeChange;
 use cell_lanes::Lenders;
 use metrics_core::{BILLIONTHS, Fixed, Memory, SeriesId};
 use metrics_facade as facade;
@@ -54,20 +55,20 @@ pub(crate) fn call_counter<R: Wait>(
     Ok(())
 }
 
-/// Sets a gauge to each of these values. Where it isn't live nothing changes.
-pub(crate) fn call_gauge<R: Wait>(
+/// Makes these changes of a gauge. Where it isn't live nothing changes.
+pub(crate) fn call_gauge<R: Wait, C: GaugeChange>(
     state: &mut PrometheusState,
     rt: &R,
     alloc: Global,
     id: SeriesId,
-    values: &[Fixed],
+    changes: &[C],
 ) -> Result<(), Memory>
     requires home { AllHome state.old }
     requires kind { id.kind ≡ Gauge }
     ensures home { AllHome state.new }
     ensures settings { state.new.settings ≡ state.old.settings }
     ensures called { OnOk result (state_of state.new ≡ after_calls Gauge id.number
-        (sets (numbers_of values.now)) (state_of state.old)) }
+        (map C.call changes.now) (state_of state.old)) }
     ensures refused { OnErr result (state_of state.new ≡ state_of state.old) }
 {
     settle(state, rt, id);
@@ -79,7 +80,7 @@ pub(crate) fn call_gauge<R: Wait>(
         mut pass,
         id,
     } = lent;
-    set_each(&handle, &mut pass, values);
+    change_each(&handle, &mut pass, changes);
     state.give_back_gauge(Lent { handle, pass, id });
     Ok(())
 }
@@ -162,14 +163,14 @@ fn scaled(count: u64, rate: u32) -> u64
     (whole % COUNTS) as u64
 }
 
-/// Sets a gauge to each of these values.
-fn set_each(gauge: &facade::Gauge<PromGauge>, pass: &mut CellPass, values: &[Fixed])
+/// Makes these changes of a gauge.
+fn change_each<C: GaugeChange>(gauge: &facade::Gauge<PromGauge>, pass: &mut CellPass, changes: &[C])
     requires held { IsGaugeHeld gauge.now pass.old }
     ensures held { IsGaugeHeld gauge.now pass.new }
-    ensures calls { MakesCalls pass.old (sets (numbers_of values.now)) pass.new }
+    ensures calls { MakesCalls pass.old (map C.call changes.now) pass.new }
 {
-    for value in values {
-        let _set = gauge.set(pass, *value);
+    for change in changes {
+        change.make(gauge, pass);
     }
 }
 

@@ -1,15 +1,16 @@
 //! One line: it is read, its series is registered, and its values become calls.
 
-ghost use Rattle.std.specs.Prelude.{◌≡◌, ◌<◌, ◌≤◌, IfOk, IfErr, OnOk, false, length};
+ghost use Rattle.std.specs.Prelude.{◌≡◌, ◌<◌, ◌≤◌, IfOk, IfErr, OnOk, false, length, map};
 ghost use Rattle.metrics_core.specs.declared.kinds.MetricKind.TheVariants.{Counter, Gauge, Histogram};
 ghost use Rattle.metrics_core.specs.Numbers.{one};
 ghost use Rattle.dsd_lines.specs.Texts.{line_text, numbers_of};
 ghost use Rattle.prom_exporter.specs.Exporter.{AllHome, state_of};
-ghost use Rattle.dsd_receiver.specs.Received.{after_line, increments, sets, records, times_at, with_calls};
+ghost use Rattle.dsd_receiver.specs.Received.{after_line, increments, records, times_at, with_calls};
 ghost use Rattle.dsd_receiver.specs.Receiving.{InPart, IsInPart, IsReceived, IsSaid, StopsIn};
 
 use crate::calls::{call_counter, call_gauge, call_histogram};
-use dsd_lines::{Line, Points, read_line};
+use crate::gauge_changes::GaugeChange;
+use dsd_lines::{Dialect, Line, Points, read_line};
 use metrics_core::{BILLIONTHS, Fixed, Key, Memory};
 use prom_exporter::PrometheusState;
 use std::alloc::Global;
@@ -35,11 +36,12 @@ impl From<Memory> for Stop {
     }
 }
 
-/// Applies a line, which stands without its newline. Answers whether it is one of the grammar.
+/// Applies a line, which stands without its newline. Answers whether it is one of the dialect.
 pub(crate) fn apply_line<R: Wait>(
     state: &mut PrometheusState,
     rt: &R,
     alloc: Global,
+    dialect: Dialect,
     bytes: &[u8],
     moment: u64,
 ) -> Result<bool, Stop>
@@ -47,15 +49,15 @@ pub(crate) fn apply_line<R: Wait>(
     ensures home { AllHome state.new }
     ensures settings { state.new.settings ≡ state.old.settings }
     ensures applied { IfOk result (λ is_line.
-        IsReceived moment bytes.now is_line (state_of state.old) (state_of state.new)) }
+        IsReceived dialect moment bytes.now is_line (state_of state.old) (state_of state.new)) }
     ensures stopped { IfErr result (λ stop.
-        StopsIn moment bytes.now stop.registered stop.values (state_of state.old)
+        StopsIn dialect moment bytes.now stop.registered stop.values (state_of state.old)
         (state_of state.new)) }
 {
-    let Some(line) = read_line(alloc, bytes)? else {
+    let Some(line) = read_line(alloc, dialect, bytes)? else {
         return Ok(false);
     };
-    apply_said(state, rt, alloc, line, moment)?;
+    apply_said(state, rt, alloc, dialect, line, moment)?;
     Ok(true)
 }
 
@@ -64,11 +66,12 @@ fn apply_said<R: Wait>(
     state: &mut PrometheusState,
     rt: &R,
     alloc: Global,
+    _dialect: Dialect,
     line: Line,
     moment: u64,
 ) -> Result<(), Stop>
     requires home { AllHome state.old }
-    requires said { IsSaid (line_text line) }
+    requires said { IsSaid _dialect (line_text line) }
     ensures home { AllHome state.new }
     ensures settings { state.new.settings ≡ state.old.settings }
     ensures applied { OnOk result (state_of state.new ≡ after_line moment (state_of state.old)
@@ -87,7 +90,8 @@ fn apply_said<R: Wait>(
     match points {
         Points::Counter(counts) => apply_counter(state, rt, alloc, key, counts.as_slice(), rate),
         Points::Gauge(values) => apply_gauge(state, rt, alloc, key, values.as_slice()),
-        Points::Histogram(values) | Points::Distribution(values) => {
+        Points::Steps(steps) => apply_gauge(state, rt, alloc, key, steps.as_slice()),
+        Points::Histogram(values) | Points::Distribution(values) | Points::Timer(values) => {
             apply_histogram(state, rt, alloc, key, values.as_slice(), moment, rate)
         }
     }
@@ -123,22 +127,22 @@ fn apply_counter<R: Wait>(
     }
 }
 
-/// Registers a gauge, and sets it to each of these values.
-fn apply_gauge<R: Wait>(
+/// Registers a gauge, and makes these changes of it.
+fn apply_gauge<R: Wait, C: GaugeChange>(
     state: &mut PrometheusState,
     rt: &R,
     alloc: Global,
     key: Key,
-    values: &[Fixed],
+    values: &[C],
 ) -> Result<(), Stop>
     requires home { AllHome state.old }
     requires some { 0 < length values.now }
     ensures home { AllHome state.new }
     ensures settings { state.new.settings ≡ state.old.settings }
     ensures applied { OnOk result (state_of state.new ≡ with_calls Gauge key
-        (sets (numbers_of values.now)) (state_of state.old)) }
+        (map C.call values.now) (state_of state.old)) }
     ensures stopped { IfErr result (λ stop. (stop.values ≡ 0)
-        × InPart Gauge key (sets (numbers_of values.now)) stop.registered stop.values
+        × InPart Gauge key (map C.call values.now) stop.registered stop.values
         (state_of state.old) (state_of state.new)) }
 {
     let id = state.register_owned_gauge(alloc, key)?;

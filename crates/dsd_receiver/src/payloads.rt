@@ -7,16 +7,17 @@ ghost use Rattle.dsd_receiver.specs.Receiving.{IsApplied, IsStopped};
 
 use crate::lines::apply_line;
 use crate::{Applied, ReceiveFault};
-use dsd_lines::split_line;
+use dsd_lines::{Dialect, split_line};
 use prom_exporter::PrometheusState;
 use std::alloc::Global;
 use std::sync::Wait;
 
-/// Applies the lines of a payload to an exporter.
+/// Applies the lines of a payload, read in a dialect, to an exporter.
 pub(crate) fn apply_lines<R: Wait>(
     state: &mut PrometheusState,
     rt: &R,
     alloc: Global,
+    dialect: Dialect,
     payload: &[u8],
     moment: u64,
 ) -> Result<Applied, ReceiveFault>
@@ -24,16 +25,18 @@ pub(crate) fn apply_lines<R: Wait>(
     ensures home { AllHome state.new }
     ensures settings { state.new.settings ≡ state.old.settings }
     ensures applied { IfOk result (λ applied.
-        IsApplied moment (payload_lines payload.now) (state_of state.old) applied (state_of state.new)) }
+        IsApplied dialect moment (payload_lines payload.now) (state_of state.old) applied
+        (state_of state.new)) }
     ensures refused { IfErr result (λ fault.
-        IsStopped moment (payload_lines payload.now) (state_of state.old) fault (state_of state.new)) }
+        IsStopped dialect moment (payload_lines payload.now) (state_of state.old) fault
+        (state_of state.new)) }
     ensures few { IfOk result (λ applied. applied.lines + applied.bad ≤ length payload.now) }
 {
     let mut applied = Applied { lines: 0, bad: 0 };
     let mut rest = payload;
     while !rest.is_empty() {
         let (line, behind) = split_line(rest);
-        match apply_line(state, rt, alloc, line, moment) {
+        match apply_line(state, rt, alloc, dialect, line, moment) {
             Ok(true) => applied.lines += 1,
             Ok(false) => applied.bad += 1,
             Err(stop) => {

@@ -1,11 +1,15 @@
 //! The receiver: an exporter of which nothing is lent out, to which payloads are applied.
 
-ghost use Rattle.std.specs.Prelude.{◌≡◌, ◌≤◌, ◌+◌, IfOk, IfErr, length};
+ghost use Rattle.std.specs.Prelude.{◌≡◌, ◌≤◌, ◌+◌, ◌⊎◌, IfOk, IfErr, OnErr, OnOk, length, string_bytes};
 ghost use Rattle.dsd_lines.specs.Payloads.{payload_lines};
-ghost use Rattle.prom_exporter.specs.Exporter.{AllHome, state_of};
+ghost use Rattle.prom_exporter.specs.State.{page_step};
+ghost use Rattle.prom_exporter.specs.Exporter.{AllHome, state_of, written_page};
 ghost use Rattle.dsd_receiver.specs.Receiving.{IsApplied, IsStopped};
 
 use crate::payloads::apply_lines;
+use dsd_lines::Dialect;
+use metrics_core::Memory;
+use page_texts::TextSink;
 use prom_exporter::PrometheusState;
 use std::alloc::Global;
 use std::marker::Model;
@@ -76,24 +80,50 @@ impl Receiver {
         state
     }
 
-    /// Applies the lines of a payload in order, each at this moment, in nanoseconds. A payload is cut at each newline, and an
-    /// empty last piece is no line.
+    /// Applies the lines of a payload in order, read in a dialect, each at this moment, in nanoseconds. A payload is cut at each
+    /// newline, and an empty last piece is no line.
     pub fn apply_payload<R: Wait>(
         &mut self,
         rt: &R,
         alloc: Global,
+        dialect: Dialect,
         payload: &[u8],
         moment: u64,
     ) -> Result<Applied, ReceiveFault>
         ensures applied { IfOk result (λ applied.
-            IsApplied moment (payload_lines payload.now) (state_of self.old) applied (state_of self.new)) }
+            IsApplied dialect moment (payload_lines payload.now) (state_of self.old) applied
+            (state_of self.new)) }
         ensures refused { IfErr result (λ fault.
-            IsStopped moment (payload_lines payload.now) (state_of self.old) fault (state_of self.new)) }
+            IsStopped dialect moment (payload_lines payload.now) (state_of self.old) fault
+            (state_of self.new)) }
         ensures settings { self.new.settings ≡ self.old.settings }
 
         // Each line takes a byte at least.
         ensures few { IfOk result (λ applied. applied.lines + applied.bad ≤ length payload.now) }
     {
-        apply_lines(&mut self.state, rt, alloc, payload, moment)
+        apply_lines(&mut self.state, rt, alloc, dialect, payload, moment)
+    }
+
+    /// Makes the exporter's page step at a moment, in nanoseconds, and answers the page's body (Prometheus text exposition format,
+    /// version 0.0.4). Where memory is refused the page step was made or not, and no sample is lost.
+    pub fn render<R: Wait>(&mut self, rt: &R, alloc: Global, moment: u64) -> Result<String, Memory>
+        ensures page { IfOk result (λ text. string_bytes text ≡ written_page moment self.old) }
+        ensures stepped { OnOk result (state_of self.new ≡ page_step self.old.settings.idle moment
+            (state_of self.old)) }
+        ensures refused { OnErr result ((state_of self.new ≡ page_step self.old.settings.idle moment
+            (state_of self.old)) ⊎ (state_of self.new ≡ state_of self.old)) }
+        ensures settings { self.new.settings ≡ self.old.settings }
+    {
+        let mut sink = TextSink::new(alloc);
+        match self.state.render_to_write(rt, alloc, moment, &mut sink) {
+            Ok(()) => Ok(sink.into_text()),
+            // This sink fails only where memory is refused, since each piece of a page is a text.
+            Err(_) => Err(Memory),
+        }
+    }
+
+    /// Ends the exporter. It waits for the readers of descriptions.
+    pub fn end<R: Wait>(self, rt: &R) {
+        self.into_state().end(rt);
     }
 }

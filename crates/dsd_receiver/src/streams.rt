@@ -9,7 +9,7 @@ ghost use Rattle.dsd_receiver.specs.declared.streams.StreamFault.TheVariants.{Cu
 ghost use Rattle.dsd_receiver.specs.Streams.{AreCounted, HasStreamCause, IsIntakeFault, IsReceived, IsTakenIn, IsWritingFault, LeavesStream};
 
 use crate::receiver::{Applied, Receiver};
-use dsd_lines::Frames;
+use dsd_lines::{Dialect, Frames};
 use hash_starts::HashStart;
 use metrics_core::{Memory, Sink, write_whole};
 use prom_exporter::{BuildError, PrometheusBuilder, PrometheusState};
@@ -38,7 +38,7 @@ pub enum StreamFault {
     Memory,
 }
 
-/// Receives the payloads of a stream, each led by its length, at moment 0, and writes the page that an exporter with the default
+/// Receives the payloads of a stream of DogStatsD, each led by its length, at moment 0, and writes the page that an exporter with the default
 /// settings shows then to `out`, ended by the line `# EOF`. Nothing is written before all payloads were received. Names, labels and
 /// keys are looked up by hashes from a start.
 pub fn receive<R: Wait, K: Sink>(
@@ -131,10 +131,12 @@ fn receive_stream<R: Wait>(
     };
     loop {
         match frames.next_frame(alloc) {
-            Ok(Some(payload)) => match receiver.apply_payload(rt, alloc, &payload, 0) {
-                Ok(applied) => received = received.and(applied),
-                Err(_) => return Err(StreamFault::Memory),
-            },
+            Ok(Some(payload)) => {
+                match receiver.apply_payload(rt, alloc, Dialect::DogStatsd, &payload, 0) {
+                    Ok(applied) => received = received.and(applied),
+                    Err(_) => return Err(StreamFault::Memory),
+                }
+            }
             Ok(None) => return whole(received, &frames),
             Err(Memory) => return Err(StreamFault::Memory),
         }

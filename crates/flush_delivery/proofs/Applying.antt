@@ -11,6 +11,7 @@ use Rattle.metrics_core.specs.Numbers.{in_64_bits}
 use Rattle.dsd_writer.specs.Lines.{payloads_of}
 use Rattle.dsd_writer.specs.Packing.{framed_payloads}
 use Rattle.dsd_writer.specs.Writers.{IsEmptied, WriterText}
+use Rattle.dsd_lines.specs.declared.dialects.Dialect.TheVariants.{DogStatsd}
 use Rattle.dsd_lines.specs.Grammar.{LineText}
 use Rattle.dsd_lines.specs.Payloads.{payload_lines}
 use Rattle.dsd_exporter.specs.Exporter.{AllHome, Exporter, state_seen}
@@ -26,7 +27,8 @@ use Rattle.dsd_receiver.specs.Receiving.{IsApplied, IsStopped}
 use Rattle.flush_delivery.specs.Delivered.{IsSaidBy, after_all_said, flush_said}
 use Rattle.flush_delivery.specs.Delivering.{Delivers, IsAppliedOver, IsPlain, IsStoppedOver, IsUndelivered, behind_lines, lines_delivered}
 use Rattle.flush_delivery.proofs.Sent.{flush_is_said}
-use Rattle.flush_delivery.proofs.Runs.{after_behind, bad_behind, items_read, payloads_read, read_behind, read_once}
+use Rattle.dsd_receiver.proofs.Readings.{read_once}
+use Rattle.flush_delivery.proofs.Runs.{after_behind, bad_behind, items_read, payloads_read, read_behind}
 
 count_all : (readings : List (Option LineText)) → count_lines readings + count_bad readings ≡ length readings
 count_all [] = refl
@@ -56,7 +58,7 @@ module _ (moment : ℕ) (all left : List (List ℕ)) (s t u : PrometheusState) (
   lines_next : flat_map payload_lines (so_far.done ++ payload ∷ []) ≡ before ++ payload_lines payload
   lines_next = flat_map-append payload_lines so_far.done (payload ∷ []) ∙ ap (λ l. before ++ l) (append-nil (payload_lines payload))
 
-  pub applied_next : (more both : Applied) → IsApplied moment (payload_lines payload) t more u → both.lines ≡ in_64_bits (applied.lines + more.lines) → both.bad ≡ in_64_bits (applied.bad + more.bad)
+  pub applied_next : (more both : Applied) → IsApplied DogStatsd moment (payload_lines payload) t more u → both.lines ≡ in_64_bits (applied.lines + more.lines) → both.bad ≡ in_64_bits (applied.bad + more.bad)
       → AppliedSoFar moment all others s both u
   applied_next more both applies lines bad =
       let first = so_far.applies in
@@ -65,7 +67,7 @@ module _ (moment : ℕ) (all left : List (List ℕ)) (s t u : PrometheusState) (
         split = so_far.split ∙ ap (λ l. so_far.done ++ l) next ∙ sym (append_assoc so_far.done (payload ∷ []) others);
         applies = record {
           readings = first.readings ++ applies.readings;
-          are_read = subst (λ l. AreRead l (first.readings ++ applies.readings)) (sym lines_next) (read_behind before (payload_lines payload) first.readings applies.readings first.are_read applies.are_read);
+          are_read = subst (λ l. AreRead DogStatsd l (first.readings ++ applies.readings)) (sym lines_next) (read_behind before (payload_lines payload) first.readings applies.readings first.are_read applies.are_read);
           state = applies.state ∙ ap (after_readings moment applies.readings) first.state ∙ sym (after_behind moment first.readings applies.readings s);
           lines_are = lines ∙ counted applied.lines more.lines _ _ _ first.lines_are applies.lines_are (lines_behind first.readings applies.readings);
           bad_are = bad ∙ counted applied.bad more.bad _ _ _ first.bad_are applies.bad_are (bad_behind first.readings applies.readings);
@@ -73,9 +75,9 @@ module _ (moment : ℕ) (all left : List (List ℕ)) (s t u : PrometheusState) (
       }
 
   many_before : length before ≡ count_lines so_far.applies.readings + count_bad so_far.applies.readings
-  many_before = sym (AllZip-long IsRead before so_far.applies.readings so_far.applies.are_read) ∙ sym (count_all so_far.applies.readings)
+  many_before = sym (AllZip-long (IsRead DogStatsd) before so_far.applies.readings so_far.applies.are_read) ∙ sym (count_all so_far.applies.readings)
 
-  pub applied_stops : (fault : ReceiveFault) → IsStopped moment (payload_lines payload) t fault u → IsStoppedOver moment (flat_map payload_lines all) s (behind_lines applied fault) u
+  pub applied_stops : (fault : ReceiveFault) → IsStopped DogStatsd moment (payload_lines payload) t fault u → IsStoppedOver moment (flat_map payload_lines all) s (behind_lines applied fault) u
   applied_stops (faults.Memory flushed done registered values) (flush, stops) =
       let first = so_far.applies in
       let lines : flat_map payload_lines all ≡ before ++ (payload_lines payload ++ flat_map payload_lines others) =
@@ -118,7 +120,7 @@ delivered_said moment w written u n s t applied plain applies items saids sends 
     let read = items_read w.limit moment items saids said in
     let lines : written.lines ≡ lines_of_items w.limit items = sends.lines ∙ ap (λ l. l ++ lines_of_items w.limit items) plain.lines in
     let texts : lines_delivered written ≡ read.texts = ap (λ l. flat_map payload_lines (payloads_of written.limit l)) lines ∙ payloads_read written.limit w.limit moment (lines_of_items w.limit items) _ read in
-    let same : applies.readings ≡ read.readings = read_once read.texts applies.readings read.readings (subst (λ l. AreRead l applies.readings) texts applies.are_read) read.are_read in
+    let same : applies.readings ≡ read.readings = read_once DogStatsd read.texts applies.readings read.readings (subst (λ l. AreRead DogStatsd l applies.readings) texts applies.are_read) read.are_read in
     let none = ap count_bad same ∙ read.none_bad in
     let bad = applies.bad_are in
     (omega (arith, bad, none), λ never. applies.state ∙ ap (λ rs. after_readings moment rs s) same ∙ read.leaves s never)

@@ -14,16 +14,17 @@ use Rattle.metrics_core.specs.Numbers.{dogstatsd_number}
 use Rattle.dsd_writer.specs.Cuts.{full_cut, full_cut_behind, joined}
 use Rattle.dsd_writer.specs.Lines.{kept_values, line_fits, line_of, lines_of, payload_fits, payloads_of}
 use Rattle.dsd_writer.proofs.CutLemmas.{full_cut_is, full_cut_whole}
-use Rattle.dsd_lines.specs.Grammar.{PointsText, Counter, Gauge, Histogram, Distribution, LineText, type_text}
+use Rattle.dsd_lines.specs.declared.dialects.Dialect.TheVariants.{DogStatsd}
+use Rattle.dsd_lines.specs.Grammar.{PointsText, Counter, Gauge, Steps, Histogram, Distribution, Timer, LineText, type_text}
 use Rattle.dsd_lines.specs.Written.{HaveRange, IsSayable, item_said, points_spelled}
 use Rattle.dsd_lines.specs.Payloads.{payload_lines}
-use Rattle.dsd_lines.proofs.Exact.{line_no_newline, one_said}
+use Rattle.dsd_lines.proofs.Exact.{line_no_newline}
 use Rattle.dsd_lines.proofs.Joined.{Free}
 use Rattle.dsd_lines.proofs.PayloadLines.{line_in_front}
 use Rattle.dsd_lines.proofs.Spellings.{said_as_written, said_is_line, said_text}
 use Rattle.dsd_exporter.specs.State.{FlushItem, lines_of_items}
 use Rattle.prom_exporter.specs.State.{PrometheusState}
-use Rattle.dsd_receiver.specs.Received.{AreRead, IsRead, after_line, after_reading, after_readings, calls_of_points, count_bad, kind_said, rate_said, scaled, times_at, with_calls}
+use Rattle.dsd_receiver.specs.Received.{AreRead, after_line, after_reading, after_readings, calls_of_points, count_bad, kind_said, rate_said, scaled, times_at, with_calls}
 use Rattle.flush_delivery.specs.Delivered.{IsSaidBy, after_all_said, after_said, calls_kept, kept, kept_points, with_some}
 use Rattle.flush_delivery.proofs.Twice.{still_none, with_both}
 
@@ -122,7 +123,7 @@ module _ {X : Type 0} (make : List X → PointsText) (spell : X → List ℕ) (c
     timestamp = sayable.timestamp;
   }
 
-  runs_read : (runs : List (List X)) → All (λ run. 0 < length run) runs → All (All Fits) runs → AreRead (texts runs) (readings runs)
+  runs_read : (runs : List (List X)) → All (λ run. 0 < length run) runs → All (All Fits) runs → AreRead DogStatsd (texts runs) (readings runs)
   runs_read [] some all = tt
   runs_read (run ∷ runs) some all = (
     said_is_line (of_run run) (run_sayable run (All-head (λ r. 0 < length r) run runs some) (All-head (All Fits) run runs all)),
@@ -167,7 +168,7 @@ module _ {X : Type 0} (make : List X → PointsText) (spell : X → List ℕ) (c
       ∙ lines_of_runs its_runs
 
   -- the lines of the series are read as what they say, and leave the calls of the values that are kept
-  pub series_read : (texts : List (List ℕ)) × (readings : List (Option LineText)) × (lines_of limit (item_said said) (points_spelled said.points) ≡ map line texts) × AreRead texts readings × (count_bad readings ≡ 0)
+  pub series_read : (texts : List (List ℕ)) × (readings : List (Option LineText)) × (lines_of limit (item_said said) (points_spelled said.points) ≡ map line texts) × AreRead DogStatsd texts readings × (count_bad readings ≡ 0)
       × ((s : PrometheusState) → s.limit ≡ None → after_readings moment readings s ≡ with_some kind said.key (map its_call its_kept) s)
   series_read = (
     texts its_runs,
@@ -197,7 +198,7 @@ pub record ReadsBack (limit moment : ℕ) (lines : List (List ℕ)) (after : Pro
   pub texts : List (List ℕ)
   pub readings : List (Option LineText)
   pub lines_are : lines ≡ map line texts
-  pub are_read : AreRead texts readings
+  pub are_read : AreRead DogStatsd texts readings
   pub none_bad : count_bad readings ≡ 0
   pub leaves : (s : PrometheusState) → s.limit ≡ None → after_readings moment readings s ≡ after s
 
@@ -212,7 +213,7 @@ module _ (limit moment : ℕ) (said : LineText) (sayable : IsSayable said) where
   said_reads = by said.points refl sayable.range
     where
       from : (points : PointsText) → said.points ≡ points
-          → (texts : List (List ℕ)) × (readings : List (Option LineText)) × (its_lines ≡ map line texts) × AreRead texts readings × (count_bad readings ≡ 0)
+          → (texts : List (List ℕ)) × (readings : List (Option LineText)) × (its_lines ≡ map line texts) × AreRead DogStatsd texts readings × (count_bad readings ≡ 0)
           × ((s : PrometheusState) → s.limit ≡ None → after_readings moment readings s ≡ after_points points s)
           → ReadsBack limit moment its_lines (λ s. after_said moment limit s said)
       from points own read = record {
@@ -227,6 +228,8 @@ module _ (limit moment : ℕ) (said : LineText) (sayable : IsSayable said) where
       by : (points : PointsText) → said.points ≡ points → HaveRange points → ReadsBack limit moment its_lines (λ s. after_said moment limit s said)
       by (Counter xs) own range = from (Counter xs) own (series_read Counter decimal (λ moment rate n. Increment (scaled rate n)) (λ n. n < 2 ^ 64) kinds.Counter counter_points limit moment said xs own sayable range)
       by (Gauge xs) own range = from (Gauge xs) own (series_read Gauge dogstatsd_number (λ moment rate value. Set value) (FitsSigned w64) kinds.Gauge gauge_points limit moment said xs own sayable range)
+      by (Steps xs) own range = absurd range
+      by (Timer xs) own range = absurd range
       by (Histogram xs) own range =
           from (Histogram xs) own (series_read Histogram dogstatsd_number (λ moment rate value. Record value moment (times_at rate)) (FitsSigned w64) kinds.Histogram histogram_points limit moment said xs own sayable range)
       by (Distribution xs) own range =
@@ -234,7 +237,7 @@ module _ (limit moment : ℕ) (said : LineText) (sayable : IsSayable said) where
 
 -- ---- all series
 
-pub read_behind : (xs ys : List (List ℕ)) (rs ts : List (Option LineText)) → AreRead xs rs → AreRead ys ts → AreRead (xs ++ ys) (rs ++ ts)
+pub read_behind : (xs ys : List (List ℕ)) (rs ts : List (Option LineText)) → AreRead DogStatsd xs rs → AreRead DogStatsd ys ts → AreRead DogStatsd (xs ++ ys) (rs ++ ts)
 read_behind [] ys [] ts a b = b
 read_behind [] ys (r ∷ rs) ts a b = absurd a
 read_behind (x ∷ xs) ys [] ts a b = absurd a
@@ -278,11 +281,11 @@ lines_in_payloads : (runs : List (List (List ℕ))) → All (All (λ text. Free 
 lines_in_payloads [] free = refl
 lines_in_payloads (run ∷ runs) free = (λ i. lines_in_payload run (All-head (All (λ text. Free newline text)) run runs free) i ++ lines_in_payloads runs (All-tail (All (λ text. Free newline text)) run runs free) i)
 
-all_free : (texts : List (List ℕ)) (readings : List (Option LineText)) → AreRead texts readings → count_bad readings ≡ 0 → All (λ text. Free newline text) texts
+all_free : (texts : List (List ℕ)) (readings : List (Option LineText)) → AreRead DogStatsd texts readings → count_bad readings ≡ 0 → All (λ text. Free newline text) texts
 all_free [] rs read none = All-nil (λ text. Free newline text)
 all_free (text ∷ texts) [] read none = absurd read
 all_free (text ∷ texts) (None ∷ rs) read none = absurd (omega (arith, none))
-all_free (text ∷ texts) (Some said ∷ rs) read none = All-cons (λ t. Free newline t) text texts (line_no_newline text said read.0) (all_free texts rs read.1 none)
+all_free (text ∷ texts) (Some said ∷ rs) read none = All-cons (λ t. Free newline t) text texts (line_no_newline DogStatsd text said read.0) (all_free texts rs read.1 none)
 
 -- the lines of the payloads are the lines
 pub payloads_read : (limit bound : ℕ) (moment : ℕ) (lines : List (List ℕ)) (after : PrometheusState → PrometheusState) (read : ReadsBack bound moment lines after) → flat_map payload_lines (payloads_of limit lines) ≡ read.texts
@@ -292,18 +295,3 @@ payloads_read limit bound moment lines after read =
     let free = all_free read.texts read.readings read.are_read read.none_bad in
     ap (λ l. flat_map payload_lines (map joined l)) (ap (full_cut (payload_fits limit)) read.lines_are ∙ cut_mapped line (payload_fits limit) read.texts)
     ∙ lines_in_payloads runs (all_runs (λ text. Free newline text) runs (subst (All (λ text. Free newline text)) (sym whole) free)) ∙ whole
-
--- lines are read in one way
-pub read_once : (lines : List (List ℕ)) (rs ts : List (Option LineText)) → AreRead lines rs → AreRead lines ts → rs ≡ ts
-read_once [] [] [] a b = refl
-read_once [] [] (t ∷ ts) a b = absurd b
-read_once [] (r ∷ rs) ts a b = absurd a
-read_once (x ∷ xs) [] ts a b = absurd a
-read_once (x ∷ xs) (r ∷ rs) [] a b = absurd b
-read_once (x ∷ xs) (r ∷ rs) (t ∷ ts) a b = (λ i. one r t a.0 b.0 i ∷ read_once xs rs ts a.1 b.1 i)
-  where
-    one : (r t : Option LineText) → IsRead x r → IsRead x t → r ≡ t
-    one None None a b = refl
-    one None (Some said) a b = absurd (a said b)
-    one (Some said) None a b = absurd (b said a)
-    one (Some said) (Some other) a b = ap Some (one_said x said other a b)

@@ -10,7 +10,7 @@ use Rattle.metrics_registry.specs.Live.{LiveSeries}
 use Rattle.flushed_cells.specs.declared.counter_state.CounterState.{CounterState}
 use Rattle.flushed_cells.specs.declared.gauge_state.GaugeState.{GaugeState}
 use Rattle.dsd_writer.specs.Lines.{ItemText, line_fits}
-use Rattle.dsd_lines.specs.Grammar.{PointsText, Counter, Gauge, Histogram, Distribution, IsClean, LineText}
+use Rattle.dsd_lines.specs.Grammar.{PointsText, Counter, Gauge, Steps, Histogram, Distribution, Timer, IsClean, LineText}
 use Rattle.dsd_lines.specs.Texts.{numbers_of}
 use Rattle.dsd_lines.specs.Written.{IsSayable, item_said, points_spelled}
 use Rattle.dsd_exporter.specs.State.{DogStatsDSettings, DogStatsDState, is_quiet, timestamp}
@@ -27,11 +27,14 @@ pub record IsSaidBy (item : ItemText) (values : List (List ℕ)) (said : LineTex
 abbrev pub kept : {X : Type 0} → ℕ → ItemText → (X → List ℕ) → List X → List X
 kept limit item spell values = filter (λ value. line_fits limit item (spell value ∷ [])) values
 
+-- those of StatsD alone no flush sends
 abbrev pub kept_points : ℕ → ItemText → PointsText → PointsText
 kept_points limit item (Counter counts) = Counter (kept limit item decimal counts)
 kept_points limit item (Gauge values) = Gauge (kept limit item dogstatsd_number values)
 kept_points limit item (Histogram values) = Histogram (kept limit item dogstatsd_number values)
 kept_points limit item (Distribution values) = Distribution (kept limit item dogstatsd_number values)
+kept_points limit item (Steps steps) = Steps []
+kept_points limit item (Timer numbers) = Timer []
 
 -- the calls of the values that are not left out
 abbrev pub calls_kept : ℕ → ℕ → LineText → List Call

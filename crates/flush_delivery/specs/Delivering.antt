@@ -4,6 +4,7 @@ use Rattle.std.specs.List.{AllZip}
 use Rattle.metrics_core.specs.Numbers.{in_64_bits}
 use Rattle.dsd_writer.specs.Lines.{payloads_of}
 use Rattle.dsd_writer.specs.Writers.{IsEmptied, WriterText}
+use Rattle.dsd_lines.specs.declared.dialects.Dialect.TheVariants.{DogStatsd}
 use Rattle.dsd_lines.specs.Grammar.{LineText}
 use Rattle.dsd_lines.specs.Payloads.{payload_lines}
 use Rattle.dsd_exporter.specs.Exporter.{AllHome, Exporter, state_seen}
@@ -30,7 +31,7 @@ lines_delivered writer = flat_map payload_lines (payloads_of writer.limit writer
 -- all these lines were received; how many of them are in the grammar, and bad, is told modulo 2^64
 pub record IsAppliedOver (moment : ℕ) (lines : List (List ℕ)) (s : PrometheusState) (applied : Applied) (t : PrometheusState) : Type 0 where
   pub readings : List (Option LineText)
-  pub are_read : AreRead lines readings
+  pub are_read : AreRead DogStatsd lines readings
   pub state : t ≡ after_readings moment readings s
   pub lines_are : applied.lines ≡ in_64_bits (count_lines readings)
   pub bad_are : applied.bad ≡ in_64_bits (count_bad readings)
@@ -38,7 +39,7 @@ pub record IsAppliedOver (moment : ℕ) (lines : List (List ℕ)) (s : Prometheu
 -- want of memory stopped the receiving of these lines; how many were treated is told modulo 2^64
 abbrev pub IsStoppedOver : ℕ → List (List ℕ) → PrometheusState → ReceiveFault → PrometheusState → Type 0
 IsStoppedOver moment lines s (faults.Memory flushed done registered values) t =
-    (flushed ≡ true) × (treated : ℕ) × (done ≡ in_64_bits treated) × StopsAfter moment lines s treated registered values t
+    (flushed ≡ true) × (treated : ℕ) × (done ≡ in_64_bits treated) × StopsAfter DogStatsd moment lines s treated registered values t
 
 -- a fault, behind lines that were applied before
 abbrev pub behind_lines : Applied → ReceiveFault → ReceiveFault

@@ -9,6 +9,7 @@ ghost use Rattle.prom_exporter.specs.Exporter.{state_of};
 ghost use Rattle.flush_delivery.specs.Delivering.{Delivers, IsAppliedOver, IsPlain, IsStoppedOver, IsUndelivered, behind_lines, lines_delivered};
 
 use dsd_exporter::{FlushState, State, TelemetryUpdate};
+use dsd_lines::Dialect;
 use dsd_receiver::{Applied, ReceiveFault, Receiver};
 use dsd_writer::{PayloadWriter, Payloads};
 use metrics_core::{Memory, Words};
@@ -85,7 +86,7 @@ fn apply_payloads<R: Wait>(
 {
     let mut applied = Applied { lines: 0, bad: 0 };
     while let Some(payload) = payloads.next_payload() {
-        match to.apply_payload(rt, alloc, payload, moment) {
+        match to.apply_payload(rt, alloc, Dialect::DogStatsd, payload, moment) {
             Ok(more) => applied = both(applied, more),
             Err(fault) => return Err(behind(applied, fault)),
         }

@@ -8,7 +8,7 @@ abbrev pub invariant-loop-rest : goal.invariant-loop-rest
 invariant-loop-rest g l = record {
   home : AllHome l.state;
   settings : l.state.settings ≡ l.initial.state.settings;
-  so_far : SoFar l.moment l.payload l.rest (state_of l.initial.state) l.applied (state_of l.state);
+  so_far : SoFar l.dialect l.moment l.payload l.rest (state_of l.initial.state) l.applied (state_of l.state);
 }
 
 abbrev pub decreases-loop-rest : goal.decreases-loop-rest

@@ -5,6 +5,7 @@ use Rattle.std.specs.declared.vec.Vec.{Vec}
 use Rattle.std.proofs.lemmas.Result.{IfErr-weaker, IfOk-weaker}
 use Rattle.dsd_writer.specs.Lines.{framed}
 use Rattle.prom_exporter.specs.Exporter.{state_of}
+use Rattle.dsd_lines.specs.declared.dialects.Dialect.TheVariants.{DogStatsd}
 use Rattle.dsd_lines.specs.Frames.{AreFrames, BeginsNoFrame, Splits}
 use Rattle.dsd_lines.specs.Payloads.{payload_lines}
 use Rattle.dsd_receiver.specs.Receiving.{IsApplied}
@@ -35,7 +36,7 @@ loop-payload-preserved g c =
     record {
       so_far = one_more bytes old payload new c.loop-payload.received c.and-received.result c.in-Ok-apply_payload.applied (state_of c.loop-payload.receiver) (state_of c.apply_payload.new.self)
           so_far front split
-          (subst (λ p. IsApplied 0 (payload_lines p) (state_of c.loop-payload.receiver) c.in-Ok-apply_payload.applied (state_of c.apply_payload.new.self)) c.deref.ensures.value c.in-Ok-apply_payload.ensures.applied)
+          (subst (λ p. IsApplied DogStatsd 0 (payload_lines p) (state_of c.loop-payload.receiver) c.in-Ok-apply_payload.applied (state_of c.apply_payload.new.self)) c.deref.ensures.value c.in-Ok-apply_payload.ensures.applied)
           (subst (λ p. c.in-Ok-apply_payload.applied.lines + c.in-Ok-apply_payload.applied.bad ≤ length p) c.deref.ensures.value c.in-Ok-apply_payload.ensures.few)
           c.and-received.ensures.frames c.and-received.ensures.lines c.and-received.ensures.bad;
       settings = c.apply_payload.ensures.settings ∙ c.loop-payload.invariant.settings;
