@@ -13,5 +13,6 @@ mod payloads;
 mod receiver;
 mod streams;
 
+pub use lines::Stop;
 pub use receiver::{Applied, ReceiveFault, Receiver};
 pub use streams::{Received, StreamFault, receive};

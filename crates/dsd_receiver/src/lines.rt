@@ -17,11 +17,11 @@ use std::alloc::Global;
 use std::sync::Wait;
 
 /// What was done of a line when memory was refused.
-#[derive(Clone, Copy, Drop)]
-pub(crate) struct Stop {
+#[derive(Clone, Copy, Debug, PartialEq, Eq, Drop)]
+pub struct Stop {
     /// Whether its series was registered.
     pub registered: bool,
-    /// How many of its values were applied.
+    /// How many of its values were applied. It is 0 but for a histogram.
     pub values: u64,
 }
 
@@ -62,7 +62,7 @@ pub(crate) fn apply_line<R: Wait>(
 }
 
 /// Applies what a line says.
-fn apply_said<R: Wait>(
+pub(crate) fn apply_said<R: Wait>(
     state: &mut PrometheusState,
     rt: &R,
     alloc: Global,

@@ -2,12 +2,15 @@
 
 ghost use Rattle.std.specs.Prelude.{◌≡◌, ◌≤◌, ◌+◌, ◌⊎◌, IfOk, IfErr, OnErr, OnOk, length, string_bytes};
 ghost use Rattle.dsd_lines.specs.Payloads.{payload_lines};
+ghost use Rattle.dsd_lines.specs.Texts.{line_text};
 ghost use Rattle.prom_exporter.specs.State.{page_step};
 ghost use Rattle.prom_exporter.specs.Exporter.{AllHome, state_of, written_page};
-ghost use Rattle.dsd_receiver.specs.Receiving.{IsApplied, IsStopped};
+ghost use Rattle.dsd_receiver.specs.Received.{after_line};
+ghost use Rattle.dsd_receiver.specs.Receiving.{IsApplied, IsInPart, IsSaid, IsStopped};
 
+use crate::lines::{Stop, apply_said};
 use crate::payloads::apply_lines;
-use dsd_lines::Dialect;
+use dsd_lines::{Dialect, Line};
 use metrics_core::Memory;
 use page_texts::TextSink;
 use prom_exporter::PrometheusState;
@@ -102,6 +105,27 @@ impl Receiver {
         ensures few { IfOk result (λ applied. applied.lines + applied.bad ≤ length payload.now) }
     {
         apply_lines(&mut self.state, rt, alloc, dialect, payload, moment)
+    }
+
+    /// Applies what a line of a dialect says at a moment, in nanoseconds: its series is registered, and its calls are made in order. Its
+    /// timestamp changes nothing.
+    pub fn apply_line<R: Wait>(
+        &mut self,
+        rt: &R,
+        alloc: Global,
+        dialect: Dialect,
+        line: Line,
+        moment: u64,
+    ) -> Result<(), Stop>
+        requires said { IsSaid dialect (line_text line) }
+        ensures applied { OnOk result (state_of self.new ≡ after_line moment (state_of self.old)
+            (line_text line)) }
+        ensures stopped { IfErr result (λ stop.
+            IsInPart moment (line_text line) stop.registered stop.values (state_of self.old)
+            (state_of self.new)) }
+        ensures settings { self.new.settings ≡ self.old.settings }
+    {
+        apply_said(&mut self.state, rt, alloc, dialect, line, moment)
     }
 
     /// Makes the exporter's page step at a moment, in nanoseconds, and answers the page's body (Prometheus text exposition format,

@@ -111,7 +111,7 @@ impl PrometheusState {
     }
 
     /// Whether a series of a kind with a key is live.
-    fn is_live(&self, kind: MetricKind, key: &Key) -> bool
+    pub fn is_live(&self, kind: MetricKind, key: &Key) -> bool
         ensures { result ≡ is_some (live_series kind key.now (state_of self.now)) }
     {
         self.find(kind, key).is_some()

@@ -1,6 +1,6 @@
 //! The state of the exporter: its live series of each kind, in order of registration.
 
-ghost use Rattle.std.specs.Prelude.{◌≡◌, ℕ, ◌-◌, ◌^◌, ◌<◌, ◌≤◌, ◌⊎◌, [], set, IfOk, IfErr, OnErr, OnOk, None, unwrap_or};
+ghost use Rattle.std.specs.Prelude.{◌≡◌, ℕ, ◌+◌, ◌-◌, ◌^◌, ◌<◌, ◌≤◌, ◌⊎◌, [], set, IfOk, IfErr, OnErr, OnOk, None, length, unwrap_or};
 ghost use Rattle.metrics_core.specs.declared.kinds.MetricKind.TheVariants.{Counter, Gauge};
 ghost use Rattle.metrics_core.specs.Outside.{Rose, GrewBy, GrewByPrefix};
 ghost use Rattle.prom_format.specs.LabelSets.{labels_of};
@@ -107,6 +107,14 @@ impl PrometheusState {
         self.series.reserve(counters, gauges)?;
         self.counter_rows.label_sets.reserve(counters)?;
         self.gauge_rows.label_sets.reserve(gauges)
+    }
+
+    /// How many series are live, of all kinds.
+    pub fn count(&self) -> usize
+        ensures { result ≡ length self.now.series.counters +
+            (length self.now.series.gauges + length self.now.series.histograms) }
+    {
+        self.series.count()
     }
 
     /// Registers a counter. Where one with an equal key is live its id is given, no memory is taken, and nothing changes;
